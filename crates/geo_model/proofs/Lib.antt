@@ -1,0 +1,2 @@
+pub mod EnergyLemmas
+pub mod PlanLemmas

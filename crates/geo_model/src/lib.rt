@@ -1,0 +1,20 @@
+//! The types of a control network and its plans, and what they mean: energy, limits, cost.
+#![tactic(auto)]
+
+mod answer;
+mod candidate;
+mod laws;
+mod limit;
+mod network;
+mod plan;
+mod row;
+mod verdict;
+
+pub use answer::{Answer, Counts, SearchDone};
+pub use candidate::Candidate;
+pub use laws::{larger_plans_cost_more, larger_plans_keep_limits};
+pub use limit::{Limit, LimitKind, Square};
+pub use network::{Component, Network, Unknown, cost};
+pub use plan::{Node, Plan};
+pub use row::Row;
+pub use verdict::Verdict;
