@@ -2,6 +2,7 @@ pub mod Bound
 pub mod Counted
 pub mod LogText
 pub mod LogTree
+pub mod Narrow
 pub mod Sound
 pub mod Tree
 pub mod VerdictOf
