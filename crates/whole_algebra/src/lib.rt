@@ -1,6 +1,8 @@
 //! Whole numbers: their laws, sums and products of lists.
 #![tactic(auto)]
 
+mod forms;
 mod laws;
 
+pub use forms::{pivot_completes_the_square, slack_covers_the_rounding};
 pub use laws::{products_keep_the_order, sums_go_together, whole_numbers_are_a_ring};
