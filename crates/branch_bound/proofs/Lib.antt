@@ -1,1 +1,2 @@
 pub mod EnergySteps
+pub mod PieceLemmas

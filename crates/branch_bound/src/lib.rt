@@ -2,6 +2,7 @@
 #![tactic(auto)]
 
 mod energy;
+mod line;
 mod search_fault;
 
 pub use geo_model::{Answer, SearchDone};
