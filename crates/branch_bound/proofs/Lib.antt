@@ -1,2 +1,3 @@
 pub mod EnergySteps
 pub mod PieceLemmas
+pub mod NodeLemmas

@@ -68,9 +68,10 @@ counts_with before lines = record {
   cuts = before.cuts;
   duals = before.duals }
 
--- a node of the network: its inner plan lies in its upper one
+-- a node of the network: its plans have an entry for each candidate, and the inner one lies in the upper one
 pub record IsNode (network : NetworkOf) (node : Node) : Type 0 where
-  pub long : length node.inside ≡ length network.candidates
+  pub inside_long : length node.inside ≡ length network.candidates
+  pub upper_long : length node.upper ≡ length network.candidates
   pub within : IsWithin node.inside node.upper
 
 -- the best plan so far, as a bound

@@ -3,6 +3,7 @@
 
 mod energy;
 mod line;
+mod node_tests;
 mod search_fault;
 
 pub use geo_model::{Answer, SearchDone};
