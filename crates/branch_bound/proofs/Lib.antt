@@ -1,3 +1,5 @@
 pub mod EnergySteps
 pub mod PieceLemmas
 pub mod NodeLemmas
+pub mod OpenCount
+pub mod ExploreLemmas

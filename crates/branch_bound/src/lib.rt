@@ -4,6 +4,7 @@
 mod energy;
 mod line;
 mod node_tests;
+mod run;
 mod search_fault;
 
 pub use geo_model::{Answer, SearchDone};

@@ -1,6 +1,7 @@
 //! What the search asks of a node.
-ghost use Rattle.std.specs.Prelude.{◌≡◌, ◌≢◌, ◌↔◌, ◌<◌, Bool, true, false, Some, slice_get, length, All, IsTrue, IfSome, IfNone, IfOk, OnOk};
+ghost use Rattle.std.specs.Prelude.{◌≡◌, ◌≢◌, ◌↔◌, ◌<◌, Bool, true, false, Some, slice_get, length, All, IsTrue, IfSome, IfNone, IfOk, OnErr};
 ghost use Rattle.std.specs.Option.{ForSome};
+ghost use Rattle.std.specs.Bool.{OnTrue, OnFalse};
 ghost use Rattle.geo_model.specs.Energy.{cost_of};
 ghost use Rattle.geo_model.specs.Limit.{IsInForce};
 ghost use Rattle.geo_model.specs.Verdicts.{IsCertifiedBy};
@@ -78,4 +79,48 @@ pub fn open_candidate(network: &Network, node: &Node) -> Option<u32>
         }
     }
     None
+}
+
+/// Whether a plan is cheaper than the best one so far.
+fn is_cheaper(network: &Network, plan: &Plan, best: &Option<Plan>) -> bool
+    requires long { length plan.now ≡ length network.now.candidates }
+    requires kept { IsKept network.now best.now }
+    ensures cheaper { OnTrue result (lesser (best_bound network.now best.now)
+        (AtLeast (cost_of network.now.candidates plan.now)) ≡ AtLeast (cost_of network.now.candidates plan.now)) }
+    ensures dearer { OnFalse result (lesser (best_bound network.now best.now)
+        (AtLeast (cost_of network.now.candidates plan.now)) ≡ best_bound network.now best.now) }
+{
+    match best {
+        None => true,
+        Some(best) => cost(network, plan) < cost(network, best),
+    }
+}
+
+/// The leaf that ends a node, if there is one. A certified plan that is cheaper becomes the best.
+/// Refused for memory, the best one stays.
+pub fn leaf_at(
+    alloc: Global,
+    network: &Network,
+    node: &Node,
+    best: &mut Option<Plan>,
+) -> Result<Option<Line>, NoMemory>
+    requires narrow { IsNarrow network.now }
+    requires node { IsNode network.now node.now }
+    requires kept { IsKept network.now best.old }
+    ensures leaf { IfOk result (λ found. IfSome found (λ line. IsLeafAt network.now node.now best.old best.new line)) }
+    ensures none { IfOk result (λ found. IfNone found
+        ((node.now.inside ≢ node.now.upper) × (best.new ≡ best.old))) }
+    ensures refused { OnErr result (best.new ≡ best.old) }
+{
+    if !is_cheaper(network, &node.inside, best) {
+        return Ok(Some(Line::Cost));
+    }
+    if let Some(limit) = refuting_limit(network, node) {
+        return Ok(Some(Line::Pivot(limit)));
+    }
+    if !is_certified(network, &node.inside) {
+        return Ok(None);
+    }
+    *best = Some(node.inside.copy(alloc)?);
+    Ok(Some(Line::Cost))
 }
