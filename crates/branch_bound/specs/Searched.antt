@@ -5,12 +5,13 @@ use Rattle.geo_model.specs.Network.{NetworkOf}
 use Rattle.geo_model.specs.Verdicts.{IsCertifiedBy, IsUnsettledBy}
 use Rattle.geo_model.specs.declared.answer.Answer.{Answer}
 use Rattle.geo_model.specs.declared.answer.Answer.TheVariants as answer
+use Rattle.geo_model.specs.declared.answer.Counts.{Counts}
 use Rattle.geo_model.specs.declared.answer.SearchDone.{SearchDone}
 use Rattle.geo_model.specs.declared.verdict.Verdict.TheVariants.{Open}
 use Rattle.bound_log.specs.declared.bound.Bound.{Bound}
 use Rattle.bound_log.specs.declared.bound.Bound.TheVariants.{NoPlan, AtLeast}
 use Rattle.bound_log.specs.Counted.{counts_of}
-use Rattle.bound_log.specs.LogText.{log_text}
+
 use Rattle.bound_log.specs.LogTree.{root_of, IsAllowed, bound_at}
 use Rattle.bound_log.specs.Tree.{Tree, tree_lines}
 use Rattle.bound_log.specs.VerdictOf.{verdict_of}
@@ -57,9 +58,17 @@ pub record IsSearched (network : NetworkOf) (tree : Tree) (done : SearchDone) : 
   pub counted : done.counts ≡ counts_of (tree_lines tree)
   pub answered : IsAnswer network (bound_at network (root_of network) tree) done.answer
 
--- a text is the beginning of a log of the network: it may be empty or whole
-pub record BeginsLog (network : NetworkOf) (text : List ℕ) : Type 0 where
-  pub tree : Tree
-  pub rest : List ℕ
-  pub allowed : IsAllowed network (root_of network) tree
-  pub begins : log_text tree ≡ text ++ rest
+-- an answer is decided: it isn't `Undecided`
+abbrev pub IsDecided : Answer → Type 0
+IsDecided (answer.Best plan) = Unit {0}
+IsDecided answer.NoPlan = Unit {0}
+IsDecided (answer.Undecided plan limit step lo hi) = ⊥
+
+-- the answer that the best plan, if there is one, makes
+abbrev pub answer_of : Option (List Bool) → Answer
+answer_of None = answer.NoPlan
+answer_of (Some plan) = answer.Best plan
+
+-- no line is counted
+abbrev pub no_counts : Counts
+no_counts = record { splits = 0; costs = 0; pivots = 0; cuts = 0; duals = 0 }

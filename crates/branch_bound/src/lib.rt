@@ -8,4 +8,5 @@ mod run;
 mod search_fault;
 
 pub use geo_model::{Answer, SearchDone};
+pub use run::search;
 pub use search_fault::SearchFault;
