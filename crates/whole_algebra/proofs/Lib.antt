@@ -6,3 +6,8 @@ pub mod Rounding
 pub mod FormLaws
 pub mod Square
 pub mod Slack
+pub mod ChainLaws
+pub mod Shapes
+pub mod Refutation
+pub mod VerdictLaws
+pub mod Worked

@@ -1,3 +1,4 @@
 pub mod Sums
 pub mod Rounding
 pub mod Matrices
+pub mod Chains

@@ -84,3 +84,9 @@ IsTriangle zero [] = Unit {0}
 IsTriangle zero (row ∷ rest) = ⊥
 IsTriangle (suc n) [] = ⊥
 IsTriangle (suc n) (row ∷ rest) = (length row ≡ suc n) × IsTriangle n rest
+
+-- the first n numbers of a list, filled up with zeros
+abbrev pub padded : ℕ → List ℤ → List ℤ
+padded zero x = []
+padded (suc n) [] = pos 0 ∷ padded n []
+padded (suc n) (z ∷ x) = z ∷ padded n x
