@@ -1,16 +1,15 @@
 -- A lower chain that doesn't stop shows a form that is nowhere negative.
-use Rattle.std.proofs.Common.{◌≡◌, ℕ, zero, suc, ◌+◌, ◌-◌, ◌*◌, ◌^◌, ◌<◌, ◌≤◌, ◌⊎◌, Bool, true, false, cond, not, ◌&&◌, ◌||◌, List, [], ◌∷◌, map, length, get_or, refl, sym, ◌∙◌, ap, ap₂, subst, arith, ℤ, pos, negsuc, ◌+ℤ◌, ◌-ℤ◌, ◌*ℤ◌, neg_ℤ, ◌≤ℤ◌, ◌<ℤ◌, int_lt, int_le}
-use Rattle.std.specs.List.{list_all, list_any}
+use Rattle.std.proofs.Common.{◌≡◌, ℕ, zero, suc, ◌-◌, ◌≤◌, Bool, true, false, cond, ◌&&◌, List, [], ◌∷◌, map, length, get_or, refl, sym, ◌∙◌, ap₂, subst, arith, ℤ, pos, negsuc, ◌+ℤ◌, ◌*ℤ◌, neg_ℤ, ◌≤ℤ◌, ◌<ℤ◌, int_le}
+use Rattle.std.specs.List.{list_all}
 use Rattle.std.proofs.lemmas.Int.{ints}
-use Rattle.whole_algebra.specs.Sums.{int_sum, dot}
+use Rattle.whole_algebra.specs.Sums.{dot}
 use Rattle.whole_algebra.specs.Rounding.{is_zero}
-use Rattle.whole_algebra.specs.Matrices.{row_quad, quad, schur, lower_over, upper_over}
-use Rattle.whole_algebra.specs.Chains.{Step, free, pivot, stop, size_limit, is_too_large, step_of, beside, left_after, next, chain_rows, chain_steps, lower_chain, upper_chain, is_stop, stops, stop_place, stop_value, pivot_value, pivot_at, Outcome, met, refuted, open_at, outcome_of, verdict_of}
-use Rattle.whole_algebra.proofs.Order.{le_refl, add_nonneg, mul_nonneg, square_nonneg, nonneg_of_mul}
-use Rattle.whole_algebra.proofs.FormLaws.{quad-nil}
+use Rattle.whole_algebra.specs.Matrices.{quad, schur, lower_over}
+use Rattle.whole_algebra.specs.Chains.{Step, free, pivot, stop, size_limit, is_too_large, step_of, left_after, chain_rows, chain_steps, stops, stop_value, pivot_value, pivot_at}
+use Rattle.whole_algebra.proofs.Order.{le_refl, mul_nonneg, square_nonneg, nonneg_of_mul}
 use Rattle.whole_algebra.proofs.Square.{completed_square}
 use Rattle.whole_algebra.proofs.Slack.{lower_is_below}
-use Rattle.whole_algebra.proofs.Normal.{ring, x0, x1, x2, lit, ◌⊕◌, ◌⊖◌, ◌⊗◌}
+use Rattle.whole_algebra.proofs.Normal.{ring, x0, x1, lit, ◌⊕◌, ◌⊗◌}
 
 -- what holds of each step that a row may give
 pub step_cases : (P : Step → Type 0) (a : ℤ) (b : List ℤ)

@@ -10,4 +10,6 @@ pub mod ChainLaws
 pub mod Shapes
 pub mod Refutation
 pub mod VerdictLaws
+pub mod Dominance
+pub mod LowerCertificate
 pub mod Worked

@@ -1,20 +1,20 @@
 -- An upper chain that stops gives a list of whole numbers on which the form is negative.
-use Rattle.std.proofs.Common.{◌≡◌, ℕ, zero, suc, ◌+◌, ◌-◌, ◌*◌, ◌^◌, ◌<◌, ◌≤◌, Bool, true, false, cond, not, ◌&&◌, ◌||◌, List, [], ◌∷◌, map, length, refl, sym, ◌∙◌, ap, ap₂, subst, arith, ℤ, pos, negsuc, ◌+ℤ◌, ◌-ℤ◌, ◌*ℤ◌, neg_ℤ, ◌≤ℤ◌, ◌<ℤ◌, int_lt, int_le}
+use Rattle.std.proofs.Common.{◌≡◌, ℕ, zero, suc, ◌*◌, ◌^◌, ◌≤◌, Bool, true, false, ◌&&◌, ◌||◌, List, [], ◌∷◌, map, length, refl, sym, ◌∙◌, ap, ap₂, subst, arith, ℤ, pos, negsuc, ◌+ℤ◌, ◌-ℤ◌, ◌*ℤ◌, neg_ℤ, ◌≤ℤ◌, ◌<ℤ◌, int_lt, int_le}
 use Rattle.std.specs.List.{list_all, list_any}
 use Rattle.std.proofs.lemmas.Int.{ints}
-use Rattle.whole_algebra.specs.Sums.{int_sum, dot}
-use Rattle.whole_algebra.specs.Rounding.{is_zero, floor_over, gap_over, ceil_over}
-use Rattle.whole_algebra.specs.Matrices.{at, scale, row_quad, quad, entries, schur, diagonal, off_sums, plus_diagonal, slacks, lower_over, upper_over, IsTriangle, padded}
-use Rattle.whole_algebra.specs.Chains.{Step, free, pivot, stop, size_limit, is_too_large, step_of, beside, left_after, next, chain_rows, chain_steps, is_stop, stops}
+use Rattle.whole_algebra.specs.Sums.{dot}
+use Rattle.whole_algebra.specs.Rounding.{is_zero, floor_over, gap_over}
+use Rattle.whole_algebra.specs.Matrices.{at, scale, quad, entries, schur, diagonal, plus_diagonal, slacks, upper_over, IsTriangle, padded}
+use Rattle.whole_algebra.specs.Chains.{size_limit, step_of, left_after, chain_rows, chain_steps, stops}
 use Rattle.whole_algebra.proofs.Ring.{mul_neg}
-use Rattle.whole_algebra.proofs.Order.{le_refl, mul_nonneg, mul_pos, mul_le_mul, square_nonneg, neg_of_mul}
+use Rattle.whole_algebra.proofs.Order.{mul_pos, mul_le_mul, square_nonneg, neg_of_mul}
 use Rattle.whole_algebra.proofs.Rounding.{ceil_at_most, gap_range, floor_of_zero, gap_of_zero}
 use Rattle.whole_algebra.proofs.SumLaws.{dot-nil, dot-scale_right}
 use Rattle.whole_algebra.proofs.FormLaws.{quad-nil}
 use Rattle.whole_algebra.proofs.Square.{completed_square}
 use Rattle.whole_algebra.proofs.Slack.{upper_is_above}
-use Rattle.whole_algebra.proofs.Shapes.{at-diagonal-entries, at-diagonal-plus_diagonal, at-diagonal-schur, at-off_sums_at_most, triangle-entries, triangle-schur, triangle-upper_over, quad-padded, length-padded}
-use Rattle.whole_algebra.proofs.ChainLaws.{step_cases, and_left, and_right, is_zero-true, positive, quad-free}
+use Rattle.whole_algebra.proofs.Shapes.{at-diagonal-entries, at-diagonal-plus_diagonal, at-diagonal-schur, at-off_sums_at_most, triangle-schur, triangle-upper_over, quad-padded, length-padded}
+use Rattle.whole_algebra.proofs.ChainLaws.{step_cases, positive, quad-free}
 use Rattle.whole_algebra.proofs.Normal.{ring, x0, x1, x2, x3, x4, lit, opposite_of, ◌⊕◌, ◌⊖◌, ◌⊗◌}
 
 -- zeros, then c at place j
@@ -65,7 +65,7 @@ unfolding IsLargeAt
 large_by k c b true u h more e = (zero, omega (arith, ints))
 large_by k c b false u h more e = let p = more e in (suc p.0, p.1)
 
-false_is_not_true : false ≡ true → ⊥
+pub false_is_not_true : false ≡ true → ⊥
 false_is_not_true e = cc
 
 large_place : (k : ℤ) (b : List ℤ) → list_any (λ c. int_lt k (c *ℤ c)) b ≡ true → IsLargeAt k b

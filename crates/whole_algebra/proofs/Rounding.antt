@@ -1,11 +1,11 @@
 -- Whole division that rounds down.
-use Rattle.std.proofs.Common.{◌≡◌, ℕ, zero, suc, ◌+◌, ◌-◌, ◌*◌, ◌/◌, ◌%◌, ◌<◌, ◌≤◌, Bool, true, false, cond, not, T, refl, sym, ◌∙◌, ap, arith, ℤ, pos, negsuc, ◌+ℤ◌, ◌-ℤ◌, ◌*ℤ◌, neg_ℤ, ◌≤ℤ◌, ◌<ℤ◌, unsigned_abs}
+use Rattle.std.proofs.Common.{◌≡◌, ℕ, zero, suc, ◌+◌, ◌*◌, ◌<◌, Bool, true, false, cond, not, T, refl, ◌∙◌, ap, arith, ℤ, pos, negsuc, ◌+ℤ◌, ◌*ℤ◌, ◌≤ℤ◌, ◌<ℤ◌}
 use Rattle.std.specs.Int.{int_div_euclid, int_rem_euclid}
 use Rattle.std.proofs.lemmas.Int.{ints, by_lt_z}
-use borrow.Author.Differences.{up, down, same_in}
-use Rattle.whole_algebra.specs.Rounding.{is_zero, size_of, floor_over, gap_over, ceil_over}
+use borrow.Author.Differences.{up, down}
+use Rattle.whole_algebra.specs.Rounding.{is_zero, floor_over, gap_over, ceil_over}
 use Rattle.whole_algebra.proofs.Ring.{mul_add, mul_one, mul_zero}
-use Rattle.whole_algebra.proofs.Order.{mul_le_mul, le_of_mul_le, le_antisym}
+use Rattle.whole_algebra.proofs.Order.{mul_le_mul, le_of_mul_le}
 
 -- the parts of quotient and remainder, for `omega`
 quotient_parts : (n : ℤ) (k : ℕ) → 0 < k

@@ -1,5 +1,5 @@
 -- Lists and matrices place by place, and what keeps a triangle a triangle.
-use Rattle.std.proofs.Common.{◌≡◌, ℕ, zero, suc, ◌+◌, ◌-◌, ◌*◌, ◌<◌, ◌≤◌, List, [], ◌∷◌, map, length, refl, sym, ◌∙◌, ap, ap₂, subst, arith, ℤ, pos, negsuc, ◌+ℤ◌, ◌-ℤ◌, ◌*ℤ◌, neg_ℤ, ◌≤ℤ◌, ◌<ℤ◌}
+use Rattle.std.proofs.Common.{◌≡◌, ℕ, zero, suc, ◌≤◌, List, [], ◌∷◌, map, length, refl, sym, ◌∙◌, ap, ap₂, arith, ℤ, pos, ◌+ℤ◌, ◌-ℤ◌, ◌*ℤ◌, neg_ℤ, ◌≤ℤ◌}
 use Rattle.std.proofs.lemmas.Int.{ints}
 use Rattle.whole_algebra.specs.Sums.{int_sum, dot}
 use Rattle.whole_algebra.specs.Rounding.{floor_over, gap_over}
@@ -7,7 +7,7 @@ use Rattle.whole_algebra.specs.Matrices.{at, plus_lists, scale, row_quad, quad, 
 use Rattle.whole_algebra.proofs.Ring.{add_zero, zero_add, mul_zero}
 use Rattle.whole_algebra.proofs.SumLaws.{dot-nil}
 use Rattle.whole_algebra.proofs.FormLaws.{quad-nil}
-use Rattle.whole_algebra.proofs.Normal.{ring, x0, x1, x2, x3, lit, opposite_of, ◌⊕◌, ◌⊖◌, ◌⊗◌}
+use Rattle.whole_algebra.proofs.Normal.{ring, x0, x1, x2, lit, opposite_of, ◌⊕◌, ◌⊖◌, ◌⊗◌}
 
 -- ---- lists
 pub at-map : (f : ℤ → ℤ) → f (pos 0) ≡ pos 0 → (xs : List ℤ) (i : ℕ) → at (map f xs) i ≡ f (at xs i)

@@ -1,9 +1,7 @@
 -- What the verdict on two matrices says of their forms.
-use Rattle.std.proofs.Common.{◌≡◌, ℕ, zero, suc, ◌+◌, ◌-◌, ◌*◌, ◌<◌, ◌≤◌, Bool, true, false, cond, ◌||◌, List, [], ◌∷◌, map, length, refl, sym, ◌∙◌, ap, subst, arith, ℤ, pos, ◌+ℤ◌, ◌≤ℤ◌, ◌<ℤ◌}
-use Rattle.std.specs.List.{list_any}
-use Rattle.std.proofs.lemmas.Int.{ints}
+use Rattle.std.proofs.Common.{◌≡◌, ℕ, zero, suc, ◌*◌, ◌<◌, ◌≤◌, Bool, true, false, cond, List, [], ◌∷◌, length, refl, ap, subst, arith, ℤ, pos, ◌+ℤ◌, ◌≤ℤ◌, ◌<ℤ◌}
 use Rattle.whole_algebra.specs.Matrices.{at, quad, diagonal, lower_over, upper_over, IsTriangle, padded}
-use Rattle.whole_algebra.specs.Chains.{Step, free, pivot, stop, size_limit, step_of, beside, left_after, next, chain_rows, chain_steps, lower_chain, upper_chain, is_stop, stops, stop_place, stop_value, pivot_at, Outcome, met, refuted, open_at, outcome_of, verdict_of}
+use Rattle.whole_algebra.specs.Chains.{Step, free, pivot, stop, size_limit, next, chain_rows, chain_steps, lower_chain, upper_chain, stops, stop_place, stop_value, pivot_at, Outcome, met, refuted, open_at, outcome_of, verdict_of}
 use Rattle.whole_algebra.proofs.Shapes.{length-triangle, quad-padded, length-padded}
 use Rattle.whole_algebra.proofs.ChainLaws.{lower_nonneg, stop_value-low, pivot_at-nonneg}
 use Rattle.whole_algebra.proofs.Refutation.{upper_negative, negative_list}

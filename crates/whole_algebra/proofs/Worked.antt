@@ -1,7 +1,9 @@
 -- The definitions at matrices that were worked by hand.
-use Rattle.std.proofs.Common.{◌≡◌, ℕ, List, [], ◌∷◌, refl, ℤ, pos, negsuc, ◌*ℤ◌, ◌*◌}
-use Rattle.whole_algebra.specs.Chains.{Step, free, pivot, stop, lower_chain, upper_chain, met, refuted, open_at, verdict_of}
-use Rattle.whole_algebra.specs.Matrices.{quad}
+use Rattle.std.proofs.Common.{◌≡◌, ℕ, zero, suc, inl, inr, arith, List, [], ◌∷◌, refl, ℤ, pos, negsuc, ◌*ℤ◌, ◌*◌}
+use Rattle.whole_algebra.specs.Chains.{pivot, stop, lower_chain, upper_chain, met, refuted, open_at, verdict_of}
+use Rattle.whole_algebra.specs.Matrices.{schur, minus_matrix}
+use Rattle.whole_algebra.specs.Certificates.{IsDominant, CertificateHolds}
+use Rattle.std.proofs.lemmas.Int.{ints}
 
 -- a levelling line of four heights, the limited last one first, each level with the weight g: the last pivot is 0,
 -- which neither chain can know
@@ -46,3 +48,19 @@ beside_zero = refl
 -- 2 and 2^31 + 1: the square is above 2^62
 too_large : upper_chain ((pos 2 ∷ pos 2147483649 ∷ []) ∷ (pos 5 ∷ []) ∷ []) ≡ stop (negsuc 2305843009213693951) ∷ []
 too_large = refl
+
+-- ---- the certificate of 2, -1; -1, 2 with the remainder 1: 2 (2 - 1) - 1 is 1
+one_holds : CertificateHolds (((pos 1 ∷ []) ∷ []) ∷ [] ∷ []) ((pos 2 ∷ negsuc 0 ∷ []) ∷ (pos 2 ∷ []) ∷ [])
+one_holds = (inl (omega (arith, ints), first), (inl (omega (arith, ints), second), tt))
+  where
+    first : IsDominant (schur (pos 2) (negsuc 0 ∷ []) (minus_matrix ((pos 2 ∷ []) ∷ []) ((pos 1 ∷ []) ∷ [])))
+    first zero = omega (arith, ints)
+    first (suc i) = omega (arith, ints)
+
+    second : IsDominant (schur (pos 1) [] (minus_matrix [] []))
+    second i = omega (arith, ints)
+
+-- with the remainder 2 it is -1
+two_fails : CertificateHolds (((pos 2 ∷ []) ∷ []) ∷ [] ∷ []) ((pos 2 ∷ negsuc 0 ∷ []) ∷ (pos 2 ∷ []) ∷ []) → ⊥
+two_fails (inl h, rest) = let below = h.1 0 in omega (arith, ints)
+two_fails (inr h, rest) = let zero_pivot = h.0 in omega (arith, ints)

@@ -2,3 +2,4 @@ pub mod Sums
 pub mod Rounding
 pub mod Matrices
 pub mod Chains
+pub mod Certificates
