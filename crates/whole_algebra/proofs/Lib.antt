@@ -12,4 +12,5 @@ pub mod Refutation
 pub mod VerdictLaws
 pub mod Dominance
 pub mod LowerCertificate
+pub mod Sizes
 pub mod Worked

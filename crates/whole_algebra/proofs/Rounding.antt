@@ -126,3 +126,16 @@ gap_of_zero a h =
     let f : a *ℤ floor_over a (pos 0) ≡ pos 0 = ap (λ t. a *ℤ t) (floor_of_zero a h) ∙ mul_zero a in
     let r : int_rem_euclid (pos 0) a ≡ pos 0 = omega (arith, ints) in
     ap (λ t. cond (is_zero t) (pos 0) (pos 1)) r
+
+-- a floor lies between whole numbers that the fraction lies between
+pub floor_at_least : (a n c : ℤ) → pos 0 <ℤ a → (a *ℤ c) ≤ℤ n → c ≤ℤ floor_over a n
+floor_at_least a n c h le =
+    let f = floor_over a n in
+    let high = floor_high a n h in
+    let e : a *ℤ (f +ℤ pos 1) ≡ a *ℤ f +ℤ a = mul_add a f (pos 1) ∙ ap (λ t. a *ℤ f +ℤ t) (mul_one a) in
+    by_lt_z f c (λ lt. let k = mul_le_mul a (f +ℤ pos 1) c (omega (arith, ints)) (omega (arith, ints)) in omega (arith, ints)) (λ ge. ge)
+
+pub floor_at_most : (a n c : ℤ) → pos 0 <ℤ a → n ≤ℤ (a *ℤ c) → floor_over a n ≤ℤ c
+floor_at_most a n c h le =
+    let low = floor_low a n h in
+    le_of_mul_le a (floor_over a n) c h (omega (arith, ints))

@@ -1,8 +1,9 @@
 //! Laws of interval chains: what a chain of rounded pivots shows of a quadratic form.
 
-ghost use Rattle.std.specs.Prelude.{◌≡◌, ℕ, ◌+◌, ◌*◌, ◌<◌, ◌≤◌, ℤ, pos, ◌+ℤ◌, ◌≤ℤ◌, ◌<ℤ◌, List, length, IsTrue, IsFalse};
+ghost use Rattle.std.specs.Prelude.{◌≡◌, neg_ℤ, ◌*ℤ◌, ◌∷◌, ℕ, ◌+◌, ◌*◌, ◌<◌, ◌≤◌, ℤ, pos, ◌+ℤ◌, ◌≤ℤ◌, ◌<ℤ◌, List, length, IsTrue, IsFalse};
 ghost use Rattle.whole_algebra.specs.Matrices.{at, quad, diagonal, IsTriangle};
-ghost use Rattle.whole_algebra.specs.Chains.{size_limit, stops, lower_chain, upper_chain, met, refuted, open_at, verdict_of};
+ghost use Rattle.whole_algebra.specs.Rounding.{floor_over};
+ghost use Rattle.whole_algebra.specs.Chains.{size_limit, step_of, pivot, stops, lower_chain, upper_chain, met, refuted, open_at, verdict_of};
 
 /// Where the lower chain of a matrix doesn't stop, its form is negative on no list of whole numbers.
 #[tactic(auto, using(crate::proofs::VerdictLaws::lower_sound))]
@@ -34,4 +35,14 @@ pub fn verdicts_are_sound()
     ensures open_between { (n : ℕ) (lower upper : List (List ℤ)) (k : ℕ) (lo hi : ℤ)
         → IsTriangle n lower → verdict_of lower upper ≡ open_at k lo hi
         → (lo ≤ℤ pos 0) × (pos 0 ≤ℤ hi) × (0 < k) × (k ≤ n) }
+{}
+
+/// A pivot is the first entry of its row and above 0, and what two numbers beside it take off an
+/// entry is at most 2^61 in size.
+pub fn pivot_keeps_sizes()
+    ensures { (a : ℤ) (b : List ℤ) (v : ℤ) (i j : ℕ)
+        → step_of (a ∷ b) ≡ pivot v
+        → (v ≡ a) × (pos 0 <ℤ a)
+        × (neg_ℤ size_limit ≤ℤ floor_over a (neg_ℤ (at b i *ℤ at b j)))
+        × (floor_over a (neg_ℤ (at b i *ℤ at b j)) ≤ℤ size_limit) }
 {}

@@ -7,6 +7,8 @@ mod forms;
 mod laws;
 
 pub use certificates::{certificate_is_sound, lower_chain_is_a_certificate};
-pub use chains::{lower_chain_is_sound, upper_chain_refutes, verdicts_are_sound};
+pub use chains::{
+    lower_chain_is_sound, pivot_keeps_sizes, upper_chain_refutes, verdicts_are_sound,
+};
 pub use forms::{pivot_completes_the_square, slack_covers_the_rounding};
 pub use laws::{products_keep_the_order, sums_go_together, whole_numbers_are_a_ring};
