@@ -13,4 +13,5 @@ pub mod VerdictLaws
 pub mod Dominance
 pub mod LowerCertificate
 pub mod Sizes
+pub mod Places
 pub mod Worked

@@ -48,6 +48,12 @@ chain_rows over zero m = []
 chain_rows over (suc n) [] = []
 chain_rows over (suc n) (row ∷ rest) = row ∷ chain_rows over n (next over row rest)
 
+-- the matrix after t steps
+abbrev pub matrix_after : (ℤ → List (List ℤ) → List (List ℤ)) → ℕ → List (List ℤ) → List (List ℤ)
+matrix_after over zero m = m
+matrix_after over (suc t) [] = []
+matrix_after over (suc t) (row ∷ rest) = matrix_after over t (next over row rest)
+
 abbrev pub chain_steps : (ℤ → List (List ℤ) → List (List ℤ)) → ℕ → List (List ℤ) → List Step
 chain_steps over n m = map step_of (chain_rows over n m)
 

@@ -3,3 +3,4 @@ pub mod Rounding
 pub mod Matrices
 pub mod Chains
 pub mod Certificates
+pub mod Grid
