@@ -14,4 +14,5 @@ pub mod Dominance
 pub mod LowerCertificate
 pub mod Sizes
 pub mod Places
+pub mod GridLaws
 pub mod Worked

@@ -1,11 +1,10 @@
 -- Matrices entry by entry.
-use Rattle.std.proofs.Common.{◌≡◌, ℕ, zero, suc, ◌+◌, ◌-◌, ◌*◌, ◌<◌, ◌≤◌, List, [], ◌∷◌, map, length, get_or, refl, sym, ◌∙◌, ap, ap₂, subst, arith, ℤ, pos, negsuc, ◌+ℤ◌, ◌-ℤ◌, ◌*ℤ◌, neg_ℤ, ◌≤ℤ◌, ◌<ℤ◌}
-use Rattle.std.proofs.lemmas.Int.{ints}
-use Rattle.whole_algebra.specs.Sums.{int_sum}
+use Rattle.std.proofs.Common.{◌≡◌, ℕ, zero, suc, ◌+◌, ◌-◌, ◌<◌, ◌≤◌, List, [], ◌∷◌, map, length, take, refl, sym, ◌∙◌, ap, ap₂, arith, ℤ, pos, ◌+ℤ◌, ◌-ℤ◌, ◌*ℤ◌, neg_ℤ, ◌<ℤ◌}
+use Rattle.whole_algebra.specs.Sums.{int_sum, dot}
 use Rattle.whole_algebra.specs.Rounding.{floor_over, gap_over, ceil_over}
-use Rattle.whole_algebra.specs.Matrices.{at, plus_lists, scale, entries, plus_matrix, minus_matrix, schur, diagonal, off_sums, plus_diagonal, slacks, lower_over, upper_over, IsTriangle}
+use Rattle.whole_algebra.specs.Matrices.{at, scale, entries, plus_matrix, minus_matrix, schur, diagonal, off_sums, plus_diagonal, slacks, lower_over, upper_over, IsTriangle}
 use Rattle.whole_algebra.specs.Chains.{beside, next, chain_rows, matrix_after}
-use Rattle.whole_algebra.specs.Grid.{row_at, entry, above}
+use Rattle.whole_algebra.specs.Grid.{row_at, above}
 use Rattle.whole_algebra.proofs.Ring.{add_zero, zero_add, add_assoc, add_comm, mul_zero}
 use Rattle.whole_algebra.proofs.Rounding.{floor_of_zero, gap_of_zero}
 use Rattle.whole_algebra.proofs.Shapes.{at-map, at-plus_lists, at-diagonal-plus_diagonal, at-diagonal-entries}
@@ -96,8 +95,8 @@ lower_over-diagonal a m i h =
     sym (at-diagonal (lower_over a m) i)
     ∙ at-diagonal-plus_diagonal (entries (floor_over a) m) (map neg_ℤ (slacks a m)) i
     ∙ ap₂ (λ s t. s +ℤ t)
-        (at-diagonal-entries (floor_over a) (floor_of_zero a h) m i ∙ ap (floor_over a) (at-diagonal m i))
-        (at-map neg_ℤ refl (slacks a m) i)
+    (at-diagonal-entries (floor_over a) (floor_of_zero a h) m i ∙ ap (floor_over a) (at-diagonal m i))
+    (at-map neg_ℤ refl (slacks a m) i)
 
 pub upper_over-diagonal : (a : ℤ) (m : List (List ℤ)) (i : ℕ) → pos 0 <ℤ a
     → at (row_at (upper_over a m) i) 0 ≡ ceil_over a (at (row_at m i) 0) +ℤ at (slacks a m) i
@@ -105,10 +104,10 @@ upper_over-diagonal a m i h =
     sym (at-diagonal (upper_over a m) i)
     ∙ at-diagonal-plus_diagonal (plus_diagonal (entries (floor_over a) m) (diagonal (entries (gap_over a) m))) (slacks a m) i
     ∙ ap (λ t. t +ℤ at (slacks a m) i)
-        (at-diagonal-plus_diagonal (entries (floor_over a) m) (diagonal (entries (gap_over a) m)) i
-        ∙ ap₂ (λ s t. s +ℤ t)
-            (at-diagonal-entries (floor_over a) (floor_of_zero a h) m i ∙ ap (floor_over a) (at-diagonal m i))
-            (at-diagonal-entries (gap_over a) (gap_of_zero a h) m i ∙ ap (gap_over a) (at-diagonal m i)))
+    (at-diagonal-plus_diagonal (entries (floor_over a) m) (diagonal (entries (gap_over a) m)) i
+    ∙ ap₂ (λ s t. s +ℤ t)
+    (at-diagonal-entries (floor_over a) (floor_of_zero a h) m i ∙ ap (floor_over a) (at-diagonal m i))
+    (at-diagonal-entries (gap_over a) (gap_of_zero a h) m i ∙ ap (gap_over a) (at-diagonal m i)))
 
 -- ---- a row's sum off the diagonal: what stands above the diagonal in its column, and right of it in its row
 above-cons : (row : List ℤ) (m : List (List ℤ)) (i k : ℕ) → k ≤ i → above (row ∷ m) (suc i) (suc k) ≡ at row (suc i) +ℤ above m i k
@@ -165,3 +164,31 @@ row_at-chain_rows over (suc n) zero [] lt = refl
 row_at-chain_rows over (suc n) (suc t) [] lt = refl
 row_at-chain_rows over (suc n) zero (row ∷ rest) lt = refl
 row_at-chain_rows over (suc n) (suc t) (row ∷ rest) lt = row_at-chain_rows over n t (next over row rest) (omega arith)
+
+-- ---- partial sums, as a loop takes them
+sum_of_first : (xs : List ℤ) (k : ℕ) → int_sum (take (suc k) xs) ≡ int_sum (take k xs) +ℤ at xs k
+sum_of_first [] zero = refl
+sum_of_first [] (suc k) = refl
+sum_of_first (x ∷ xs) zero = add_comm x (pos 0)
+sum_of_first (x ∷ xs) (suc k) = ap (λ t. x +ℤ t) (sum_of_first xs k) ∙ sym (add_assoc x (int_sum (take k xs)) (at xs k))
+
+pub int_sum-take_more : (xs : List ℤ) (k : ℕ) → int_sum (take (k + 1) xs) ≡ int_sum (take k xs) +ℤ at xs k
+int_sum-take_more xs k = ap (λ j. int_sum (take j xs)) (one_more k) ∙ sum_of_first xs k
+  where
+    one_more : (k : ℕ) → k + 1 ≡ suc k
+    one_more k = omega arith
+
+dot_of_first : (xs ys : List ℤ) (k : ℕ) → dot (take (suc k) xs) ys ≡ dot (take k xs) ys +ℤ at xs k *ℤ at ys k
+dot_of_first [] ys zero = ring (lit 0) (lit 0 ⊕ lit 0 ⊗ x0) (at ys 0 ∷ []) refl
+dot_of_first [] ys (suc k) = ring (lit 0) (lit 0 ⊕ lit 0 ⊗ x0) (at ys (suc k) ∷ []) refl
+dot_of_first (x ∷ xs) [] zero = ring (lit 0) (lit 0 ⊕ x0 ⊗ lit 0) (x ∷ []) refl
+dot_of_first (x ∷ xs) [] (suc k) = ring (lit 0) (lit 0 ⊕ x0 ⊗ lit 0) (at xs k ∷ []) refl
+dot_of_first (x ∷ xs) (y ∷ ys) zero = ring (x0 ⊗ x1 ⊕ lit 0) (lit 0 ⊕ x0 ⊗ x1) (x ∷ y ∷ []) refl
+dot_of_first (x ∷ xs) (y ∷ ys) (suc k) =
+    ap (λ t. x *ℤ y +ℤ t) (dot_of_first xs ys k) ∙ sym (add_assoc (x *ℤ y) (dot (take k xs) ys) (at xs k *ℤ at ys k))
+
+pub dot-take_more : (xs ys : List ℤ) (k : ℕ) → dot (take (k + 1) xs) ys ≡ dot (take k xs) ys +ℤ at xs k *ℤ at ys k
+dot-take_more xs ys k = ap (λ j. dot (take j xs) ys) (one_more k) ∙ dot_of_first xs ys k
+  where
+    one_more : (k : ℕ) → k + 1 ≡ suc k
+    one_more k = omega arith

@@ -46,7 +46,7 @@ quad-two : (a : ℤ) (b : List ℤ) (m : List (List ℤ)) (x : ℤ) (j : ℕ) (c
 quad-two a b m x j c =
     ap₂ (λ s t. a *ℤ (x *ℤ x) +ℤ pos 2 *ℤ (x *ℤ s) +ℤ t) (dot-single b j c) (quad-single m j c)
 
-quad-scale : (a : ℤ) (m : List (List ℤ)) (y : List ℤ) → quad m (scale a y) ≡ (a *ℤ a) *ℤ quad m y
+pub quad-scale : (a : ℤ) (m : List (List ℤ)) (y : List ℤ) → quad m (scale a y) ≡ (a *ℤ a) *ℤ quad m y
 quad-scale a [] y = ring (lit 0) ((x0 ⊗ x0) ⊗ lit 0) (a ∷ []) refl
 quad-scale a (row ∷ rest) [] = ring (lit 0) ((x0 ⊗ x0) ⊗ lit 0) (a ∷ []) refl
 quad-scale a ([] ∷ rest) (y ∷ ys) =

@@ -1,6 +1,6 @@
 -- Matrices made of numbered unknowns, and their scaling onto a grid. This project's own words for the usual things.
 use Rattle.std.specs.Prelude.{ℕ, List, [], ◌∷◌, map, get_or, ◌-◌, zero, suc, ℤ, pos, ◌+ℤ◌, ◌*ℤ◌}
-use Rattle.whole_algebra.specs.Matrices.{at, scale, lower_over, upper_over}
+use Rattle.whole_algebra.specs.Matrices.{at, scale}
 
 -- the product place by place, as long as the shorter list
 abbrev pub times_lists : List ℤ → List ℤ → List ℤ
