@@ -15,4 +15,5 @@ pub mod LowerCertificate
 pub mod Sizes
 pub mod Places
 pub mod GridLaws
+pub mod PivotStep
 pub mod Worked
