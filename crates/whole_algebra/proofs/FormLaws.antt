@@ -1,9 +1,9 @@
 -- Quadratic forms are linear in their matrix.
-use Rattle.std.proofs.Common.{◌≡◌, ℕ, List, [], ◌∷◌, map, refl, sym, ◌∙◌, ap, ap₂, ℤ, pos, ◌+ℤ◌, ◌-ℤ◌, ◌*ℤ◌, neg_ℤ}
+use Rattle.std.proofs.Common.{◌≡◌, List, [], ◌∷◌, map, refl, sym, ◌∙◌, ap, ap₂, ℤ, pos, ◌+ℤ◌, ◌-ℤ◌, ◌*ℤ◌, neg_ℤ}
 use Rattle.whole_algebra.specs.Sums.{int_sum, dot}
-use Rattle.whole_algebra.specs.Matrices.{plus_lists, scale, row_quad, quad, entries, plus_matrix, minus_matrix, plus_diagonal}
-use Rattle.whole_algebra.proofs.Ring.{add_comm, add_assoc, add_zero, zero_add, mul_zero, zero_mul}
-use Rattle.whole_algebra.proofs.Normal.{ring, x0, x1, x2, x3, x4, x5, x6, lit, opposite_of, ◌⊕◌, ◌⊖◌, ◌⊗◌}
+use Rattle.whole_algebra.specs.Matrices.{plus_lists, row_quad, quad, entries, plus_matrix, minus_matrix, plus_diagonal}
+use Rattle.whole_algebra.proofs.Ring.{add_zero, zero_add, mul_zero}
+use Rattle.whole_algebra.proofs.Normal.{ring, x0, x1, x2, x3, x4, x5, lit, opposite_of, ◌⊕◌, ◌⊗◌}
 
 -- ---- lists added place by place
 pub int_sum-plus_lists : (xs ys : List ℤ) → int_sum (plus_lists xs ys) ≡ int_sum xs +ℤ int_sum ys

@@ -6,3 +6,14 @@ pub mod Rounding
 pub mod FormLaws
 pub mod Square
 pub mod Slack
+pub mod ChainLaws
+pub mod Shapes
+pub mod Refutation
+pub mod VerdictLaws
+pub mod Dominance
+pub mod LowerCertificate
+pub mod Sizes
+pub mod Places
+pub mod GridLaws
+pub mod PivotStep
+pub mod Worked

@@ -1,11 +1,11 @@
 -- Whole division that rounds down.
-use Rattle.std.proofs.Common.{◌≡◌, ℕ, zero, suc, ◌+◌, ◌-◌, ◌*◌, ◌/◌, ◌%◌, ◌<◌, ◌≤◌, Bool, true, false, cond, not, T, refl, sym, ◌∙◌, ap, arith, ℤ, pos, negsuc, ◌+ℤ◌, ◌-ℤ◌, ◌*ℤ◌, neg_ℤ, ◌≤ℤ◌, ◌<ℤ◌, unsigned_abs}
+use Rattle.std.proofs.Common.{◌≡◌, ℕ, zero, suc, ◌+◌, ◌*◌, ◌<◌, Bool, true, false, cond, not, T, refl, ◌∙◌, ap, arith, ℤ, pos, negsuc, ◌+ℤ◌, ◌*ℤ◌, ◌≤ℤ◌, ◌<ℤ◌}
 use Rattle.std.specs.Int.{int_div_euclid, int_rem_euclid}
 use Rattle.std.proofs.lemmas.Int.{ints, by_lt_z}
-use borrow.Author.Differences.{up, down, same_in}
-use Rattle.whole_algebra.specs.Rounding.{is_zero, size_of, floor_over, gap_over, ceil_over}
-use Rattle.whole_algebra.proofs.Ring.{mul_add, mul_comm, mul_neg, mul_one}
-use Rattle.whole_algebra.proofs.Order.{mul_le_mul, le_of_mul_le, le_antisym}
+use borrow.Author.Differences.{up, down}
+use Rattle.whole_algebra.specs.Rounding.{is_zero, floor_over, gap_over, ceil_over}
+use Rattle.whole_algebra.proofs.Ring.{mul_add, mul_one, mul_zero}
+use Rattle.whole_algebra.proofs.Order.{mul_le_mul, le_of_mul_le}
 
 -- the parts of quotient and remainder, for `omega`
 quotient_parts : (n : ℤ) (k : ℕ) → 0 < k
@@ -113,3 +113,29 @@ pub ceil_at_most : (a n c : ℤ) → pos 0 <ℤ a → n ≤ℤ (a *ℤ c) → ce
 ceil_at_most a n c h le =
     let range = remainder_range a n h in
     ceil_by a (floor_over a n) c n (int_rem_euclid n a) (is_zero (int_rem_euclid n a)) (not_zero_out (int_rem_euclid n a) range.0) h range.0 (floor_split a n h) le
+
+-- nothing over a is nothing
+pub floor_of_zero : (a : ℤ) → pos 0 <ℤ a → floor_over a (pos 0) ≡ pos 0
+floor_of_zero a h =
+    let e = mul_zero a in
+    floor_unique a (pos 0) (pos 0) h (omega (arith, ints)) (omega (arith, ints))
+
+pub gap_of_zero : (a : ℤ) → pos 0 <ℤ a → gap_over a (pos 0) ≡ pos 0
+gap_of_zero a h =
+    let e = floor_split a (pos 0) h in
+    let f : a *ℤ floor_over a (pos 0) ≡ pos 0 = ap (λ t. a *ℤ t) (floor_of_zero a h) ∙ mul_zero a in
+    let r : int_rem_euclid (pos 0) a ≡ pos 0 = omega (arith, ints) in
+    ap (λ t. cond (is_zero t) (pos 0) (pos 1)) r
+
+-- a floor lies between whole numbers that the fraction lies between
+pub floor_at_least : (a n c : ℤ) → pos 0 <ℤ a → (a *ℤ c) ≤ℤ n → c ≤ℤ floor_over a n
+floor_at_least a n c h le =
+    let f = floor_over a n in
+    let high = floor_high a n h in
+    let e : a *ℤ (f +ℤ pos 1) ≡ a *ℤ f +ℤ a = mul_add a f (pos 1) ∙ ap (λ t. a *ℤ f +ℤ t) (mul_one a) in
+    by_lt_z f c (λ lt. let k = mul_le_mul a (f +ℤ pos 1) c (omega (arith, ints)) (omega (arith, ints)) in omega (arith, ints)) (λ ge. ge)
+
+pub floor_at_most : (a n c : ℤ) → pos 0 <ℤ a → n ≤ℤ (a *ℤ c) → floor_over a n ≤ℤ c
+floor_at_most a n c h le =
+    let low = floor_low a n h in
+    le_of_mul_le a (floor_over a n) c h (omega (arith, ints))

@@ -1,13 +1,13 @@
 -- The slack on the diagonal covers what the entries off it leave.
-use Rattle.std.proofs.Common.{◌≡◌, ℕ, List, [], ◌∷◌, map, refl, sym, ◌∙◌, ap, ap₂, arith, ℤ, pos, negsuc, ◌+ℤ◌, ◌-ℤ◌, ◌*ℤ◌, neg_ℤ, ◌≤ℤ◌, ◌<ℤ◌}
+use Rattle.std.proofs.Common.{◌≡◌, List, [], ◌∷◌, map, refl, sym, ◌∙◌, ap, ap₂, arith, ℤ, pos, ◌+ℤ◌, ◌-ℤ◌, ◌*ℤ◌, neg_ℤ, ◌≤ℤ◌, ◌<ℤ◌}
 use Rattle.std.proofs.lemmas.Int.{ints}
 use Rattle.whole_algebra.specs.Sums.{int_sum, dot}
-use Rattle.whole_algebra.specs.Rounding.{floor_over, gap_over, size_of}
-use Rattle.whole_algebra.specs.Matrices.{plus_lists, scale, row_quad, quad, entries, diagonal, off_sums, plus_diagonal, slacks, lower_over, upper_over}
-use Rattle.whole_algebra.proofs.Rounding.{floor_low, gap_covers, gap_range}
+use Rattle.whole_algebra.specs.Rounding.{floor_over, gap_over}
+use Rattle.whole_algebra.specs.Matrices.{plus_lists, quad, entries, diagonal, off_sums, plus_diagonal, slacks, lower_over, upper_over}
+use Rattle.whole_algebra.proofs.Rounding.{floor_low, gap_covers}
 use Rattle.whole_algebra.proofs.Order.{le_by, le_refl, add_nonneg, mul_nonneg, square_nonneg}
 use Rattle.whole_algebra.proofs.SumLaws.{dot-nil}
-use Rattle.whole_algebra.proofs.FormLaws.{diag_quad, diag_quad-nil, diag_quad-plus_lists, diag_quad-map_linear, quad-nil, quad-plus_diagonal, quad-entries_linear, quad-entries_sum, entries_same}
+use Rattle.whole_algebra.proofs.FormLaws.{diag_quad, diag_quad-nil, diag_quad-plus_lists, diag_quad-map_linear, quad-plus_diagonal, quad-entries_linear, quad-entries_sum, entries_same}
 use Rattle.whole_algebra.proofs.Normal.{ring, x0, x1, x2, x3, x4, x5, x6, lit, opposite_of, ◌⊕◌, ◌⊖◌, ◌⊗◌}
 
 -- each value of g is at least the size of that of f

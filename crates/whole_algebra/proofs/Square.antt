@@ -1,8 +1,8 @@
 -- Completing the square: a x^T A x = (a x0 + b . y)^2 + y^T (a C - b b^T) y.
-use Rattle.std.proofs.Common.{◌≡◌, ℕ, List, [], ◌∷◌, map, refl, sym, ◌∙◌, ap, ap₂, ℤ, pos, ◌+ℤ◌, ◌-ℤ◌, ◌*ℤ◌, neg_ℤ}
+use Rattle.std.proofs.Common.{◌≡◌, List, [], ◌∷◌, refl, sym, ◌∙◌, ap, ap₂, ℤ, ◌+ℤ◌, ◌-ℤ◌, ◌*ℤ◌, neg_ℤ}
 use Rattle.whole_algebra.specs.Sums.{dot}
-use Rattle.whole_algebra.specs.Matrices.{plus_lists, scale, row_quad, quad, entries, schur}
-use Rattle.whole_algebra.proofs.FormLaws.{quad-nil, quad-entries_linear, row_quad-plus_lists, row_quad-map_linear}
+use Rattle.whole_algebra.specs.Matrices.{scale, row_quad, quad, schur}
+use Rattle.whole_algebra.proofs.FormLaws.{quad-entries_linear, row_quad-plus_lists, row_quad-map_linear}
 use Rattle.whole_algebra.proofs.Normal.{ring, x0, x1, x2, x3, x4, x5, lit, opposite_of, ◌⊕◌, ◌⊖◌, ◌⊗◌}
 
 -- the form of what is left under a pivot

@@ -1,8 +1,8 @@
 -- Symmetric matrices of whole numbers. A matrix is the list of its rows, each from the diagonal on, and what a list
 -- lacks counts as 0. This project's own layout; the words on it are the usual ones of quadratic forms.
-use Rattle.std.specs.Prelude.{ℕ, zero, suc, List, [], ◌∷◌, map, length, get_or, ℤ, pos, ◌+ℤ◌, ◌*ℤ◌, neg_ℤ, ◌≡◌, ◌≤ℤ◌}
+use Rattle.std.specs.Prelude.{ℕ, zero, suc, List, [], ◌∷◌, map, length, get_or, ℤ, pos, ◌+ℤ◌, ◌*ℤ◌, neg_ℤ, ◌≡◌}
 use Rattle.whole_algebra.specs.Sums.{int_sum, dot}
-use Rattle.whole_algebra.specs.Rounding.{floor_over, gap_over, size_of}
+use Rattle.whole_algebra.specs.Rounding.{floor_over, gap_over}
 
 -- entry i of a list, 0 past its end
 abbrev pub at : List ℤ → ℕ → ℤ
@@ -84,3 +84,9 @@ IsTriangle zero [] = Unit {0}
 IsTriangle zero (row ∷ rest) = ⊥
 IsTriangle (suc n) [] = ⊥
 IsTriangle (suc n) (row ∷ rest) = (length row ≡ suc n) × IsTriangle n rest
+
+-- the first n numbers of a list, filled up with zeros
+abbrev pub padded : ℕ → List ℤ → List ℤ
+padded zero x = []
+padded (suc n) [] = pos 0 ∷ padded n []
+padded (suc n) (z ∷ x) = z ∷ padded n x

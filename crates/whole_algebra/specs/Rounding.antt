@@ -1,5 +1,5 @@
 -- Whole division that rounds down, and whether it left something over. The floor of a fraction is the usual one.
-use Rattle.std.specs.Prelude.{ℕ, zero, suc, Bool, true, false, cond, ℤ, pos, negsuc, ◌+ℤ◌, unsigned_abs}
+use Rattle.std.specs.Prelude.{zero, suc, Bool, true, false, cond, ℤ, pos, negsuc, ◌+ℤ◌, unsigned_abs}
 use Rattle.std.specs.Int.{int_div_euclid, int_rem_euclid}
 
 abbrev pub is_zero : ℤ → Bool
