@@ -5,6 +5,11 @@
 #![tactic(auto)]
 
 mod access;
+mod failing_calls;
+mod fault;
+mod faults;
+mod mem_shelf;
+mod mem_sink;
 mod read_answer;
 mod shelf;
 mod sink;
@@ -15,6 +20,8 @@ mod sure_sink;
 mod write_answer;
 
 pub use access::Access;
+pub use mem_shelf::MemShelf;
+pub use mem_sink::MemSink;
 pub use read_answer::ReadAnswer;
 pub use shelf::Shelf;
 pub use sink::Sink;
