@@ -1,8 +1,8 @@
 -- Laws of the count of faults.
 --     Rose-later, later-Rose      a rise is seen over any calls before and after it, since a count never falls
 --     read_failed, write_failed, put_failed      the cause of a call that counted a fault and answered `Failed`
-use Rattle.std.proofs.Common.{◌≡◌, ℕ, ◌≤◌, List, subst, sym, ap, ◌∙◌, arith}
-use Rattle.std.specs.Prelude.{Option, Some, Result, Err}
+use Rattle.std.proofs.Common.{◌≡◌, ℕ, ◌≤◌, List, arith}
+use Rattle.std.specs.Prelude.{Option, Some, Err}
 use Rattle.shelf_io.specs.declared.read_answer.ReadAnswer.TheVariants as read_answer
 use Rattle.shelf_io.specs.declared.write_answer.WriteAnswer.TheVariants as write_answer
 use Rattle.shelf_io.specs.Faults.{LastFault, read_of, write_of, next_count, Rose, HasReadCause, HasWriteCause, HasPutCause}

@@ -1,5 +1,5 @@
-ghost use Rattle.std.specs.Prelude.{◌≡◌, ◌↔◌, IsTrue};
-ghost use Rattle.shelf_io.specs.FailingCalls.{IsNextFailing, CountsCall};
+ghost use Rattle.std.specs.Prelude.{◌↔◌, IsTrue};
+ghost use Rattle.shelf_io.specs.FailingCalls.{AwaitsCalls, IsNextFailing, CountsCall};
 
 /// Counts calls from 1 on, and knows the numbers of those that are to fail. The count stands still at its end.
 #[derive(Drop)]
@@ -10,8 +10,7 @@ pub(crate) struct FailingCalls {
 
 impl FailingCalls {
     pub(crate) fn new(failing: Vec<u64>) -> FailingCalls
-        ensures failing { result.failing.items ≡ failing.items }
-        ensures made { result.made ≡ 0 }
+        ensures { AwaitsCalls failing.items result }
     {
         FailingCalls { failing, made: 0 }
     }

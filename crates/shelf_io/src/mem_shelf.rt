@@ -122,6 +122,7 @@ impl Shelf for MemShelf {
 }
 
 impl MemShelf {
+    ghost use Rattle.shelf_io.specs.FailingCalls.{AwaitsCalls};
     ghost use Rattle.shelf_io.specs.MemShelf.{calls_of, fault_count, files_held, latest_fault, name_started};
 
     /// Holds no file. The calls with the numbers in `failing`, counted from 1 over all calls of the trait, are
@@ -131,6 +132,7 @@ impl MemShelf {
         ensures started { ⟦<MemShelf as Shelf>⟧.started result ≡ None }
         ensures faults { ⟦<MemShelf as Shelf>⟧.faults result ≡ 0 }
         ensures last_fault { ⟦<MemShelf as Shelf>⟧.last_fault result ≡ None }
+        ensures calls { AwaitsCalls failing.items (calls_of result) }
     {
         MemShelf {
             stored: StoredFiles::new(alloc),

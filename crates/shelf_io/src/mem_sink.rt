@@ -47,12 +47,14 @@ impl Sink for MemSink {
 }
 
 impl MemSink {
+    ghost use Rattle.shelf_io.specs.FailingCalls.{AwaitsCalls};
     ghost use Rattle.shelf_io.specs.MemSink.{bytes_written, calls_of, fault_count};
 
     /// Nothing was put to it. The calls with the numbers in `failing`, counted from 1, are to fail.
     pub fn new(alloc: Global, failing: Vec<u64>) -> MemSink
         ensures written { ⟦<MemSink as Sink>⟧.written result ≡ Some [] }
         ensures faults { ⟦<MemSink as Sink>⟧.faults result ≡ 0 }
+        ensures calls { AwaitsCalls failing.items (calls_of result) }
     {
         MemSink {
             bytes: Vec::new(alloc),

@@ -6,7 +6,7 @@ use Rattle.shelf_io.proofs.mem_shelf.MemShelfShelf.append.Goals as goal
 -- nothing of the piece was added
 pub returns-in-Err-clause-refused : goal.returns-in-Err-clause-refused
 returns-in-Err-clause-refused c = (
-    0,
-    ap (λ es. Some (files_of es)) c.in-Err.ensures.refused
-    ∙ sym (with_piece-started c.args.self.now.stored.files.items c.args.self.now.stored.is_started c.args.name.now c.requires)
-  )
+  0,
+  ap (λ es. Some (files_of es)) c.in-Err.ensures.refused
+      ∙ sym (with_piece-started c.args.self.now.stored.files.items c.args.self.now.stored.is_started c.args.name.now c.requires),
+)
