@@ -1,11 +1,15 @@
 -- Laws of the words on what a shelf holds.
---     get-insert-same, get-insert-other, insert-insert        what a changed map answers;  the second change of a name stands
---     is_some-with_bytes, is_some-with_piece      whether it is told doesn't change
+--     get-insert-same, get-insert-other, insert-insert, insert-held      what a changed map answers;  the second change of a name stands;  a change to what is held is none
+--     bytes_of-insert, bytes_of-held, bytes_of-absent, bytes_of-get       the bytes of a name, from the map
+--     is_some-with_bytes, is_some-with_piece      whether the files are told doesn't change
 --     with_bytes-with_bytes, with_piece-with_bytes, with_piece-with_piece, with_bytes-with_piece      two changes of one name are one
---     with_piece-nothing        an empty piece changes nothing under a name that is held
---     get-with_bytes, bytes_of-with_bytes, get-with_bytes-other, bytes_of-with_bytes-other      what the name and another one hold after a change
---     get-with_piece, bytes_of-with_piece, get-with_piece-other, bytes_of-with_piece-other      the same of a piece
-use Rattle.std.proofs.Common.{◌≡◌, ◌≢◌, ℕ, Bool, true, false, cond, List, [], ◌++◌, refl, sym, ap, subst, ◌∙◌, append_assoc}
+--     with_piece-nothing, with_piece-empty        an empty piece changes nothing under a name that is held
+--     get-with_bytes, bytes_of-with_bytes, get-with_piece, bytes_of-with_piece      what the name holds after a change
+--     KeepsOthers-same, KeepsOthers-with_bytes, KeepsOthers-with_piece, KeepsOthers-either, KeepsOthers-trans      which calls leave every other name
+--     bytes_of-other            and then its bytes
+--     take-joined               the pieces before and a front of one more are a front of all the pieces
+use Rattle.std.proofs.Common.{◌≡◌, ◌≢◌, ℕ, Bool, true, false, cond, List, [], ◌++◌, ◌+◌, ◌⊎◌, inl, inr, length, take, drop, take-append-drop, refl, sym, ap, subst, ◌∙◌, append_assoc}
+use Rattle.std.proofs.Math.Seq.{take-append-add, take-append_seam}
 use Rattle.std.proofs.lemmas.List.{append-nil}
 use Rattle.std.proofs.lemmas.Bool.{false_from_ne_true}
 use Rattle.std.proofs.lemmas.Map.Views.{tells_apart}
@@ -15,7 +19,7 @@ use Rattle.std.specs.Ordering.{nat_cmp, eq_by_cmp}
 use Rattle.std.specs.Cmp.{eq_by_cmp_equiv}
 use Rattle.std.specs.Cmp.Lexicographic.{slice_cmp, nat_list_cmp_total}
 use Rattle.std.specs.FinMap.{get, insert, get-insert, same_map}
-use Rattle.shelf_io.specs.Files.{Files, IsHeld, bytes_of, with_bytes, with_piece}
+use Rattle.shelf_io.specs.Files.{Files, IsHeld, KeepsOthers, bytes_of, with_bytes, with_piece}
 
 -- whether two names are one
 abbrev pub same_name : List ℕ → List ℕ → Bool
@@ -121,42 +125,107 @@ with_piece-nothing files name held =
     ap (λ b. Some (insert files name b)) (append-nil (bytes_of files name))
     ∙ ap Some (insert-held files name (bytes_of files name) (some_of (get files name) held))
 
--- ---- what a name and another one hold after a change that is told
+-- the same where the files may not be told
+pub with_piece-empty : (held : Option Files) (name : List ℕ) → ((files : Files) → held ≡ Some files → IsHeld files name) → with_piece held name [] ≡ held
+unfolding with_piece
+with_piece-empty None name is_held = refl
+with_piece-empty (Some files) name is_held = with_piece-nothing files name (is_held files refl)
+
+-- ---- what a name and another one hold after a change, where the shelf tells it
 
 some_same : (a b : Files) → Some a ≡ Some b → a ≡ b
 some_same a b e = ap (λ o. unwrap_or o a) e
 
-told_bytes : (before now : Files) (name bytes : List ℕ) → Some now ≡ with_bytes (Some before) name bytes → now ≡ insert before name bytes
+some_absent : (a : Files) → Some a ≡ None → ⊥
+some_absent a e = cc
+
+after_bytes : (held : Option Files) (files files_now : Files) (name bytes : List ℕ) → Some files_now ≡ with_bytes held name bytes → held ≡ Some files → files_now ≡ insert files name bytes
 unfolding with_bytes
-told_bytes before now name bytes e = some_same now (insert before name bytes) e
+after_bytes None files files_now name bytes e told = absurd (some_absent files_now e)
+after_bytes (Some before) files files_now name bytes e told =
+    some_same files_now (insert before name bytes) e ∙ ap (λ m. insert m name bytes) (some_same before files told)
 
-told_piece : (before now : Files) (name piece : List ℕ) → Some now ≡ with_piece (Some before) name piece → now ≡ insert before name (bytes_of before name ++ piece)
+after_piece : (held : Option Files) (files files_now : Files) (name piece : List ℕ) → Some files_now ≡ with_piece held name piece → held ≡ Some files → files_now ≡ insert files name (bytes_of files name ++ piece)
 unfolding with_piece
-told_piece before now name piece e = some_same now (insert before name (bytes_of before name ++ piece)) e
+after_piece None files files_now name piece e told = absurd (some_absent files_now e)
+after_piece (Some before) files files_now name piece e told =
+    some_same files_now (insert before name (bytes_of before name ++ piece)) e ∙ ap (λ m. insert m name (bytes_of m name ++ piece)) (some_same before files told)
 
-pub get-with_bytes : (before now : Files) (name bytes : List ℕ) → Some now ≡ with_bytes (Some before) name bytes → get now name ≡ Some bytes
-get-with_bytes before now name bytes e = ap (λ m. get m name) (told_bytes before now name bytes e) ∙ get-insert-same before name bytes
+got_bytes : (held : Option Files) (files_now : Files) (name bytes : List ℕ) → Some files_now ≡ with_bytes held name bytes → get files_now name ≡ Some bytes
+unfolding with_bytes
+got_bytes None files_now name bytes e = absurd (some_absent files_now e)
+got_bytes (Some before) files_now name bytes e =
+    ap (λ m. get m name) (some_same files_now (insert before name bytes) e) ∙ get-insert-same before name bytes
 
-pub bytes_of-with_bytes : (before now : Files) (name bytes : List ℕ) → Some now ≡ with_bytes (Some before) name bytes → bytes_of now name ≡ bytes
-bytes_of-with_bytes before now name bytes e = bytes_of-held now name bytes (get-with_bytes before now name bytes e)
+pub get-with_bytes : (held now : Option Files) (name bytes : List ℕ) → now ≡ with_bytes held name bytes
+    → (files_now : Files) → now ≡ Some files_now → get files_now name ≡ Some bytes
+get-with_bytes held now name bytes e files_now told_now = got_bytes held files_now name bytes (sym told_now ∙ e)
 
-pub get-with_bytes-other : (before now : Files) (name bytes other : List ℕ) → Some now ≡ with_bytes (Some before) name bytes → other ≢ name → get now other ≡ get before other
-get-with_bytes-other before now name bytes other e apart =
-    ap (λ m. get m other) (told_bytes before now name bytes e) ∙ get-insert-other before name bytes other apart
+pub bytes_of-with_bytes : (held now : Option Files) (name bytes : List ℕ) → now ≡ with_bytes held name bytes
+    → (files_now : Files) → now ≡ Some files_now → bytes_of files_now name ≡ bytes
+bytes_of-with_bytes held now name bytes e files_now told_now = bytes_of-held files_now name bytes (get-with_bytes held now name bytes e files_now told_now)
 
-pub bytes_of-with_bytes-other : (before now : Files) (name bytes other : List ℕ) → Some now ≡ with_bytes (Some before) name bytes → other ≢ name → bytes_of now other ≡ bytes_of before other
-bytes_of-with_bytes-other before now name bytes other e apart = bytes_of-get now before other (get-with_bytes-other before now name bytes other e apart)
+pub get-with_piece : (held now : Option Files) (name piece : List ℕ) → now ≡ with_piece held name piece
+    → (files files_now : Files) → held ≡ Some files → now ≡ Some files_now → get files_now name ≡ Some (bytes_of files name ++ piece)
+get-with_piece held now name piece e files files_now told told_now =
+    ap (λ m. get m name) (after_piece held files files_now name piece (sym told_now ∙ e) told) ∙ get-insert-same files name (bytes_of files name ++ piece)
 
-pub get-with_piece : (before now : Files) (name piece : List ℕ) → Some now ≡ with_piece (Some before) name piece → get now name ≡ Some (bytes_of before name ++ piece)
-get-with_piece before now name piece e =
-    ap (λ m. get m name) (told_piece before now name piece e) ∙ get-insert-same before name (bytes_of before name ++ piece)
+pub bytes_of-with_piece : (held now : Option Files) (name piece : List ℕ) → now ≡ with_piece held name piece
+    → (files files_now : Files) → held ≡ Some files → now ≡ Some files_now → bytes_of files_now name ≡ bytes_of files name ++ piece
+bytes_of-with_piece held now name piece e files files_now told told_now =
+    bytes_of-held files_now name (bytes_of files name ++ piece) (get-with_piece held now name piece e files files_now told told_now)
 
-pub bytes_of-with_piece : (before now : Files) (name piece : List ℕ) → Some now ≡ with_piece (Some before) name piece → bytes_of now name ≡ bytes_of before name ++ piece
-bytes_of-with_piece before now name piece e = bytes_of-held now name (bytes_of before name ++ piece) (get-with_piece before now name piece e)
+-- ---- every other name
 
-pub get-with_piece-other : (before now : Files) (name piece other : List ℕ) → Some now ≡ with_piece (Some before) name piece → other ≢ name → get now other ≡ get before other
-get-with_piece-other before now name piece other e apart =
-    ap (λ m. get m other) (told_piece before now name piece e) ∙ get-insert-other before name (bytes_of before name ++ piece) other apart
+pub KeepsOthers-same : (name : List ℕ) (before now : Option Files) → now ≡ before → KeepsOthers name before now
+KeepsOthers-same name before now e = record {
+  told = ap is_some e;
+  others = λ files files_now told told_now other apart. ap (λ m. get m other) (some_same files_now files (sym told_now ∙ e ∙ told));
+}
 
-pub bytes_of-with_piece-other : (before now : Files) (name piece other : List ℕ) → Some now ≡ with_piece (Some before) name piece → other ≢ name → bytes_of now other ≡ bytes_of before other
-bytes_of-with_piece-other before now name piece other e apart = bytes_of-get now before other (get-with_piece-other before now name piece other e apart)
+pub KeepsOthers-with_bytes : (name bytes : List ℕ) (before now : Option Files) → now ≡ with_bytes before name bytes → KeepsOthers name before now
+KeepsOthers-with_bytes name bytes before now e = record {
+  told = ap is_some e ∙ is_some-with_bytes before name bytes;
+  others = λ files files_now told told_now other apart.
+      ap (λ m. get m other) (after_bytes before files files_now name bytes (sym told_now ∙ e) told) ∙ get-insert-other files name bytes other apart;
+}
+
+pub KeepsOthers-with_piece : (name piece : List ℕ) (before now : Option Files) → now ≡ with_piece before name piece → KeepsOthers name before now
+KeepsOthers-with_piece name piece before now e = record {
+  told = ap is_some e ∙ is_some-with_piece before name piece;
+  others = λ files files_now told told_now other apart.
+      ap (λ m. get m other) (after_piece before files files_now name piece (sym told_now ∙ e) told)
+      ∙ get-insert-other files name (bytes_of files name ++ piece) other apart;
+}
+
+pub KeepsOthers-either : (name bytes : List ℕ) (before now : Option Files) → (now ≡ before) ⊎ (now ≡ with_bytes before name bytes) → KeepsOthers name before now
+KeepsOthers-either name bytes before now (inl e) = KeepsOthers-same name before now e
+KeepsOthers-either name bytes before now (inr e) = KeepsOthers-with_bytes name bytes before now e
+
+told_of : (o : Option Files) → is_some o ≡ true → (files : Files) × (o ≡ Some files)
+told_of None h = absurd (cc)
+told_of (Some files) h = (files, refl)
+
+pub KeepsOthers-trans : (name : List ℕ) (before middle now : Option Files) → KeepsOthers name before middle → KeepsOthers name middle now → KeepsOthers name before now
+KeepsOthers-trans name before middle now first second = record {
+  told = second.told ∙ first.told;
+  others = λ files files_now told told_now other apart.
+      let (files_middle, told_middle) = told_of middle (first.told ∙ ap is_some told) in
+      second.others files_middle files_now told_middle told_now other apart ∙ first.others files files_middle told told_middle other apart;
+}
+
+pub bytes_of-other : (name : List ℕ) (before now : Option Files) → KeepsOthers name before now
+    → (files files_now : Files) → before ≡ Some files → now ≡ Some files_now → (other : List ℕ) → other ≢ name → bytes_of files_now other ≡ bytes_of files other
+bytes_of-other name before now kept files files_now told told_now other apart =
+    bytes_of-get files_now files other (kept.others files files_now told told_now other apart)
+
+-- ---- a front of what was to be added
+
+-- the pieces before and a front of this one are a front of all the pieces
+pub take-joined : (before piece after : List ℕ) (n : ℕ) → (m : ℕ) × (before ++ take n piece ≡ take m (before ++ (piece ++ after)))
+take-joined before piece after n = (
+  length before + length (take n piece),
+  sym (
+      take-append-add before (piece ++ after) (length (take n piece))
+      ∙ ap (λ l. before ++ l) (ap (take (length (take n piece))) (ap (λ l. l ++ after) (sym (take-append-drop n piece)) ∙ append_assoc (take n piece) (drop n piece) after) ∙ take-append_seam (take n piece) (drop n piece ++ after))),
+)

@@ -20,9 +20,13 @@ read_of name = record { access = Read; name = name }
 abbrev pub write_of : List ℕ → LastFault
 write_of name = record { access = Write; name = name }
 
+-- the count after one more, in a counter that stands still at 2^64 - 1
+abbrev pub next_count : ℕ → ℕ
+next_count count = min (count + 1) (2 ^ 64 - 1)
+
 -- a count is greater now than before, or stands at 2^64 - 1, where a counter ends
 abbrev pub Rose : ℕ → ℕ → Type 0
-Rose before now = min (before + 1) (2 ^ 64 - 1) ≤ now
+Rose before now = next_count before ≤ now
 
 -- a call left the count of faults and the last fault as they were
 pub record KeepsFaults (before now : ℕ) (last last_now : Option LastFault) : Type 0 where

@@ -5,6 +5,13 @@
 #![tactic(auto)]
 
 mod access;
+mod failing_calls;
+mod fault;
+mod faults;
+mod file_shelf;
+mod mem_shelf;
+mod mem_sink;
+mod out_sink;
 mod read_answer;
 mod shelf;
 mod sink;
@@ -12,12 +19,20 @@ mod stored_file;
 mod stored_files;
 mod sure_shelf;
 mod sure_sink;
+mod transfer;
 mod write_answer;
 
 pub use access::Access;
+pub use file_shelf::FileShelf;
+pub use mem_shelf::MemShelf;
+pub use mem_sink::MemSink;
+pub use out_sink::OutSink;
 pub use read_answer::ReadAnswer;
 pub use shelf::Shelf;
 pub use sink::Sink;
 pub use sure_shelf::SureShelf;
 pub use sure_sink::SureSink;
 pub use write_answer::WriteAnswer;
+
+#[cfg(test)]
+mod tests;

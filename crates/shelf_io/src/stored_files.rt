@@ -39,6 +39,18 @@ impl StoredFiles {
         None
     }
 
+    pub(crate) fn alloc(&self) -> Global {
+        *self.files.allocator()
+    }
+
+    /// No name is started from here on.
+    pub(crate) fn stop(&mut self)
+        ensures files { self.new.files.items ≡ self.old.files.items }
+        ensures stopped { started_of self.new.files.items self.new.is_started ≡ None }
+    {
+        self.is_started = false;
+    }
+
     /// Appends the file's bytes to `into`, nothing where there is no such file.
     pub(crate) fn read(&self, name: &str, limit: u64, into: &mut Vec<u8>) -> Result<(), ReadAnswer>
         ensures bytes { OnOk result (into.new.items ≡ into.old.items ++ bytes_of (files_of self.now.files.items) name.now) }
@@ -66,7 +78,7 @@ impl StoredFiles {
         ensures stopped { OnErr result (started_of self.new.files.items self.new.is_started ≡ None) }
     {
         self.is_started = false;
-        let content = Vec::new(*self.files.allocator());
+        let content = Vec::new(self.alloc());
         self.store(name, content)?;
         self.is_started = true;
         Ok(())
@@ -99,7 +111,7 @@ impl StoredFiles {
         ensures refused { OnErr result ((self.new.files.items ≡ self.old.files.items)
             × (self.new.is_started ≡ self.old.is_started)) }
     {
-        let content = Vec::from_slice(*self.files.allocator(), bytes)?;
+        let content = Vec::from_slice(self.alloc(), bytes)?;
         self.store(name, content)?;
         self.is_started = false;
         Ok(())
@@ -121,7 +133,7 @@ impl StoredFiles {
         ensures refused { OnErr result (self.new.files.items ≡ self.old.files.items) }
         ensures started { self.new.is_started ≡ self.old.is_started }
     {
-        let file = StoredFile::new(*self.files.allocator(), name, content)?;
+        let file = StoredFile::new(self.alloc(), name, content)?;
         self.files.insert(0, file)?;
         Ok(())
     }
