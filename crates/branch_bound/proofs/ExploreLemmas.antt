@@ -1,7 +1,8 @@
-use Rattle.std.proofs.Common.{◌≡◌, ◌<◌, ◌≤◌, ℕ, zero, suc, Bool, true, false, List, [], ◌∷◌, ◌++◌, length, set, refl, sym, ap, ap₂, ◌∙◌, subst, arith, append_assoc, Some, Option, if◌then◌else◌, ◌+◌, min, ◌-◌, ◌^◌}
+use Rattle.std.proofs.lemmas.Bool.{false≢true}
+use Rattle.std.proofs.Common.{replicate, ◌≡◌, ◌<◌, ◌≤◌, ℕ, zero, suc, Bool, true, false, List, [], ◌∷◌, ◌++◌, length, set, refl, sym, ap, ap₂, ◌∙◌, subst, arith, append_assoc, Some, Option, if◌then◌else◌, ◌+◌, min, ◌-◌, ◌^◌}
 use Rattle.std.specs.Prelude.{slice_get, slice_set, flat_map}
 use Rattle.std.proofs.lemmas.List.Concat.{flat_map-append}
-use Rattle.std.proofs.lemmas.List.{length-set, append-nil}
+use Rattle.std.proofs.lemmas.List.{length-set, length-replicate, append-nil}
 use Rattle.shelf_io.specs.Files.{Files, IsHeld}
 use Rattle.geo_model.specs.Energy.{IsWithin}
 use Rattle.geo_model.specs.Network.{NetworkOf}
@@ -12,7 +13,7 @@ use Rattle.bound_log.specs.declared.bound.Bound.{Bound}
 use Rattle.bound_log.specs.declared.bound.Bound.TheVariants.{NoPlan, AtLeast}
 use Rattle.bound_log.specs.Counted.{is_split, is_cost, is_pivot}
 use Rattle.bound_log.specs.LogText.{line_text, lines_text}
-use Rattle.bound_log.specs.LogTree.{IsOpenAt, IsAllowed, with_chosen, without_chosen, bound_at}
+use Rattle.bound_log.specs.LogTree.{root_of, IsOpenAt, IsAllowed, with_chosen, without_chosen, bound_at}
 use Rattle.bound_log.specs.Tree.{LineOf, split, leaf, Leaf, cost, pivot, Tree, fork, tip, tree_lines}
 use Rattle.branch_bound.specs.declared.line.Line.{Line}
 use Rattle.branch_bound.specs.declared.search_fault.SearchFault.{SearchFault}
@@ -178,3 +179,14 @@ pub Explores-same : (network : NetworkOf) (node same_node : Node) (name : List �
 Explores-same network node same_node name old_best best best_now counts counts_now before now same same_best explored =
     subst (λ b. Explores network node name b best_now counts counts_now before now) same_best
       (subst (λ n. Explores network n name old_best best_now counts counts_now before now) same explored)
+
+none_within_all : (n : ℕ) → IsWithin (replicate n false) (replicate n true)
+none_within_all zero = tt
+none_within_all (suc n) = (λ h. absurd (false≢true h), none_within_all n)
+
+-- the node of all plans is a node
+pub IsNode-root : (network : NetworkOf) → IsNode network (root_of network)
+IsNode-root network = record {
+  inside_long = length-replicate (length network.candidates) false;
+  upper_long = length-replicate (length network.candidates) true;
+  within = none_within_all (length network.candidates) }
