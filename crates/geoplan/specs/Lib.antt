@@ -1,0 +1,2 @@
+pub mod NarrowText
+pub mod NarrowNetwork

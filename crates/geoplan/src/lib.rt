@@ -1,0 +1,4 @@
+//! Plans for control networks.
+#![tactic(auto)]
+
+mod narrow;

@@ -1,0 +1,3 @@
+//! The two tables in their narrow form.
+mod name;
+mod text;
