@@ -127,8 +127,10 @@ text-meaning field text e = rw e (meant (front-parts field) (back-parts (without
   where
     left : List ℕ
     left = without_front_spaces field
+
     inner : List ℕ
     inner = without_back_spaces left
+
     meant : (n : ℕ) × (field ≡ replicate n 32 ++ left) → (m : ℕ) × (left ≡ inner ++ replicate m 32) → IsTextOf field inner
     meant (n, f) (m, b) = record {
       before = n;

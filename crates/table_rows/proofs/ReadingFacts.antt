@@ -1,8 +1,9 @@
 -- What one read of a record takes off the records that a reader has left.
-use Rattle.std.proofs.Common.{◌≡◌, ◌<◌, ◌≤◌, ◌+◌, ◌-◌, ◌∙◌, ℕ, zero, suc, Bool, true, false, List, [], ◌∷◌, ◌++◌, Option, Some, None, length, refl, sym, ap, arith, add-one, subst, map}
+use Rattle.std.proofs.Common.{◌≡◌, ◌<◌, ◌≤◌, ◌+◌, ◌-◌, ◌∙◌, ℕ, zero, suc, Bool, true, false, List, [], ◌∷◌, ◌++◌, Option, Some, None, length, refl, ap, arith, add-one, subst, map}
+use Rattle.std.proofs.lemmas.Bool.{false≢true}
 use Rattle.std.specs.Prelude.{◌==◌, ◌&&◌, if◌then◌else◌, Result, Ok, Err, IsErrAnd, MatchResult}
-use Rattle.csv.specs.Machine.{Read, after_end, ends_at_end, ends_with, field_after, fields_after, in_field, is_end, next_record, start_field, start_record, step}
-use Rattle.csv.specs.Reading.{ReadRecord, ReadsOn, Reached, default_config, reader_state, records_from, records_next, source_of, strip_bom}
+use Rattle.csv.specs.Machine.{Read, ends_at_end, ends_with, field_after, fields_after, in_field, is_end, next_record, start_field, start_record, step}
+use Rattle.csv.specs.Reading.{ReadRecord, ReadsOn, Reached, default_config, records_from, records_next, source_of, strip_bom}
 use Rattle.csv.specs.declared.parser.Action.{Action}
 use Rattle.csv.specs.declared.parser.State.{State}
 use Rattle.csv.specs.declared.parser.State.TheVariants as st
@@ -25,23 +26,23 @@ after-end true = refl
 after-end false = refl
 
 in_field-ends : (c : ℕ) → Ends (in_field default_config c)
-in_field-ends c = choice (c == 44) _ _ (λ e. cc e) (choice (ends_with term.CRLF c) _ _ (λ e. after-end (c == 13)) (λ e. cc e))
+in_field-ends c = choice (c == 44) _ _ (λ e. absurd (false≢true e)) (choice (ends_with term.CRLF c) _ _ (λ e. after-end (c == 13)) (λ e. absurd (false≢true e)))
 
 start_field-ends : (c : ℕ) → Ends (start_field default_config c)
-start_field-ends c = choice (true && (c == 34)) _ _ (λ e. cc e) (in_field-ends c)
+start_field-ends c = choice (true && (c == 34)) _ _ (λ e. absurd (false≢true e)) (in_field-ends c)
 
 start_record-ends : (c : ℕ) → Ends (start_record default_config c)
-start_record-ends c = choice (ends_with term.CRLF c) _ _ (λ e. cc e) (start_field-ends c)
+start_record-ends c = choice (ends_with term.CRLF c) _ _ (λ e. absurd (false≢true e)) (start_field-ends c)
 
 step-ends : (s : State) (c : ℕ) → Ends (step default_config s c)
 step-ends st.StartRecord c = start_record-ends c
 step-ends st.StartField c = start_field-ends c
 step-ends st.InField c = in_field-ends c
-step-ends st.InQuoted c = choice (true && (c == 34)) _ _ (λ e. cc e) (λ e. cc e)
-step-ends st.InEscape c = λ e. cc e
-step-ends st.AfterQuote c = choice (true && true && (c == 34)) _ _ (λ e. cc e) (in_field-ends c)
-step-ends st.InComment c = choice (c == 10) _ _ (λ e. cc e) (λ e. cc e)
-step-ends st.AfterCr c = choice (c == 10) _ _ (λ e. cc e) (start_record-ends c)
+step-ends st.InQuoted c = choice (true && (c == 34)) _ _ (λ e. absurd (false≢true e)) (λ e. absurd (false≢true e))
+step-ends st.InEscape c = λ e. absurd (false≢true e)
+step-ends st.AfterQuote c = choice (true && true && (c == 34)) _ _ (λ e. absurd (false≢true e)) (in_field-ends c)
+step-ends st.InComment c = choice (c == 10) _ _ (λ e. absurd (false≢true e)) (λ e. absurd (false≢true e))
+step-ends st.AfterCr c = choice (c == 10) _ _ (λ e. absurd (false≢true e)) (start_record-ends c)
 
 -- what a record that was read leaves: a state between two records, and fewer bytes
 abbrev Leaves : ℕ → Read → Type 0
@@ -60,6 +61,7 @@ leaves-next s fields field (c ∷ rest) p e = by (is_end (step default_config s 
   where
     next : Option Read
     next = next_record default_config (step default_config s c).0 (fields_after (step default_config s c).1 fields field) (field_after (step default_config s c).1 c field) rest
+
     by : (b : Bool) → is_end (step default_config s c).1 ≡ b → (next ≡ Some p → Leaves (length rest) p)
         → (if b then Some (fields_after (step default_config s c).1 fields field, (step default_config s c).0, rest) else next) ≡ Some p
         → Leaves (length (c ∷ rest)) p

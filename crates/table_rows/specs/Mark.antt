@@ -1,5 +1,5 @@
 -- The byte order mark at the start of a text: U+FEFF in UTF-8 (RFC 3629, section 6).
-use Rattle.std.specs.Prelude.{ℕ, List, [], ◌∷◌, ◌++◌, ◌≡◌}
+use Rattle.std.specs.Prelude.{ℕ, List, ◌∷◌, ◌≡◌}
 
 -- the text begins with the mark EF BB BF
 abbrev pub StartsWithMark : List ℕ → Type 0

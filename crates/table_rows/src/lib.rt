@@ -10,3 +10,6 @@ pub use field_text::text_of;
 pub use mark::{has_second_mark, starts_with_mark};
 pub use row::TableRow;
 pub use rows::TableRows;
+
+#[cfg(test)]
+mod tests;

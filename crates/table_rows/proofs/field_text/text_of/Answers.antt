@@ -1,5 +1,3 @@
-use Rattle.std.proofs.Common.{ap, ◌∙◌}
-use Rattle.table_rows.specs.FieldText.{field_text, IsTextOf, without_back_spaces}
 use Rattle.table_rows.proofs.FieldTextFacts.{text-meaning, text-parts}
 use Rattle.table_rows.proofs.field_text.text_of.Goals as goal
 

@@ -1,5 +1,4 @@
-use Rattle.std.proofs.Common.{rules, ap, sym, ◌≡◌, ◌∙◌, Some, Ok, true, false}
-use Rattle.table_rows.specs.Reading.{rows_left, texts_left}
+use Rattle.std.proofs.Common.{rules, ap, ◌≡◌, ◌∙◌, Ok, true, false}
 use Rattle.table_rows.specs.Rows.{is_blank}
 use Rattle.table_rows.proofs.RowsFacts.{blanks-kept, blanks-none, blanks-passed}
 use Rattle.table_rows.proofs.rows.next_row.Goals as goal

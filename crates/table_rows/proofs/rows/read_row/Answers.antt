@@ -1,7 +1,5 @@
-use Rattle.std.proofs.Common.{Bor, List, ℕ, ◌≡◌, Some, Ok, true, false, ap, sym, refl, ◌∙◌}
+use Rattle.std.proofs.Common.{◌≡◌, Ok, true, false, refl}
 use Rattle.csv.specs.Records.{fields_of}
-use Rattle.csv.specs.Reading.{ReadRecord, ReadsOn}
-use Rattle.table_rows.specs.Reading.{StandsBetween, rows_left, texts_left}
 use Rattle.table_rows.proofs.ReadingFacts.{read-ended, read-found, was-ok}
 use Rattle.table_rows.proofs.rows.read_row.Goals as goal
 

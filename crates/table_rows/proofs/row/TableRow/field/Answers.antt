@@ -1,4 +1,3 @@
-use Rattle.std.proofs.Common.{◌≡◌, Some, None}
 use Rattle.csv.specs.Records.{fields_of}
 use Rattle.table_rows.proofs.RowsFacts.{text-at, text-within}
 use Rattle.table_rows.proofs.row.TableRow.field.Goals as goal
