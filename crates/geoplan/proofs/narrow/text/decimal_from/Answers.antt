@@ -16,3 +16,16 @@ pub value_after-requires-2-clause-small : goal.value_after-requires-2-clause-sma
 value_after-requires-2-clause-small c =
     let is : is_digits 1 c.args.most c.args.before.now ≡ true = cc in
     first_digits_small c.args.most c.args.before.now c.value_after.result c.requires.most is c.value_after.ensures.value
+
+pub value_after-requires-2-clause-digits : goal.value_after-requires-2-clause-digits
+value_after-requires-2-clause-digits c =
+    let is : is_digits c.args.places c.args.places c.in-Some.fraction.now ≡ true = cc in
+    is_digits-all c.args.places c.args.places c.in-Some.fraction.now is
+
+pub value_after-requires-2-clause-short : goal.value_after-requires-2-clause-short
+value_after-requires-2-clause-short c =
+    let is : is_digits c.args.places c.args.places c.in-Some.fraction.now ≡ true = cc in
+    omega (arith, is_digits-length c.args.places c.args.places c.in-Some.fraction.now is)
+
+pub returns : goal.returns
+returns c = let h = c.in-Some.ensures in let k = c.if-point-ne46 in ?
