@@ -1,1 +1,2 @@
 pub mod NarrowTextLemmas
+pub mod NarrowRowLemmas
