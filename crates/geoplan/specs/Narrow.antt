@@ -1,14 +1,13 @@
 -- The two tables of the narrow form, and the network that they give. This project's own.
-use Rattle.std.specs.Prelude.{ℕ, ◌*◌, ◌^◌, pos, List, [], ◌∷◌, map, Option, None, option_map, option_and_then}
+use Rattle.std.specs.Prelude.{ℕ, ◌*◌, ◌^◌, pos, List, [], ◌∷◌, Option, None, option_map, option_and_then}
 use Rattle.geo_model.specs.Candidate.{CandidateOf}
 use Rattle.geo_model.specs.Limit.{LimitOf}
 use Rattle.geo_model.specs.Network.{NetworkOf}
 use Rattle.geo_model.specs.declared.limit.LimitKind.TheVariants.{Height}
 use Rattle.geo_model.specs.declared.network.Component.TheVariants.{Z}
 use Rattle.geoplan.specs.NarrowPoints.{PointsOf, points_of}
-use Rattle.geoplan.specs.NarrowCandidates.{levels_of}
+use Rattle.geoplan.specs.NarrowCandidates.{LevelsOf, levels_of}
 use Rattle.geoplan.specs.declared.narrow.points.NewPoint.{NewPoint}
-use Rattle.geoplan.specs.declared.narrow.level.Level.{Level}
 
 -- what two narrow tables give: the candidates' names in their order, and the network
 pub record NarrowOf : Type 0 where
@@ -34,11 +33,8 @@ network_of new candidates = record {
 }
 
 -- the names and the network of points and levels
-abbrev pub narrow_from : PointsOf → List Level → NarrowOf
-narrow_from points levels = record {
-  names = map (λ level. level.name) levels;
-  network = network_of points.new_point (map (λ level. level.candidate) levels);
-}
+abbrev pub narrow_from : PointsOf → LevelsOf → NarrowOf
+narrow_from points levels = record { names = levels.names; network = network_of points.new_point levels.candidates }
 
 -- what two tables give, where both are in the narrow form
 abbrev pub narrow_tables : List ℕ → List ℕ → Option NarrowOf

@@ -67,12 +67,19 @@ level_of points (name ∷ kind ∷ from ∷ to ∷ to2 ∷ sd ∷ sdh ∷ price 
     if is_level name kind to2 sdh then level_from name (entries_of points from to) (deviation_of sd) (price_of price) else None
 level_of points row = None
 
--- at most 20 levels whose names all differ
-abbrev pub levels_from : List Level → Option (List Level)
-levels_from levels =
-    if nat_le (length levels) 20 && names_differ (map (λ level. level.name) levels) then Some levels else None
+-- the candidates of a table: their names in order, and what they observe
+pub record LevelsOf : Type 0 where
+  pub names : List (List ℕ)
+  pub candidates : List CandidateOf
 
--- the levels of a table
-unfoldable pub levels_of : PointsOf → List ℕ → Option (List Level)
+-- the names and candidates of at most 20 levels whose names all differ
+abbrev pub levels_from : List Level → Option LevelsOf
+levels_from levels =
+    if nat_le (length levels) 20 && names_differ (map (λ level. level.name) levels)
+    then Some (record { names = map (λ level. level.name) levels; candidates = map (λ level. level.candidate) levels })
+    else None
+
+-- the candidates of a table
+unfoldable pub levels_of : PointsOf → List ℕ → Option LevelsOf
 levels_of points bytes =
     option_and_then levels_from (option_and_then (each_of (level_of points)) (under_header candidate_header (unmarked_rows bytes)))

@@ -1,13 +1,12 @@
 -- What a network from narrow tables looks like. This project's own.
-use Rattle.std.specs.Prelude.{◌≡◌, ◌⊎◌, ◌^◌, ℕ, ℤ, pos, negsuc, List, [], ◌∷◌, All, length, IsNone}
-use Rattle.geo_model.specs.Row.{RowOf}
-use Rattle.geo_model.specs.Candidate.{CandidateOf}
+use Rattle.std.specs.Prelude.{◌≡◌, ◌⊎◌, ◌^◌, pos, negsuc, [], ◌∷◌, All, length, IsNone}
+use Rattle.geo_model.specs.Row.{Entries}
 use Rattle.geo_model.specs.Limit.{SquareOf, LimitOf}
 use Rattle.geo_model.specs.Network.{NetworkOf}
 
--- a row has no entry, or one of column 0 with the coefficient 10000 or -10000
-abbrev pub IsNarrowRow : RowOf → Type 0
-IsNarrowRow row = (row.entries ≡ []) ⊎ ((row.entries ≡ (0, pos 10000) ∷ []) ⊎ (row.entries ≡ (0, negsuc 9999) ∷ []))
+-- no entry, or one of column 0 with the coefficient 10000 or -10000
+abbrev pub IsNarrow : Entries → Type 0
+IsNarrow entries = (entries ≡ []) ⊎ ((entries ≡ (0, pos 10000) ∷ []) ⊎ (entries ≡ (0, negsuc 9999) ∷ []))
 
 -- a square weighs 10^14 and is that of the unknown 0 itself
 pub record IsNarrowSquare (square : SquareOf) : Type 0 where
@@ -22,5 +21,5 @@ pub record IsNarrowLimit (limit : LimitOf) : Type 0 where
 -- a network of one unknown, whose rows, limits and squares are narrow
 pub record IsNarrowNetwork (network : NetworkOf) : Type 0 where
   pub unknowns : length network.unknowns ≡ 1
-  pub rows : All (λ candidate. All IsNarrowRow candidate.rows) network.candidates
+  pub rows : All (λ candidate. All (λ row. IsNarrow row.entries) candidate.rows) network.candidates
   pub limits : All IsNarrowLimit network.limits

@@ -1,4 +1,5 @@
-ghost use Rattle.std.specs.Prelude.{◌≡◌, map, IfOk, bytes_eq, position};
+ghost use Rattle.std.specs.Prelude.{◌≡◌, IfOk, bytes_eq, position};
+ghost use Rattle.std.specs.List.{list_any};
 ghost use Rattle.geoplan.specs.NarrowRows.{names_differ};
 
 use geo_base::NoMemory;
@@ -33,4 +34,32 @@ impl Name {
     {
         self.bytes.as_slice()
     }
+}
+
+// Whether one of the names is this text.
+fn has_name(names: &[Name], text: &[u8]) -> bool
+    ensures { result ≡ list_any (bytes_eq text.now) names.now }
+{
+    names.iter().any(|name| text == name.as_bytes())
+}
+
+/// The place of the first name that is this text.
+pub fn place_of(names: &[Name], text: &[u8]) -> Option<usize>
+    ensures { result ≡ position (bytes_eq text.now) names.now }
+{
+    names.iter().position(|name| text == name.as_bytes())
+}
+
+/// Whether each name is another.
+pub fn names_differ(names: &[Name]) -> bool
+    ensures { result ≡ names_differ names.now }
+{
+    let mut rest = names;
+    while let Some((name, others)) = rest.split_first() {
+        if has_name(others, name.as_bytes()) {
+            return false;
+        }
+        rest = others;
+    }
+    true
 }

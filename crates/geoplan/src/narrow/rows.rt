@@ -1,3 +1,0 @@
-ghost use Rattle.std.specs.Prelude.{◌≡◌, IfOk};
-
-use table_rows::TableRow;
