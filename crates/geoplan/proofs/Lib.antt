@@ -1,2 +1,5 @@
 pub mod NarrowTextLemmas
 pub mod NarrowRowLemmas
+pub mod NarrowTableLemmas
+pub mod NarrowNetworkLemmas
+pub mod NarrowLevelLemmas

@@ -2,3 +2,5 @@
 #![tactic(auto)]
 
 mod narrow;
+
+pub use narrow::{Name, NarrowTables, read_narrow};

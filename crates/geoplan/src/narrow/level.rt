@@ -124,3 +124,25 @@ fn entries(alloc: Global, points: &Points, from: &[u8], to: &[u8]) -> Result<Opt
     let entries = level_entries(alloc, points.new_point().number as usize, from, to)?;
     Ok(Some(entries))
 }
+
+/// The level that a record gives.
+pub fn read_level(alloc: Global, points: &Points, row: &TableRow) -> Result<Option<Level>, NoMemory>
+    ensures { IfOk result (λ read. read ≡ level_of points.now row.now) }
+{
+    let Some(texts) = level_texts(row) else {
+        return Ok(None);
+    };
+    if !is_level(texts) {
+        return Ok(None);
+    }
+    let (Some(deviation), Some(price)) = (deviation(texts.sd), price(texts.price)) else {
+        return Ok(None);
+    };
+    let Some(entries) = entries(alloc, points, texts.from, texts.to)? else {
+        return Ok(None);
+    };
+    let rows = vec![in alloc; Row::new(entries, weight(deviation))]?;
+    let name = Name::new(alloc, texts.name)?;
+    let candidate = Candidate { price, rows };
+    Ok(Some(Level { name, candidate }))
+}

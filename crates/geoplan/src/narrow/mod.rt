@@ -1,7 +1,12 @@
-//! The two tables in their narrow form.
+//! The two tables in their narrow form: one new height, and levels to it.
 mod header;
 mod level;
+mod levels;
 mod name;
 mod point;
 mod points;
+mod tables;
 mod text;
+
+pub use name::Name;
+pub use tables::{NarrowTables, read_narrow};

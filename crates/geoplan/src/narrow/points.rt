@@ -1,6 +1,6 @@
-ghost use Rattle.std.specs.Prelude.{◌≡◌, ◌<◌, ◌≤◌, ◌^◌, map, IfOk, length, option_map};
-ghost use Rattle.geoplan.specs.NarrowPoints.{point_of, new_points, only, points_from, points_of};
-ghost use Rattle.geoplan.specs.NarrowRows.{each_of};
+ghost use Rattle.std.specs.Prelude.{◌≡◌, ◌<◌, ◌≤◌, ◌^◌, map, IfOk, length, option_map, option_and_then};
+ghost use Rattle.geoplan.specs.NarrowPoints.{point_header, point_of, new_points, only, points_from, points_of};
+ghost use Rattle.geoplan.specs.NarrowRows.{each_of, under_header};
 
 use crate::narrow::header::is_point_header;
 use crate::narrow::name::{Name, names_differ, place_of};
@@ -111,6 +111,16 @@ fn each_point(alloc: Global, rows: &mut TableRows, row: &mut TableRow) -> Result
     Ok(Some(points))
 }
 
+// The points that the records left give, where the first of them is the header.
+fn points_under(alloc: Global, rows: &mut TableRows, row: &mut TableRow) -> Result<Option<Vec<Point>>, NoMemory>
+    ensures { IfOk result (λ read. option_map (λ points. points.items) read ≡ option_and_then (each_of point_of) (under_header point_header rows.old)) }
+{
+    if !rows.next(row)? || !is_point_header(row) {
+        return Ok(None);
+    }
+    each_point(alloc, rows, row)
+}
+
 /// The points of a table of at most 65536 bytes, where it is in the narrow form.
 pub fn read_points(alloc: Global, bytes: &[u8]) -> Result<Option<Points>, NoMemory>
     requires { length bytes.now ≤ 65536 }
@@ -121,10 +131,7 @@ pub fn read_points(alloc: Global, bytes: &[u8]) -> Result<Option<Points>, NoMemo
     }
     let mut rows = TableRows::open(alloc, bytes);
     let mut row = TableRow::new(alloc);
-    if !rows.next(&mut row)? || !is_point_header(&row) {
-        return Ok(None);
-    }
-    let Some(points) = each_point(alloc, &mut rows, &mut row)? else {
+    let Some(points) = points_under(alloc, &mut rows, &mut row)? else {
         return Ok(None);
     };
     points_from(alloc, points)
