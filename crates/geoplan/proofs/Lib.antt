@@ -3,3 +3,4 @@ pub mod NarrowRowLemmas
 pub mod NarrowTableLemmas
 pub mod NarrowNetworkLemmas
 pub mod NarrowLevelLemmas
+pub mod NarrowLemmas

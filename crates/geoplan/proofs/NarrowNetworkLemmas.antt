@@ -7,7 +7,7 @@ use Rattle.std.proofs.lemmas.Bool.{leb-true, and_parts}
 use Rattle.std.proofs.lemmas.Option.{same_Some, none-some}
 use Rattle.std.proofs.lemmas.List.Elements.{All-nil, All-cons, All-append, All-weaker, All-map, All-head}
 use Rattle.std.proofs.lemmas.List.Sums.{sum_by-le, count_by-le-length}
-use Rattle.std.specs.Prelude.{All, AllPairs, IsNone, unsigned_abs, sum_by, count_by}
+use Rattle.std.specs.Prelude.{All, AllPairs, IsNone, unsigned_abs, int_lt, sum_by, count_by}
 use Rattle.std.specs.Int.{int_max}
 use Rattle.geo_model.specs.Row.{Entries, RowOf, IsSparse, IsRow, total_size, unit_at}
 use Rattle.geo_model.specs.Candidate.{CandidateOf, IsCandidate}
@@ -154,7 +154,7 @@ height_load candidates limit least most =
       });
       columns = All-one (λ square. All (λ entry. entry.0 < 1) square.entries) height_square (All-one (λ entry. entry.0 < 1) (0, pos 1) (lit< tt));
       total = lit< tt;
-      diagonal = λ i inside. height_diagonal i _ inside;
+      diagonal = λ i inside. height_diagonal i (pos (2 ^ 12) *ℤ (pos (limit * limit) *ℤ full_energy candidates (unit_at i))) inside;
     }
 
 -- the network of a new point and candidates of one narrow row keeps the bounds of a network
@@ -174,7 +174,7 @@ network_bounds new candidates least most few each =
         owner = λ owner is. absurd (none-some owner is);
         unowned = λ point. refl;
       });
-      one_limit = λ i. count_by-le-length _ (height_limit new ∷ []);
+      one_limit = λ i. count_by-le-length (λ limit. is_point_limit limit.kind && int_lt (pos 0) (load limit.squares (unit_at i))) (height_limit new ∷ []);
     }
 
 -- and it is narrow

@@ -1,12 +1,13 @@
 ghost use Rattle.std.specs.Prelude.{◌≡◌, ◌≤◌, length, IfOk, IfSome};
-ghost use Rattle.geoplan.specs.Narrow.{height_limit, narrow_tables};
+ghost use Rattle.geoplan.specs.Narrow.{height_limit, network_of, narrow_tables};
+ghost use Rattle.geo_model.specs.Network.{IsNetwork};
 ghost use Rattle.geoplan.specs.NarrowNetwork.{IsNarrowNetwork};
 
 use crate::narrow::levels::read_levels;
 use crate::narrow::name::Name;
 use crate::narrow::points::{NewPoint, read_points};
 use geo_base::NoMemory;
-use geo_model::{Component, Limit, LimitKind, Network, Square, Unknown};
+use geo_model::{Candidate, Component, Limit, LimitKind, Network, Square, Unknown};
 use std::alloc::Global;
 use std::marker::Model;
 
@@ -60,11 +61,27 @@ fn height_limit(alloc: Global, new: NewPoint) -> Result<Limit, NoMemory>
     })
 }
 
+// The network of a new point and its candidates.
+fn network_of(alloc: Global, new: NewPoint, candidates: Vec<Candidate>) -> Result<Network, NoMemory>
+    requires limit { new.limit ≤ 1000 }
+    requires bounds { IsNetwork (network_of new candidates.items) }
+    ensures { IfOk result (λ network. network ≡ network_of new candidates.items) }
+{
+    let unknown = Unknown {
+        point: new.number,
+        component: Component::Z,
+    };
+    let unknowns = vec![in alloc; unknown]?;
+    let limits = vec![in alloc; height_limit(alloc, new)?]?;
+    Ok(Network::new(unknowns, candidates, limits))
+}
+
 /// What two tables of at most 65536 bytes each give, where both are in the narrow form.
 pub fn read_narrow(alloc: Global, points: &[u8], candidates: &[u8]) -> Result<Option<NarrowTables>, NoMemory>
     requires { length points.now ≤ 65536 }
     ensures read { IfOk result (λ read. read ≡ narrow_tables points.now candidates.now) }
     ensures narrow { IfOk result (λ read. IfSome read (λ tables. IsNarrowNetwork tables.network)) }
+    ensures named { IfOk result (λ read. IfSome read (λ tables. length tables.names ≡ length tables.network.candidates)) }
 {
     let Some(points) = read_points(alloc, points)? else {
         return Ok(None);
@@ -74,12 +91,6 @@ pub fn read_narrow(alloc: Global, points: &[u8], candidates: &[u8]) -> Result<Op
     };
     let new = points.new_point();
     let (names, candidates) = levels.into_parts();
-    let unknown = Unknown {
-        point: new.number,
-        component: Component::Z,
-    };
-    let unknowns = vec![in alloc; unknown]?;
-    let limits = vec![in alloc; height_limit(alloc, new)?]?;
-    let network = Network::new(unknowns, candidates, limits);
+    let network = network_of(alloc, new, candidates)?;
     Ok(Some(NarrowTables { names, network }))
 }
