@@ -6,6 +6,8 @@ mod name;
 mod point;
 mod points;
 mod tables;
+#[cfg(test)]
+mod tests;
 mod text;
 
 pub use name::Name;
