@@ -1,0 +1,6 @@
+pub mod NarrowTextLemmas
+pub mod NarrowRowLemmas
+pub mod NarrowTableLemmas
+pub mod NarrowNetworkLemmas
+pub mod NarrowLevelLemmas
+pub mod NarrowLemmas

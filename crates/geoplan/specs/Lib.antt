@@ -1,0 +1,6 @@
+pub mod NarrowText
+pub mod NarrowRows
+pub mod NarrowPoints
+pub mod NarrowCandidates
+pub mod Narrow
+pub mod NarrowNetwork

@@ -1,0 +1,6 @@
+//! Plans for control networks.
+#![tactic(auto)]
+
+mod narrow;
+
+pub use narrow::{Name, NarrowTables, read_narrow};

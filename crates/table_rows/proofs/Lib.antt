@@ -1,0 +1,3 @@
+pub mod FieldTextFacts
+pub mod ReadingFacts
+pub mod RowsFacts

@@ -1,0 +1,4 @@
+pub mod FieldText
+pub mod Mark
+pub mod Rows
+pub mod Reading
