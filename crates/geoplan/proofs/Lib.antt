@@ -4,3 +4,5 @@ pub mod NarrowTableLemmas
 pub mod NarrowNetworkLemmas
 pub mod NarrowLevelLemmas
 pub mod NarrowLemmas
+pub mod CommandLemmas
+pub mod TextLemmas
