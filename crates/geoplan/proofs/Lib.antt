@@ -6,3 +6,5 @@ pub mod NarrowLevelLemmas
 pub mod NarrowLemmas
 pub mod CommandLemmas
 pub mod TextLemmas
+pub mod InputLemmas
+pub mod LoadLemmas
