@@ -8,3 +8,4 @@ pub mod CommandLemmas
 pub mod TextLemmas
 pub mod InputLemmas
 pub mod LoadLemmas
+pub mod SolveLemmas

@@ -12,5 +12,6 @@ pub mod Input
 pub mod Standing
 pub mod Loading
 pub mod Solving
+pub mod Reporting
 
 
