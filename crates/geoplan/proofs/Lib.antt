@@ -9,3 +9,4 @@ pub mod TextLemmas
 pub mod InputLemmas
 pub mod LoadLemmas
 pub mod SolveLemmas
+pub mod PrintLemmas

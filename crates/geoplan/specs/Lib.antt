@@ -13,5 +13,6 @@ pub mod Standing
 pub mod Loading
 pub mod Solving
 pub mod Reporting
+pub mod Printing
 
 

@@ -6,6 +6,7 @@ mod command;
 mod load;
 mod narrow;
 mod report;
+mod run;
 mod solve;
 mod status;
 mod words;
