@@ -1,1 +1,5 @@
+pub mod Digits
+pub mod Grammar
+pub mod Reading
 pub mod WholeText
+pub mod Writing
