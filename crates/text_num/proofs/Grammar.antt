@@ -1,13 +1,13 @@
 -- The function that gives a decimal's value is the grammar, in both directions.
-use Rattle.std.proofs.Common.{◌≡◌, ℕ, zero, suc, ◌+◌, ◌-◌, ◌*◌, ◌^◌, ◌<◌, ◌≤◌, Bool, true, false, ◌&&◌, ◌==◌, nat_le, cond, List, [], ◌∷◌, ◌++◌, length, take, drop, arith, ap, ap₂, sym, ◌∙◌, refl, subst, inl, inr, ◌⊎◌, Option, None, Some, rules}
-use Rattle.std.specs.Prelude.{ℤ, pos, negsuc, neg_ℤ, unsigned_abs}
+use Rattle.std.proofs.Common.{◌≡◌, ℕ, zero, suc, ◌+◌, ◌*◌, ◌^◌, ◌<◌, ◌≤◌, Bool, true, false, ◌&&◌, ◌==◌, nat_le, cond, List, [], ◌∷◌, ◌++◌, length, take, drop, arith, ap, sym, ◌∙◌, refl, inl, inr, ◌⊎◌, Option, None, Some}
+use Rattle.std.specs.Prelude.{ℤ, pos, neg_ℤ, unsigned_abs}
 use Rattle.std.specs.Char.{is_ascii_digit}
 use Rattle.std.specs.Int.{IsInRange}
 use Rattle.std.proofs.lemmas.Str.Parse.{digit_from_value}
-use Rattle.std.specs.List.{list_all, prefix_len, AllByRecursion}
+use Rattle.std.specs.List.{list_all, AllByRecursion}
 use Rattle.std.specs.Option.{option_map}
-use Rattle.std.specs.Str.Parse.{digits_value, AllDigits}
-use Rattle.std.proofs.lemmas.Bool.{cases_Bool, and_parts, eqb-true, eqb-false, leb-true, le-leb, eq-eqb, ne_eqb}
+use Rattle.std.specs.Str.Parse.{digits_value}
+use Rattle.std.proofs.lemmas.Bool.{and_parts, eqb-true, leb-true, le-leb, eq-eqb, ne_eqb}
 use Rattle.std.proofs.lemmas.List.{take-append-drop}
 use Rattle.std.proofs.lemmas.List.Folds.{length-prefix_len}
 use Rattle.std.proofs.Math.Nat.{one-le-pow}
@@ -168,10 +168,10 @@ unfolding decimal_of
 decimal_sound places [] value is = absurd (cc)
 decimal_sound places (c ∷ text) value is =
     elim (branch (c == 45) _ _ _ is) [
-      inl here ↦ signed_parts places (c ∷ text) minus text value (ap (λ t. t ∷ text) (eqb-true c 45 here.0)) here.1
-    | inr other ↦ elim (branch (c == 43) _ _ _ other.1) [
-        inl here ↦ signed_parts places (c ∷ text) plus text value (ap (λ t. t ∷ text) (eqb-true c 43 here.0)) here.1
-      | inr none ↦ signed_parts places (c ∷ text) unsigned (c ∷ text) value refl none.1
+      | inl here ↦ signed_parts places (c ∷ text) minus text value (ap (λ t. t ∷ text) (eqb-true c 45 here.0)) here.1
+      | inr other ↦ elim (branch (c == 43) _ _ _ other.1) [
+        | inl here ↦ signed_parts places (c ∷ text) plus text value (ap (λ t. t ∷ text) (eqb-true c 43 here.0)) here.1
+        | inr none ↦ signed_parts places (c ∷ text) unsigned (c ∷ text) value refl none.1
       ]
     ]
 

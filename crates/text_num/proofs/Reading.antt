@@ -1,17 +1,16 @@
 -- What the steps of reading give, as the words of the grammar.
-use Rattle.std.proofs.Common.{◌≡◌, ℕ, zero, suc, ◌+◌, ◌-◌, ◌*◌, ◌^◌, ◌<◌, ◌≤◌, Bool, true, false, ◌&&◌, ◌==◌, nat_le, cond, List, [], ◌∷◌, ◌++◌, length, take, drop, min, arith, ap, ap₂, sym, ◌∙◌, refl, subst, inl, inr, ◌⊎◌, Option, None, Some, rules}
+use Rattle.std.proofs.Common.{◌≡◌, ℕ, ◌+◌, ◌-◌, ◌*◌, ◌^◌, ◌<◌, ◌≤◌, true, false, ◌&&◌, ◌==◌, nat_le, cond, List, [], ◌∷◌, length, take, drop, min, arith, ap, ap₂, sym, ◌∙◌, refl, subst, inl, inr, ◌⊎◌, Option, None, Some}
 use Rattle.std.specs.Prelude.{ℤ, pos, neg_ℤ, unsigned_abs, IfSome, IfNone}
 use Rattle.std.specs.Char.{is_ascii_digit}
 use Rattle.std.specs.List.{list_all}
 use Rattle.std.specs.Option.{option_map}
 use Rattle.std.specs.Str.Parse.{digits_value}
 use Rattle.std.proofs.lemmas.Bool.{cases_lt, eq-eqb, ne_eqb, lt-leb, le-leb}
-use Rattle.std.proofs.lemmas.List.Folds.{length-prefix_len}
 use Rattle.std.proofs.lemmas.Nat.{mul-le}
 use Rattle.std.proofs.Math.Nat.{pow-le-pow_right}
 use Rattle.std.proofs.lemmas.List.{take_all, length-drop}
 use Rattle.text_num.specs.Decimal.{IsDecimal, fraction_value, is_fraction, fraction_of, digit_count, unsigned_of, decimal_of}
-use Rattle.text_num.proofs.Digits.{AllDigits-from_test, AllDigits-take, test-from_AllDigits, front_passes}
+use Rattle.text_num.proofs.Digits.{AllDigits-take, test-from_AllDigits}
 use Rattle.text_num.proofs.Grammar.{digits_from_test, fraction_of-below, unsigned_of-below, decimal_sound, decimal_complete, decimal_of-below}
 
 -- ---- the digits after the point
@@ -38,9 +37,9 @@ fraction_digits p kept ds form = test-from_AllDigits (take kept ds) (AllDigits-t
 
 kept_front : (p : ℕ) (ds : List ℕ) → take (min (length ds) p) ds ≡ take p ds
 kept_front p ds = elim (cases_lt p (length ds)) [
-    inl more ↦ ap (λ k. take k ds) (omega arith)
+  | inl more ↦ ap (λ k. take k ds) (omega arith)
   | inr all ↦ ap (λ k. take k ds) (omega arith) ∙ take_all (length ds) ds (omega arith) ∙ sym (take_all p ds all)
-  ]
+]
 
 pub fraction_of-computed : (p kept a b c : ℕ) (t ds : List ℕ) → t ≡ c ∷ ds → c ≡ 46 → is_fraction p ds ≡ true → kept ≡ min (length ds) p → a ≡ digits_value 10 (take kept ds) → b ≡ 10 ^ (p - kept) → Some (a * b) ≡ fraction_of p t
 unfolding fraction_of

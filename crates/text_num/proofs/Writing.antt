@@ -1,17 +1,16 @@
 -- What is written is in the grammar, with the value that was written.
-use Rattle.std.proofs.Common.{◌≡◌, ℕ, zero, suc, ◌+◌, ◌-◌, ◌*◌, ◌/◌, ◌%◌, ◌^◌, ◌<◌, ◌≤◌, List, [], ◌∷◌, ◌++◌, length, take, drop, arith, ap, ap₂, sym, ◌∙◌, refl, subst, inl, inr, Option, None, Some}
-use Rattle.std.specs.Prelude.{ℤ, pos, negsuc, neg_ℤ, unsigned_abs}
+use Rattle.std.proofs.Common.{◌≡◌, ℕ, zero, suc, ◌+◌, ◌-◌, ◌*◌, ◌/◌, ◌%◌, ◌^◌, ◌<◌, ◌≤◌, List, [], ◌∷◌, ◌++◌, length, take, drop, arith, ap, ap₂, sym, ◌∙◌, refl, subst, Option, None, Some}
+use Rattle.std.specs.Prelude.{ℤ, pos, negsuc, unsigned_abs}
 use Rattle.std.specs.Char.{digit_value}
-use Rattle.std.specs.Int.{IsInRange}
 use Rattle.std.specs.List.{AllByRecursion}
 use Rattle.std.specs.Fmt.{decimal}
-use Rattle.std.specs.Str.Parse.{AllDigits, digits_value, digits_value_after, IsNumeral}
+use Rattle.std.specs.Str.Parse.{AllDigits, digits_value, digits_value_after}
 use Rattle.std.proofs.lemmas.Fmt.{decimal_is_IsNumeral_wide, length-decimal-le_wide}
 use Rattle.std.proofs.lemmas.Nat.{div_below, pow-add, mod_below, div-add-mod', mod-mul-add}
 use Rattle.std.proofs.lemmas.Str.{digit_value_digit}
 use Rattle.std.proofs.Math.Nat.{one-le-pow, pow-suc, mul-le-mul_right}
 use Rattle.std.proofs.Math.Seq.{drop-length, take-length}
-use Rattle.text_num.specs.Decimal.{Sign, unsigned, minus, sign_text, with_sign, IsNumeralUpTo, fraction_text, IsFractionDigits, IsFraction, fraction_value, IsDecimal, decimal_of}
+use Rattle.text_num.specs.Decimal.{Sign, unsigned, minus, sign_text, with_sign, fraction_text, IsFraction, fraction_value, IsDecimal, decimal_of}
 use Rattle.text_num.specs.DecimalText.{last_digits, minus_text, point_text, decimal_text}
 use Rattle.text_num.proofs.Grammar.{decimal_complete}
 
@@ -131,7 +130,7 @@ decimal_text-IsDecimal value places few small =
     let numeral = decimal_is_IsNumeral_wide (n / u) (omega arith) in
     let long : length (decimal (n / u)) ≤ 12 = length-decimal-le_wide 12 (n / u) (omega arith) whole_small (omega arith) in
     let back : n ≡ digits_value 10 (decimal (n / u)) * u + fraction_value places (fraction_for places n) =
-        sym (ap₂ (λ s t. s * u + t) numeral.1 (fraction_worth places n) ∙ div-add-mod' n u) in
+    sym (ap₂ (λ s t. s * u + t) numeral.1 (fraction_worth places n) ∙ div-add-mod' n u) in
     record {
       sign = sign_for value;
       whole = decimal (n / u);

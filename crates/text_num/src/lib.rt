@@ -1,10 +1,12 @@
 //! Decimal numbers as text: reading them, and writing them without a leading zero.
 #![tactic(auto)]
 
-mod power;
 mod laws;
+mod power;
 mod put;
 mod read;
+#[cfg(test)]
+mod tests;
 mod whole;
 
 pub use laws::{decimals_are_the_grammar, whole_texts_are_apart, written_decimals_are_read};

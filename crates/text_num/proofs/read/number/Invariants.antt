@@ -6,5 +6,5 @@ use Rattle.text_num.proofs.read.number.Given as goal
 abbrev pub invariant-loop-c : goal.invariant-loop-c
 invariant-loop-c l = record {
   value : l.sum ≡ digits_value 10 (take l.c-index l.digits);
-  small : l.sum < 10 ^ l.c-index
+  small : l.sum < 10 ^ l.c-index;
 }

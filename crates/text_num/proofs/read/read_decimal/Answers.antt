@@ -1,4 +1,4 @@
-use Rattle.std.proofs.Common.{◌≡◌, sym, ap, ◌∙◌}
+use Rattle.std.proofs.Common.{sym, ap, ◌∙◌}
 use Rattle.std.specs.Prelude.{pos, neg_ℤ}
 use Rattle.std.specs.Option.{option_map}
 use Rattle.text_num.proofs.Reading.{unsigned_room, decimal_of-empty, decimal_of-minus, decimal_of-plus, decimal_of-unsigned, answer-read, answer-none, answer-size}
