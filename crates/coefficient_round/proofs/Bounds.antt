@@ -1,10 +1,10 @@
 -- The nearest number lies between whole bounds of the quotient; the parts of a line are at most as long as it.
-use Rattle.std.proofs.Common.{◌≡◌, ℕ, zero, suc, ◌+◌, ◌-◌, ◌*◌, ◌/◌, ◌^◌, ◌<◌, ◌≤◌, arith, ap, sym, ◌∙◌, refl, subst, inl, inr, ◌⊎◌}
-use Rattle.std.specs.Prelude.{ℤ, pos, negsuc, neg_ℤ, ◌+ℤ◌, ◌-ℤ◌, ◌*ℤ◌, ◌≤ℤ◌, ◌<ℤ◌, unsigned_abs}
+use Rattle.std.proofs.Common.{◌≡◌, ℕ, ◌*◌, ◌^◌, ◌<◌, ◌≤◌, arith, inl, inr, ◌⊎◌}
+use Rattle.std.specs.Prelude.{ℤ, pos, negsuc, ◌+ℤ◌, ◌*ℤ◌, ◌≤ℤ◌, ◌<ℤ◌, unsigned_abs}
 use Rattle.std.proofs.lemmas.Bool.{cases_lt}
-use Rattle.std.proofs.lemmas.Int.{ints, by_lt_z, unsigned_abs-mul}
+use Rattle.std.proofs.lemmas.Int.{ints, by_lt_z}
 use Rattle.std.proofs.lemmas.Nat.{mul-le}
-use Rattle.geo_base.specs.Division.{IsNearest, distance}
+use Rattle.geo_base.specs.Division.{IsNearest}
 use Rattle.geo_base.proofs.Rounding.{mul_keeps_order, add-*ℤ, nearest_of-IsNearest}
 use Rattle.std.proofs.Math.Nat.{mul-pos}
 use Rattle.coefficient_round.specs.Coefficient.{square, square_length, direction_coefficient, weight_for}
@@ -28,16 +28,15 @@ nearest-at_most n d q high some near bound = by_lt_z high q
 
 -- a part of a line is at most as long as the line
 pub part-within : (part dx dy : ℤ) → (part ≡ dx) ⊎ (part ≡ dy) → square (unsigned_abs part) ≤ square_length dx dy
-unfolding square_length
 part-within part dx dy (inl is) = rw is (omega arith)
 part-within part dx dy (inr is) = rw is (omega arith)
 
 -- the square of a part over the part is the part: a long line has a short part over its square
 pub part_room : (a d : ℕ) → square a ≤ d → 10 ^ 8 ≤ d → a * 10000 ≤ d
 part_room a d within long = elim (cases_lt a 10000) [
-    inl short ↦ omega arith
+  | inl short ↦ omega arith
   | inr more ↦ let rows : a * 10000 ≤ square a = mul-le a 10000 a a (omega arith) more in omega arith
-  ]
+]
 
 -- the coefficient of a direction is at most a radian's
 pub direction-size : (part : ℤ) (d : ℕ) (q : ℤ) → square (unsigned_abs part) ≤ d → 10 ^ 8 ≤ d → IsNearest (pos 6366200000 *ℤ part) (pos d) q → unsigned_abs q ≤ 636620

@@ -1,5 +1,5 @@
 -- The root of a quotient gives the coefficient of a distance, and its inequalities allow one number alone.
-use Rattle.std.proofs.Common.{◌≡◌, ℕ, zero, suc, ◌+◌, ◌-◌, ◌*◌, ◌/◌, ◌^◌, ◌<◌, ◌≤◌, Bool, true, false, cond, nat_le, arith, ap, sym, ◌∙◌, refl, subst, inl, inr, ◌⊎◌}
+use Rattle.std.proofs.Common.{◌≡◌, ℕ, zero, suc, ◌+◌, ◌-◌, ◌*◌, ◌/◌, ◌<◌, ◌≤◌, true, false, cond, arith, ap, sym, ◌∙◌, refl, subst, inl, inr, ◌⊎◌}
 use Rattle.std.specs.Prelude.{ℤ, pos, negsuc, neg_ℤ, ◌≤ℤ◌, ◌<ℤ◌, unsigned_abs}
 use Rattle.std.proofs.lemmas.Bool.{cases_lt, le-leb, lt-leb}
 use Rattle.std.proofs.lemmas.Int.{ints, by_lt_z}
@@ -40,13 +40,13 @@ pub half_root-size : (x d r c : ℕ) → IsHalfRoot x d r c → x ≤ 400000000 
 half_root-size x d r c is short =
     let half : c ≡ (r + 1) / 2 = is.half in
     let ratio : x / d ≤ 400000000 = elim (cases_lt 400000000 (x / d)) [
-        inl more ↦ absurd (let times : (400000000 + 1) * d ≤ x / d * d = mul-le-mul_right d more in omega (arith, is.some, div-mul-le_self x d))
+      | inl more ↦ absurd (let times : (400000000 + 1) * d ≤ x / d * d = mul-le-mul_right d more in omega (arith, is.some, div-mul-le_self x d))
       | inr most ↦ most
-      ] in
+    ] in
     let root : r ≤ 20000 = elim (cases_lt 20000 r) [
-        inl more ↦ absurd (let squares : square 20001 ≤ square r = square_grows 20001 r more in omega (arith, is.root))
+      | inl more ↦ absurd (let squares : square 20001 ≤ square r = square_grows 20001 r more in omega (arith, is.root))
       | inr most ↦ most
-      ] in
+    ] in
     omega arith
 
 -- what lies above the coefficient is not reached
@@ -60,7 +60,7 @@ pub greatest_reached-is : (part d most c : ℕ) → c ≤ most → (0 < c → Re
 unfolding greatest_reached
 greatest_reached-is part d zero c within reached next = omega arith
 greatest_reached-is part d (suc most) c within reached next = elim (cases_lt c (suc most)) [
-    inl below ↦
+  | inl below ↦
       let test : reaches part d (suc most) ≡ false = lt-leb (square (2 * suc most - 1) * d) (4 * square 10000 * square part) (too_large part d c (suc most) next below) in
       ap (λ b. cond b (suc most) (greatest_reached part d most)) test ∙ greatest_reached-is part d most c (omega arith) reached next
   | inr here ↦
@@ -68,7 +68,7 @@ greatest_reached-is part d (suc most) c within reached next = elim (cases_lt c (
       let at : Reaches part d (suc most) = subst (Reaches part d) (sym same) (reached (omega arith)) in
       let test : reaches part d (suc most) ≡ true = le-leb (square (2 * suc most - 1) * d) (4 * square 10000 * square part) at in
       ap (λ b. cond b (suc most) (greatest_reached part d most)) test ∙ same
-  ]
+]
 
 -- ---- the sign
 
@@ -113,11 +113,11 @@ greatest_reached-below : (part d most : ℕ) → greatest_reached part d most �
 unfolding greatest_reached
 greatest_reached-below part d zero = omega arith
 greatest_reached-below part d (suc most) = elim (cases_lt (4 * square 10000 * square part) (square (2 * suc most - 1) * d)) [
-    inl more ↦ let same = ap (λ b. cond b (suc most) (greatest_reached part d most)) (lt-leb (square (2 * suc most - 1) * d) (4 * square 10000 * square part) more) in
+  | inl more ↦ let same = ap (λ b. cond b (suc most) (greatest_reached part d most)) (lt-leb (square (2 * suc most - 1) * d) (4 * square 10000 * square part) more) in
       omega (arith, same, greatest_reached-below part d most)
   | inr here ↦ let same = ap (λ b. cond b (suc most) (greatest_reached part d most)) (le-leb (square (2 * suc most - 1) * d) (4 * square 10000 * square part) here) in
       omega (arith, same)
-  ]
+]
 
 -- where the number past the last is too large, the greatest one is the coefficient's size
 pub record IsGreatest (part d c : ℕ) : Type 0 where
@@ -128,7 +128,7 @@ greatest_reached-facts : (part d most : ℕ) → 4 * square 10000 * square part 
 unfolding greatest_reached
 greatest_reached-facts part d zero large = record { reached = λ some. absurd (omega arith); next_above = large }
 greatest_reached-facts part d (suc most) large = elim (cases_lt (4 * square 10000 * square part) (square (2 * suc most - 1) * d)) [
-    inl more ↦
+  | inl more ↦
       let same : greatest_reached part d (suc most) ≡ greatest_reached part d most = ap (λ b. cond b (suc most) (greatest_reached part d most)) (lt-leb (square (2 * suc most - 1) * d) (4 * square 10000 * square part) more) in
       let odd : 2 * suc most - 1 ≡ 2 * most + 1 = omega arith in
       let less : 4 * square 10000 * square part < square (2 * most + 1) * d = subst (λ k. 4 * square 10000 * square part < square k * d) odd more in
@@ -136,7 +136,7 @@ greatest_reached-facts part d (suc most) large = elim (cases_lt (4 * square 1000
   | inr here ↦
       let same : greatest_reached part d (suc most) ≡ suc most = ap (λ b. cond b (suc most) (greatest_reached part d most)) (le-leb (square (2 * suc most - 1) * d) (4 * square 10000 * square part) here) in
       subst (IsGreatest part d) (sym same) (record { reached = λ some. here; next_above = large })
-  ]
+]
 
 with_sign_of-size : (z : ℤ) (n : ℕ) → unsigned_abs (with_sign_of z n) ≡ n
 with_sign_of-size (pos m) n = refl
@@ -168,5 +168,5 @@ IsDistanceCoefficient-unique part d a b one other =
     let first : unsigned_abs b ≤ unsigned_abs a = elim (cases_lt (unsigned_abs a) (unsigned_abs b)) [ inl less ↦ absurd (sizes_apart (unsigned_abs part) d (unsigned_abs a) (unsigned_abs b) one.next_above other.reached less) | inr le ↦ le ] in
     let second : unsigned_abs a ≤ unsigned_abs b = elim (cases_lt (unsigned_abs b) (unsigned_abs a)) [ inl less ↦ absurd (sizes_apart (unsigned_abs part) d (unsigned_abs b) (unsigned_abs a) other.next_above one.reached less) | inr le ↦ le ] in
     by_lt_z part (pos 0)
-      (λ below. let low : part ≤ℤ pos 0 = omega (arith, ints) in omega (arith, ints, one.not_positive low, other.not_positive low))
-      (λ low. omega (arith, ints, one.not_negative low, other.not_negative low))
+    (λ below. let low : part ≤ℤ pos 0 = omega (arith, ints) in omega (arith, ints, one.not_positive low, other.not_positive low))
+    (λ low. omega (arith, ints, one.not_negative low, other.not_negative low))

@@ -1,13 +1,13 @@
 -- The whole numbers that stand for the coefficients of distances and directions, and for weights. They come
 -- from the usual bearing equations of plane networks; the units and the rounding are this project's own.
-use Rattle.std.specs.Prelude.{◌≡◌, ℕ, zero, suc, ◌+◌, ◌-◌, ◌*◌, ◌^◌, ◌<◌, ◌≤◌, nat_le, Bool, ℤ, pos, negsuc, neg_ℤ, ◌*ℤ◌, ◌≤ℤ◌, unsigned_abs, if◌then◌else◌}
+use Rattle.std.specs.Prelude.{ℕ, zero, suc, ◌+◌, ◌-◌, ◌*◌, ◌^◌, ◌<◌, ◌≤◌, nat_le, Bool, ℤ, pos, negsuc, neg_ℤ, ◌*ℤ◌, ◌≤ℤ◌, unsigned_abs, if◌then◌else◌}
 use Rattle.geo_base.specs.Division.{nearest_of}
 
 abbrev pub square : ℕ → ℕ
 square n = n * n
 
 -- the square of the length of a line with these parts, in square millimetres
-unfoldable pub square_length : ℤ → ℤ → ℕ
+abbrev pub square_length : ℤ → ℤ → ℕ
 square_length dx dy = square (unsigned_abs dx) + square (unsigned_abs dy)
 
 -- (2 c - 1) ^ 2 * D is at most 4 * 10000 ^ 2 * part ^ 2: the ratio of part to the length, times 10000, is c - 1/2 or more

@@ -15,5 +15,8 @@ pub fn dir_coef(part: i64, dx: i64, dy: i64) -> i64
     ensures nearest { IsNearest (pos 6366200000 *ℤ part) (pos (square_length dx dy)) result }
     ensures size { unsigned_abs result ≤ 636620 }
 {
-    nearest(6366200000 * i128::from(part), length_squared(dx, dy) as i128) as i64
+    nearest(
+        6366200000 * i128::from(part),
+        length_squared(dx, dy) as i128,
+    ) as i64
 }

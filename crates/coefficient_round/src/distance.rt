@@ -15,7 +15,11 @@ pub fn dist_coef(part: i64, dx: i64, dy: i64) -> i64
     ensures size { unsigned_abs result ≤ 10000 }
 {
     let size = coefficient_size(u128::from(part.unsigned_abs()), length_squared(dx, dy));
-    if part < 0 { 0 - size as i64 } else { size as i64 }
+    if part < 0 {
+        0 - size as i64
+    } else {
+        size as i64
+    }
 }
 
 // The size of the coefficient, for a part that is not longer than its line.

@@ -7,8 +7,7 @@ pub fn distance_coefficients_are_rounded()
     ensures rounded { (part dx dy : ℤ) → (part ≡ dx) ⊎ (part ≡ dy) → 0 < square_length dx dy → IsDistanceCoefficient part (square_length dx dy) (distance_coefficient part dx dy) }
     ensures size { (part dx dy : ℤ) → unsigned_abs (distance_coefficient part dx dy) ≤ 10000 }
     ensures only { (part : ℤ) (length_squared : ℕ) (c d : ℤ) → IsDistanceCoefficient part length_squared c → IsDistanceCoefficient part length_squared d → c ≡ d }
-{
-}
+{}
 
 /// The coefficients of directions and the weights are the nearest whole numbers.
 pub fn directions_and_weights_are_nearest()
@@ -16,5 +15,4 @@ pub fn directions_and_weights_are_nearest()
     ensures direction_size { (part dx dy : ℤ) → (part ≡ dx) ⊎ (part ≡ dy) → 10 ^ 8 ≤ square_length dx dy → unsigned_abs (direction_coefficient part dx dy) ≤ 636620 }
     ensures weight { (u : ℕ) → 0 < u → IsNearest (pos (10 ^ 8)) (pos (square u)) (weight_for u) }
     ensures only { (n d p q : ℤ) → pos 0 <ℤ d → IsNearest n d p → IsNearest n d q → p ≡ q }
-{
-}
+{}

@@ -1,4 +1,4 @@
-use Rattle.std.proofs.Common.{ℕ, ◌≡◌, ◌+◌, ◌*◌, ◌/◌, ◌<◌, ◌≤◌, refl, sym, arith}
+use Rattle.std.proofs.Common.{◌+◌, ◌*◌, ◌/◌, refl, sym, arith}
 use Rattle.coefficient_round.specs.Coefficient.{square}
 use Rattle.coefficient_round.proofs.Ratio.{IsHalfRoot, half_root-reached, half_root-next, half_root-size, greatest_reached-is}
 use Rattle.coefficient_round.proofs.distance.coefficient_size.Goals as goal
@@ -12,8 +12,8 @@ returns-clause-size c = half_root-size _ c.args.length_squared c.root_floor.resu
 pub returns-clause-value : goal.returns-clause-value
 returns-clause-value c =
     sym (greatest_reached-is c.args.part c.args.length_squared 10000 ((c.root_floor.result + 1) / 2) (returns-clause-size c)
-      (half_root-reached _ c.args.length_squared c.root_floor.result _ (root_of c))
-      (half_root-next _ c.args.length_squared c.root_floor.result _ (root_of c)))
+    (half_root-reached _ c.args.length_squared c.root_floor.result _ (root_of c))
+    (half_root-next _ c.args.length_squared c.root_floor.result _ (root_of c)))
 
 pub returns-clause-reached : goal.returns-clause-reached
 returns-clause-reached c = half_root-reached _ c.args.length_squared c.root_floor.result _ (root_of c)

@@ -46,11 +46,11 @@ rounded part dx dy n sized = signed_coefficient part (square_length dx dy) n siz
 
 sized_from : (part dx dy : ℤ) (p l n : ℕ) → p ≡ unsigned_abs part → l ≡ square_length dx dy → 10 ^ 6 ≤ square_length dx dy → n ≡ greatest_reached p l 10000 → (0 < n → Reaches p l n) → 4 * square 10000 * square p < square (2 * n + 1) * l → n ≤ 10000 → Sized part dx dy n
 sized_from part dx dy p l n part_is length_is long value reached next small = record {
-    value = value ∙ ap₂ (λ a d. greatest_reached a d 10000) part_is length_is;
-    some = omega arith;
-    reached = subst (λ a. 0 < n → Reaches a (square_length dx dy) n) part_is (subst (λ d. 0 < n → Reaches p d n) length_is reached);
-    next_above = subst (λ a. 4 * square 10000 * square a < square (2 * n + 1) * square_length dx dy) part_is (subst (λ d. 4 * square 10000 * square p < square (2 * n + 1) * d) length_is next);
-    small = small;
+  value = value ∙ ap₂ (λ a d. greatest_reached a d 10000) part_is length_is;
+  some = omega arith;
+  reached = subst (λ a. 0 < n → Reaches a (square_length dx dy) n) part_is (subst (λ d. 0 < n → Reaches p d n) length_is reached);
+  next_above = subst (λ a. 4 * square 10000 * square a < square (2 * n + 1) * square_length dx dy) part_is (subst (λ d. 4 * square 10000 * square p < square (2 * n + 1) * d) length_is next);
+  small = small;
 }
 
 sized_below : (c : goal.Then-part-lt0) → Sized c.args.part c.args.dx c.args.dy c.coefficient_size-size.result
@@ -58,14 +58,14 @@ sized_below c =
     let part = simp (to_z-of_z, c.ranges.part) at c.unsigned_abs.ensures.value in
     let length = simp (to_z-of_z, c.ranges.dx, c.ranges.dy) at c.length_squared.ensures in
     sized_from c.args.part c.args.dx c.args.dy c.from.result c.length_squared.result c.coefficient_size-size.result (c.from.ensures ∙ part) length c.requires.least
-      c.coefficient_size-size.ensures.value c.coefficient_size-size.ensures.reached c.coefficient_size-size.ensures.next_above c.coefficient_size-size.ensures.size
+    c.coefficient_size-size.ensures.value c.coefficient_size-size.ensures.reached c.coefficient_size-size.ensures.next_above c.coefficient_size-size.ensures.size
 
 sized_other : (c : goal.Else-part-lt0) → Sized c.args.part c.args.dx c.args.dy c.coefficient_size-size.result
 sized_other c =
     let part = simp (to_z-of_z, c.ranges.part) at c.unsigned_abs.ensures.value in
     let length = simp (to_z-of_z, c.ranges.dx, c.ranges.dy) at c.length_squared.ensures in
     sized_from c.args.part c.args.dx c.args.dy c.from.result c.length_squared.result c.coefficient_size-size.result (c.from.ensures ∙ part) length c.requires.least
-      c.coefficient_size-size.ensures.value c.coefficient_size-size.ensures.reached c.coefficient_size-size.ensures.next_above c.coefficient_size-size.ensures.size
+    c.coefficient_size-size.ensures.value c.coefficient_size-size.ensures.reached c.coefficient_size-size.ensures.next_above c.coefficient_size-size.ensures.size
 
 pub returns-then-part-lt0-clause-value : goal.returns-then-part-lt0-clause-value
 returns-then-part-lt0-clause-value c =
@@ -76,8 +76,8 @@ pub returns-then-part-lt0-clause-rounded : goal.returns-then-part-lt0-clause-rou
 returns-then-part-lt0-clause-rounded c =
     let below : c.args.part <ℤ pos 0 = search rules in
     subst (IsDistanceCoefficient c.args.part (square_length c.args.dx c.args.dy))
-      (sym (negative_value c.args.part c.args.dx c.args.dy c.coefficient_size-size.result (sized_below c) below))
-      (rounded c.args.part c.args.dx c.args.dy c.coefficient_size-size.result (sized_below c))
+    (sym (negative_value c.args.part c.args.dx c.args.dy c.coefficient_size-size.result (sized_below c) below))
+    (rounded c.args.part c.args.dx c.args.dy c.coefficient_size-size.result (sized_below c))
 
 pub returns-else-part-lt0-clause-value : goal.returns-else-part-lt0-clause-value
 returns-else-part-lt0-clause-value c =
@@ -88,5 +88,5 @@ pub returns-else-part-lt0-clause-rounded : goal.returns-else-part-lt0-clause-rou
 returns-else-part-lt0-clause-rounded c =
     let low : pos 0 ≤ℤ c.args.part = search rules in
     subst (IsDistanceCoefficient c.args.part (square_length c.args.dx c.args.dy))
-      (sym (other_value c.args.part c.args.dx c.args.dy c.coefficient_size-size.result (sized_other c) low))
-      (rounded c.args.part c.args.dx c.args.dy c.coefficient_size-size.result (sized_other c))
+    (sym (other_value c.args.part c.args.dx c.args.dy c.coefficient_size-size.result (sized_other c) low))
+    (rounded c.args.part c.args.dx c.args.dy c.coefficient_size-size.result (sized_other c))
