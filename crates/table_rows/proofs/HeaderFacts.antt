@@ -1,6 +1,6 @@
 -- Texts compared one by one, byte order marks, and the header row.
-use Rattle.std.proofs.Common.{◌≡◌, ◌<◌, ◌+◌, ◌∙◌, ℕ, zero, suc, Bool, true, false, List, [], ◌∷◌, Option, Some, None, length, refl, sym, ap, drop, map, get_or, add-one}
-use Rattle.std.specs.Prelude.{if◌then◌else◌, ◌&&◌, ◌↔◌, IsTrue, IsUtf8, MatchResult, Result, Ok, Err, is_err, option_map, slice_get}
+use Rattle.std.proofs.Common.{◌≡◌, ◌<◌, ◌+◌, ◌∙◌, ℕ, zero, suc, Bool, true, false, List, [], ◌∷◌, Some, None, length, refl, sym, ap, drop, map, get_or, add-one}
+use Rattle.std.specs.Prelude.{if◌then◌else◌, IsUtf8, MatchResult, Result, Ok, Err, is_err, option_map, slice_get}
 use Rattle.std.specs.List.{list_all}
 use Rattle.std.specs.Str.{bytes_eq, is_utf8}
 use Rattle.std.proofs.lemmas.Bool.{and_parts, eqb-true, false_from_ne_true}

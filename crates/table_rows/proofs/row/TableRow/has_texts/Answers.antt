@@ -1,7 +1,6 @@
-use Rattle.std.proofs.Common.{◌≡◌, map, true, false, arith, sym, ◌∙◌, Bor, List, ℕ}
+use Rattle.std.proofs.Common.{◌≡◌, map, true, false, sym, ◌∙◌, Bor, List, ℕ}
 use Rattle.std.proofs.lemmas.Bool.{not-false, not-true}
 use Rattle.std.specs.Str.{bytes_eq}
-use Rattle.table_rows.specs.Header.{same_texts}
 use Rattle.table_rows.proofs.HeaderFacts.{at-map, texts-agree, texts-differ}
 use Rattle.table_rows.proofs.row.TableRow.has_texts.Goals as goal
 

@@ -1,4 +1,4 @@
-use Rattle.std.proofs.Common.{◌≡◌, length, drop, map}
+use Rattle.std.proofs.Common.{◌≡◌, drop, map}
 use Rattle.table_rows.specs.Header.{same_texts}
 use Rattle.table_rows.proofs.row.TableRow.has_texts.Given as goal
 

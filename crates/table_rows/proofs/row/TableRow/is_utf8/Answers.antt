@@ -1,4 +1,4 @@
-use Rattle.std.proofs.Common.{◌≡◌, true, false, sym, ◌∙◌}
+use Rattle.std.proofs.Common.{sym, ◌∙◌}
 use Rattle.std.specs.Str.{is_utf8}
 use Rattle.table_rows.proofs.HeaderFacts.{all-agree, all-differ, no-text, some-text}
 use Rattle.table_rows.proofs.row.TableRow.is_utf8.Goals as goal

@@ -1,6 +1,5 @@
-use Rattle.std.proofs.Common.{◌≡◌, true, false, map, Ok, ap, sym, ◌∙◌, Bor, List, ℕ}
+use Rattle.std.proofs.Common.{◌≡◌, true, false, Ok, ap, sym, ◌∙◌}
 use Rattle.std.proofs.lemmas.Bool.{iff_false}
-use Rattle.table_rows.specs.Header.{same_texts}
 use Rattle.table_rows.proofs.HeaderFacts.{under-header, under-marks, under-none, under-other}
 use Rattle.table_rows.proofs.rows.TableRows.under_header.Goals as goal
 use Rattle.table_rows.proofs.rows.TableRows.under_header.Goals.{else-branch-via-then-branch+else-has_texts, else-branch-via-else-branch}
