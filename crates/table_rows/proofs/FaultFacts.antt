@@ -3,7 +3,7 @@ use Rattle.std.proofs.Common.{◌≡◌, ◌+◌, ◌∙◌, ℕ, suc, Bool, tru
 use Rattle.std.specs.Prelude.{if◌then◌else◌, slice_get}
 use Rattle.std.specs.Option.{option_or}
 use Rattle.std.proofs.Math.Seq.{append_snoc}
-use Rattle.std.proofs.lemmas.List.{append-nil}
+use Rattle.std.proofs.lemmas.List.{append-nil, length-map}
 use Rattle.table_rows.specs.Faults.{CleanSoFar, Rule, TableRules, asked, asked_from, faults_at, faults_from, first_broken, first_fault}
 use Rattle.table_rows.specs.Header.{rows_under}
 use Rattle.table_rows.proofs.HeaderFacts.{under-rest}
@@ -102,14 +102,14 @@ unfolding asked_from faults_from
 clean-start table rows left e = record { whole = e; clean = refl }
 
 -- one more record that breaks no rule
-pub clean-next : {K : Type 0} (table : TableRules K) (rows seen left rest : List (List (List ℕ))) (row : List (List ℕ)) → CleanSoFar table rows seen left → left ≡ row ∷ rest
-    → first_broken (table.rules (length seen + 2) row seen) ≡ None → CleanSoFar table rows (seen ++ row ∷ []) rest
+pub clean-next : {K : Type 0} (table : TableRules K) (rows seen left rest : List (List (List ℕ))) (row : List (List ℕ)) (number : ℕ) → CleanSoFar table rows seen left
+    → left ≡ row ∷ rest → number ≡ length seen + 2 → first_broken (table.rules number row seen) ≡ None → CleanSoFar table rows (seen ++ row ∷ []) rest
 unfolding asked_from faults_from
-clean-next table rows seen left rest row so_far e kept = record {
+clean-next table rows seen left rest row number so_far e n kept = record {
   whole = so_far.whole ∙ rw e (sym (append_snoc seen row rest));
   clean =
-      faults-split table seen (row ∷ []) ∙ rw (so_far.clean) (append-nil (faults_at (length seen + 2) (table.rules (length seen + 2) row seen))
-      ∙ faults_at-none (length seen + 2) (table.rules (length seen + 2) row seen) kept);
+      faults-split table seen (row ∷ []) ∙ rw (so_far.clean, ← n) (append-nil (faults_at number (table.rules number row seen))
+      ∙ faults_at-none number (table.rules number row seen) kept);
 }
 
 -- the first fault where record 1 isn't the header
@@ -124,13 +124,13 @@ unfolding first_fault asked faults_from
 first_fault-under table bytes rows e = rw (e, under-rest table.header bytes rows e) refl
 
 -- the record that is next breaks a rule
-pub first_fault-found : {K : Type 0} (table : TableRules K) (bytes : List ℕ) (rows seen left rest : List (List (List ℕ))) (row : List (List ℕ)) (kind : K)
-    → rows_under table.header bytes ≡ Some rows → CleanSoFar table rows seen left → left ≡ row ∷ rest → first_broken (table.rules (length seen + 2) row seen) ≡ Some kind
-    → first_fault table bytes ≡ Some (length seen + 2, kind)
+pub first_fault-found : {K : Type 0} (table : TableRules K) (bytes : List ℕ) (rows seen left rest : List (List (List ℕ))) (row : List (List ℕ)) (number : ℕ) (kind : K)
+    → rows_under table.header bytes ≡ Some rows → CleanSoFar table rows seen left → left ≡ row ∷ rest → number ≡ length seen + 2
+    → first_broken (table.rules number row seen) ≡ Some kind → first_fault table bytes ≡ Some (number, kind)
 unfolding asked_from faults_from
-first_fault-found table bytes rows seen left rest row kind under so_far e broken =
+first_fault-found table bytes rows seen left rest row number kind under so_far e n broken =
     first_fault-under table bytes rows under
-    ∙ rw (so_far.whole, e, faults-split table seen (row ∷ rest), so_far.clean) (faults_at-some (length seen + 2) (table.rules (length seen + 2) row seen) _ kind broken)
+    ∙ rw (so_far.whole, e, faults-split table seen (row ∷ rest), so_far.clean, ← n) (faults_at-some number (table.rules number row seen) _ kind broken)
 
 -- no record is left
 pub first_fault-none : {K : Type 0} (table : TableRules K) (bytes : List ℕ) (rows seen left : List (List (List ℕ)))
@@ -138,3 +138,7 @@ pub first_fault-none : {K : Type 0} (table : TableRules K) (bytes : List ℕ) (r
 first_fault-none table bytes rows seen left under so_far e =
     let all : rows ≡ seen = so_far.whole ∙ rw e (append-nil seen) in
     (first_fault-under table bytes rows under ∙ rw (all, so_far.clean) refl, all)
+
+-- lists that two maps make the same are as long
+pub same-count : {A B C : Type 0} (f : A → C) (g : B → C) (xs : List A) (ys : List B) → map f xs ≡ map g ys → length xs ≡ length ys
+same-count f g xs ys e = sym (length-map xs f) ∙ ap length e ∙ length-map ys g
