@@ -4,7 +4,7 @@ use Rattle.std.specs.Prelude.{if◌then◌else◌, slice_get}
 use Rattle.std.specs.Option.{option_or}
 use Rattle.std.proofs.Math.Seq.{append_snoc}
 use Rattle.std.proofs.lemmas.List.{append-nil, length-map}
-use Rattle.table_rows.specs.Faults.{CleanSoFar, Rule, TableRules, asked, asked_from, faults_at, faults_from, first_broken, first_fault}
+use Rattle.table_rows.specs.Faults.{Rule, TableRules, asked, asked_from, faults_at, faults_from, first_broken, first_fault}
 use Rattle.table_rows.specs.Header.{rows_under}
 use Rattle.table_rows.proofs.HeaderFacts.{under-rest}
 
@@ -95,6 +95,11 @@ faults-split table seen left =
     ap (faults_from 2) (asked_from-append table 2 [] seen left)
     ∙ faults_from-append 2 (asked_from table 2 [] seen) (asked_from table (length seen + 2) seen left)
     ∙ rw (length-asked_from table 2 [] seen) refl
+
+-- no fault among the records seen so far, of those under a header row, and these are left
+pub record CleanSoFar {K : Type 0} (table : TableRules K) (rows seen left : List (List (List ℕ))) : Type 0 where
+  pub whole : rows ≡ seen ++ left
+  pub clean : faults_from 2 (asked_from table 2 [] seen) ≡ []
 
 -- at the start no record has been seen
 pub clean-start : {K : Type 0} (table : TableRules K) (rows left : List (List (List ℕ))) → rows ≡ left → CleanSoFar table rows [] left

@@ -72,8 +72,3 @@ pub record FindsLeast {K : Type 0} (all : List (List (Rule K))) (found : Option 
 -- the first fault of each table is its least one, here for kinds that are numbers
 abbrev pub FirstFaultIsLeast : Type 0
 FirstFaultIsLeast = (table : TableRules ℕ) (bytes : List ℕ) → FindsLeast (asked table bytes) (first_fault table bytes)
-
--- no fault among the records seen so far, of those under a header row, and these are left
-pub record CleanSoFar {K : Type 0} (table : TableRules K) (rows seen left : List (List (List ℕ))) : Type 0 where
-  pub whole : rows ≡ seen ++ left
-  pub clean : faults_from 2 (asked_from table 2 [] seen) ≡ []
