@@ -4,3 +4,4 @@ pub mod NarrowTableLemmas
 pub mod NarrowNetworkLemmas
 pub mod NarrowLevelLemmas
 pub mod NarrowLemmas
+mod NarrowExamples

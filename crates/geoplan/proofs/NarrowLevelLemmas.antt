@@ -1,6 +1,6 @@
 -- What the definitions of points and levels keep.
-use Rattle.std.proofs.Common.{◌≡◌, ℕ, ◌≤◌, pos, List, [], ◌∷◌, length, map, Option, Some, None, option_map, option_and_then, arith, refl, ap, sym, ◌∙◌, ◌==◌, ◌&&◌, Bool, true, false, if◌then◌else◌, nat_le, inl, inr, negsuc, subst}
-use Rattle.std.proofs.lemmas.Bool.{leb-true, and_parts, cond_both}
+use Rattle.std.proofs.Common.{◌≡◌, ℕ, ◌≤◌, pos, List, [], ◌∷◌, Option, Some, None, arith, refl, ap, ◌==◌, ◌&&◌, Bool, true, false, if◌then◌else◌, nat_le, inl, inr, negsuc, subst}
+use Rattle.std.proofs.lemmas.Bool.{leb-true, and_parts}
 use Rattle.std.proofs.lemmas.Option.{same_Some, none-some, cond_some}
 use Rattle.geo_model.specs.Row.{Entries}
 use Rattle.geo_model.specs.Candidate.{CandidateOf}

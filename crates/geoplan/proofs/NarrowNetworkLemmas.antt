@@ -1,19 +1,18 @@
 -- The bounds of the network that narrow tables give.
-use Rattle.std.proofs.Common.{◌≡◌, ◌≢◌, ℕ, ◌+◌, ◌*◌, ◌/◌, ◌^◌, ◌<◌, ◌≤◌, ℤ, pos, negsuc, ◌*ℤ◌, ◌≤ℤ◌, List, [], ◌∷◌, ◌++◌, length, map, Option, Some, None, option_map, option_and_then, arith, refl, ap, sym, ◌∙◌, suc, zero, inl, inr, ◌⊎◌, ◌==◌, ◌&&◌, Bool, true, false, if◌then◌else◌, lit<, lit≤, nat_le, cond}
+use Rattle.std.proofs.Common.{◌≡◌, ◌≢◌, ℕ, ◌+◌, ◌*◌, ◌/◌, ◌^◌, ◌<◌, ◌≤◌, ℤ, pos, negsuc, ◌*ℤ◌, ◌≤ℤ◌, List, [], ◌∷◌, length, arith, refl, suc, zero, inl, inr, ◌&&◌, lit<, lit≤}
 use Rattle.std.proofs.Math.Nat.{mul-le-mul}
 use Rattle.std.proofs.lemmas.Nat.{le-div, div_below}
 use Rattle.std.proofs.lemmas.Int.{ints, clamps}
-use Rattle.std.proofs.lemmas.Bool.{leb-true, and_parts}
-use Rattle.std.proofs.lemmas.Option.{same_Some, none-some}
-use Rattle.std.proofs.lemmas.List.Elements.{All-nil, All-cons, All-append, All-weaker, All-map, All-head}
+use Rattle.std.proofs.lemmas.Option.{none-some}
+use Rattle.std.proofs.lemmas.List.Elements.{All-nil, All-cons, All-weaker}
 use Rattle.std.proofs.lemmas.List.Sums.{sum_by-le, count_by-le-length}
-use Rattle.std.specs.Prelude.{All, AllPairs, IsNone, unsigned_abs, int_lt, sum_by, count_by}
+use Rattle.std.specs.Prelude.{All, AllPairs, unsigned_abs, int_lt, sum_by}
 use Rattle.std.specs.Int.{int_max}
-use Rattle.geo_model.specs.Row.{Entries, RowOf, IsSparse, IsRow, total_size, unit_at}
+use Rattle.geo_model.specs.Row.{Entries, IsSparse, IsRow, total_size, unit_at}
 use Rattle.geo_model.specs.Candidate.{CandidateOf, IsCandidate}
 use Rattle.geo_model.specs.Energy.{full_energy}
-use Rattle.geo_model.specs.Limit.{SquareOf, LimitOf, IsLoad, load, is_point_limit}
-use Rattle.geo_model.specs.Network.{NetworkOf, IsLimit, IsNetwork}
+use Rattle.geo_model.specs.Limit.{SquareOf, IsLoad, load, is_point_limit}
+use Rattle.geo_model.specs.Network.{IsLimit, IsNetwork}
 use Rattle.geoplan.specs.NarrowNetwork.{IsNarrow, IsNarrowSquare, IsNarrowLimit, IsNarrowNetwork}
 use Rattle.geoplan.specs.NarrowCandidates.{weight_of}
 use Rattle.geoplan.specs.Narrow.{height_limit, network_of}
@@ -25,10 +24,9 @@ unfolding weight_of
 weight_of-bounds u least most =
     let low : 10 * 10 ≤ u * u = mul-le-mul least least in
     let high : u * u ≤ 10000 * 10000 = mul-le-mul most most in
-    let positive : 0 < 2 * (u * u) = omega (arith, low) in
-    (
+    let positive : 0 < 2 * (u * u) = omega (arith, low) in (
       le-div 1 (2 * 10 ^ 8 + u * u) (2 * (u * u)) positive (omega (arith, high)),
-      (let below : (2 * 10 ^ 8 + u * u) / (2 * (u * u)) < 1000001 = div_below (2 * 10 ^ 8 + u * u) (2 * (u * u)) 1000001 positive (omega (arith, low)) in omega arith)
+      (let below : (2 * 10 ^ 8 + u * u) / (2 * (u * u)) < 1000001 = div_below (2 * 10 ^ 8 + u * u) (2 * (u * u)) 1000001 positive (omega (arith, low)) in omega arith),
     )
 
 -- the pairs of a list of one element

@@ -77,7 +77,11 @@ fn network_of(alloc: Global, new: NewPoint, candidates: Vec<Candidate>) -> Resul
 }
 
 /// What two tables of at most 65536 bytes each give, where both are in the narrow form.
-pub fn read_narrow(alloc: Global, points: &[u8], candidates: &[u8]) -> Result<Option<NarrowTables>, NoMemory>
+pub fn read_narrow(
+    alloc: Global,
+    points: &[u8],
+    candidates: &[u8],
+) -> Result<Option<NarrowTables>, NoMemory>
     requires { length points.now ≤ 65536 }
     ensures read { IfOk result (λ read. read ≡ narrow_tables points.now candidates.now) }
     ensures narrow { IfOk result (λ read. IfSome read (λ tables. IsNarrowNetwork tables.network)) }

@@ -1,8 +1,7 @@
-use Rattle.std.proofs.Common.{◌≡◌, ◌≤◌, sym, pos, Some, of_z, to_z, w64, FitsSigned, rules}
+use Rattle.std.proofs.Common.{◌≡◌, ◌≤◌, sym, pos, of_z, to_z, w64, FitsSigned, rules}
 use Rattle.std.proofs.lemmas.Int.{to_z-of_z}
-use Rattle.geo_model.specs.Row.{IsRow}
 use Rattle.geoplan.specs.NarrowNetwork.{IsNarrow}
-use Rattle.geoplan.specs.NarrowCandidates.{weight_of, entries_of}
+use Rattle.geoplan.specs.NarrowCandidates.{weight_of}
 use Rattle.geoplan.proofs.NarrowLevelLemmas.{deviation_of-within, entries_of-narrow}
 use Rattle.geoplan.proofs.NarrowNetworkLemmas.{weight_of-bounds, narrow_row}
 use Rattle.geoplan.proofs.narrow.level.read_level.Goals as goal
