@@ -1,6 +1,15 @@
-//! What every layer stands on: the one answer that no caller can rule out.
+//! What every layer stands on: the one answer that no caller can rule out, and the
+//! exact arithmetic of whole numbers.
 #![tactic(auto)]
 
+mod division;
+mod grid;
 mod no_memory;
+mod root;
+#[cfg(test)]
+mod tests;
 
+pub use division::{ceil_div, floor_div, nearest};
+pub use grid::{grid_exponent, shift_floor};
 pub use no_memory::NoMemory;
+pub use root::root_floor;

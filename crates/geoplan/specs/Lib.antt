@@ -4,3 +4,8 @@ pub mod NarrowPoints
 pub mod NarrowCandidates
 pub mod Narrow
 pub mod NarrowNetwork
+pub mod CommandOf
+pub mod Texts
+pub mod Input
+
+

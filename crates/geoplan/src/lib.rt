@@ -1,6 +1,9 @@
 //! Plans for control networks.
 #![tactic(auto)]
 
+mod command;
 mod narrow;
+mod report;
+mod words;
 
-pub use narrow::{Name, NarrowTables, read_narrow};
+pub use words::Words;

@@ -1,8 +1,7 @@
 -- The order of the whole numbers, and how sums and products meet it.
-use Rattle.std.proofs.Common.{◌≡◌, ℕ, ◌+◌, ◌*◌, ◌⊎◌, inl, inr, ap, sym, ◌∙◌, subst, arith, ℤ, pos, negsuc, ◌+ℤ◌, ◌-ℤ◌, ◌*ℤ◌, neg_ℤ, ◌≤ℤ◌, ◌<ℤ◌}
+use Rattle.std.proofs.Common.{◌≡◌, ◌⊎◌, inl, inr, ap, sym, ◌∙◌, subst, arith, ℤ, pos, negsuc, ◌+ℤ◌, ◌-ℤ◌, ◌*ℤ◌, neg_ℤ, ◌≤ℤ◌, ◌<ℤ◌}
 use Rattle.std.proofs.lemmas.Int.{ints, by_lt_z}
-use borrow.Author.Differences.{up, down}
-use Rattle.whole_algebra.proofs.Ring.{mul_comm, mul_add, add_mul, neg_mul, mul_neg, mul_zero, zero_mul}
+use Rattle.whole_algebra.proofs.Ring.{mul_comm, mul_add, add_mul, mul_zero}
 
 -- b is a and something that isn't negative
 pub le_by : (a b d : ℤ) → pos 0 ≤ℤ d → b ≡ a +ℤ d → a ≤ℤ b

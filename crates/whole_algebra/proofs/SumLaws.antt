@@ -1,10 +1,9 @@
 -- Sums and dot products of lists of whole numbers.
-use Rattle.std.proofs.Common.{◌≡◌, ℕ, List, [], ◌∷◌, ◌++◌, map, refl, sym, ◌∙◌, ap, ap₂, arith, ℤ, pos, ◌+ℤ◌, ◌-ℤ◌, ◌*ℤ◌, neg_ℤ, ◌≤ℤ◌}
-use Rattle.std.proofs.lemmas.Int.{ints}
+use Rattle.std.proofs.Common.{◌≡◌, List, [], ◌∷◌, ◌++◌, map, refl, sym, ◌∙◌, ap, ap₂, ℤ, pos, ◌+ℤ◌, ◌*ℤ◌, ◌≤ℤ◌}
 use Rattle.whole_algebra.specs.Sums.{int_sum, int_sum_by, dot}
-use Rattle.whole_algebra.proofs.Ring.{add_assoc, zero_add, mul_comm, mul_assoc, mul_zero, mul_add, add_mul}
+use Rattle.whole_algebra.proofs.Ring.{add_assoc, zero_add, mul_comm, mul_zero, mul_add}
 use Rattle.whole_algebra.proofs.Order.{add_nonneg, add_le_add, le_refl}
-use Rattle.whole_algebra.proofs.Normal.{ring, x0, x1, x2, x3, x4, ◌⊕◌, ◌⊗◌}
+use Rattle.whole_algebra.proofs.Normal.{ring, x0, x1, x2, x3, ◌⊕◌, ◌⊗◌}
 
 pub int_sum-append : (xs ys : List ℤ) → int_sum (xs ++ ys) ≡ int_sum xs +ℤ int_sum ys
 int_sum-append [] ys = sym (zero_add (int_sum ys))

@@ -1,5 +1,5 @@
 -- Sums and products of lists of whole numbers. This project's own words for the usual ones.
-use Rattle.std.specs.Prelude.{List, [], ◌∷◌, map, ℤ, pos, ◌+ℤ◌, ◌*ℤ◌}
+use Rattle.std.specs.Prelude.{List, [], ◌∷◌, ℤ, pos, ◌+ℤ◌, ◌*ℤ◌}
 
 -- the sum of a list of whole numbers
 abbrev pub int_sum : List ℤ → ℤ

@@ -12,3 +12,4 @@ mod text;
 
 pub use name::Name;
 pub use tables::{NarrowTables, read_narrow};
+pub use text::whole;

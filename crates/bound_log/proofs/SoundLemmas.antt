@@ -1,0 +1,121 @@
+use Rattle.std.proofs.Common.{◌≡◌, ◌<◌, ◌≤◌, ℕ, zero, suc, min, ℤ, pos, ◌*ℤ◌, ◌-ℤ◌, ◌≤ℤ◌, ◌<ℤ◌, Bool, true, false, List, [], ◌∷◌, length, replicate, arith, refl, ap, sym, ◌∙◌, Some, None, subst, ◌⊎◌, inl, inr}
+use Rattle.std.specs.Prelude.{slice_get, slice_set, All, Option, int_le, if◌then◌else◌}
+use Rattle.std.proofs.lemmas.Int.{ints}
+use Rattle.std.proofs.lemmas.Option.{get_or_from_slice_get, slice_get_within}
+use Rattle.geo_model.specs.Candidate.{CandidateOf, IsCandidate}
+use Rattle.geo_model.specs.Energy.{energy, cost_of, IsWithin}
+use Rattle.geo_model.specs.Limit.{LimitOf, load, IsInForce}
+use Rattle.geo_model.specs.Meeting.{MeetsLimits, MeetsLimit, Breaks}
+use Rattle.geo_model.specs.Network.{NetworkOf, IsNetwork, IsLimit}
+use Rattle.geo_model.specs.declared.plan.Node.{Node}
+use Rattle.geo_model.specs.declared.verdict.Verdict.{Verdict}
+use Rattle.geo_model.specs.declared.verdict.Verdict.TheVariants.{Met, Refuted}
+use Rattle.geo_model.proofs.EnergyLemmas.{MeetsLimit-grows}
+use Rattle.geo_model.proofs.PlanLemmas.{cost_of-grows, IsWithin-with, IsWithin-without, IsWithin-none, IsWithin-all, IsWithin-length}
+use Rattle.bound_log.specs.declared.bound.Bound.{Bound}
+use Rattle.bound_log.specs.declared.bound.Bound.TheVariants.{NoPlan, AtLeast}
+use Rattle.bound_log.specs.Bound.{lesser, IsAtMost}
+use Rattle.bound_log.specs.LogTree.{root_of, with_chosen, without_chosen, IsOpenAt, IsRefutedBy, IsAllowed, leaf_bound, bound_at, IsLog, HasBound}
+use Rattle.bound_log.specs.Sound.{IsLowerBound}
+use Rattle.bound_log.specs.Tree.{Leaf, cost, pivot, Tree, fork, tip}
+use Rattle.bound_log.specs.VerdictOf.{verdict_of, form_at_one, ones}
+
+-- Why the bound of a log is a lower bound.
+
+-- the lesser of two bounds is at most a price that the first is at most
+pub IsAtMost-lesser_left : (a b : Bound) (price : ℕ) → IsAtMost a price → IsAtMost (lesser a b) price
+IsAtMost-lesser_left NoPlan b price below = absurd below
+IsAtMost-lesser_left (AtLeast x) NoPlan price below = below
+IsAtMost-lesser_left (AtLeast x) (AtLeast y) price below = omega arith
+
+-- .. or the second
+pub IsAtMost-lesser_right : (a b : Bound) (price : ℕ) → IsAtMost b price → IsAtMost (lesser a b) price
+IsAtMost-lesser_right NoPlan b price below = below
+IsAtMost-lesser_right (AtLeast x) NoPlan price below = absurd below
+IsAtMost-lesser_right (AtLeast x) (AtLeast y) price below = omega arith
+
+-- a verdict by a test is Refuted only where the test fails
+refuted_test : (test : Bool) → (if test then Met else Refuted) ≡ Refuted → test ≡ false
+refuted_test true refuted = absurd (cc)
+refuted_test false refuted = refl
+
+-- a number that isn't at least 0 is negative
+negative : (z : ℤ) → int_le (pos 0) z ≡ false → z <ℤ pos 0
+negative z test = grind (arith, ints)
+
+below_by : (a b : ℤ) → (a -ℤ b) <ℤ pos 0 → a <ℤ b
+below_by a b difference = omega (arith, ints)
+
+-- a refuted limit is broken by the displacement of 1
+pub refuted_breaks : (network : NetworkOf) (plan : List Bool) (limit : LimitOf) → verdict_of network plan limit ≡ Refuted → Breaks network plan limit ones
+refuted_breaks network plan limit refuted =
+    below_by (limit.alpha *ℤ energy network.candidates plan ones) (load limit.squares ones)
+    (negative (form_at_one network plan limit) (refuted_test (int_le (pos 0) (form_at_one network plan limit)) refuted))
+
+-- a plan within the upper plan of a refuted limit doesn't meet it
+pub refuted_below : (network : NetworkOf) (plan upper : List Bool) (limit : LimitOf) → IsNetwork network → pos 1 ≤ℤ limit.alpha → IsWithin plan upper → verdict_of network upper limit ≡ Refuted → MeetsLimit network plan limit → ⊥
+refuted_below network plan upper limit bounds alpha within refuted meets =
+    let met : load limit.squares ones ≤ℤ (limit.alpha *ℤ energy network.candidates upper ones) =
+    MeetsLimit-grows network limit plan upper bounds.each_candidate alpha within meets ones in
+    let broken : (limit.alpha *ℤ energy network.candidates upper ones) <ℤ load limit.squares ones = refuted_breaks network upper limit refuted in
+    omega (arith, ints)
+
+-- an entry of a list at a place within it
+entry_at : (plan : List Bool) (i : ℕ) → i < length plan → (slice_get plan i ≡ Some true) ⊎ (slice_get plan i ≡ Some false)
+entry_at [] i inside = absurd (omega arith)
+entry_at (true ∷ plan) zero inside = inl refl
+entry_at (false ∷ plan) zero inside = inr refl
+entry_at (x ∷ plan) (suc i) inside = let later : i < length plan = omega arith in entry_at plan i later
+
+-- what a plan chooses, each larger plan chooses
+slice_get-grows : (small large : List Bool) (i : ℕ) → IsWithin small large → slice_get small i ≡ Some true → slice_get large i ≡ Some true
+slice_get-grows [] large i within chosen = absurd (cc)
+slice_get-grows (x ∷ small) [] i within chosen = absurd within
+slice_get-grows (false ∷ small) (y ∷ large) zero within chosen = absurd (cc)
+slice_get-grows (true ∷ small) (y ∷ large) zero within chosen = ap Some (within.0 refl)
+slice_get-grows (x ∷ small) (y ∷ large) (suc i) within chosen = slice_get-grows small large i within.1 chosen
+
+-- a limit in force for a plan is in force for each larger plan
+pub IsInForce-grows : (limit : LimitOf) (small large : List Bool) → IsWithin small large → IsInForce limit small → IsInForce limit large
+IsInForce-grows limit small large within owned = λ owner is. slice_get-grows small large owner within (owned owner is)
+
+-- what holds of each element holds of the one at a place
+pub at_place : {X : Type 0} (P : X → Type 0) (xs : List X) (i : ℕ) (x : X) → All P xs → slice_get xs i ≡ Some x → P x
+at_place P xs i x all named =
+    subst P (get_or_from_slice_get xs i x x named) (all i x (slice_get_within xs i x named))
+
+-- a named limit keeps the bounds of a network's limits
+each_named : (network : NetworkOf) (number : ℕ) (limit : LimitOf) → All (IsLimit network) network.limits → slice_get network.limits number ≡ Some limit → IsLimit network limit
+each_named network number limit all named = at_place (IsLimit network) network.limits number limit all named
+
+-- a plan that meets the limits meets a named one that is in force
+each_named_meets : (network : NetworkOf) (number : ℕ) (limit : LimitOf) (plan : List Bool) → MeetsLimits network plan → slice_get network.limits number ≡ Some limit → IsInForce limit plan → MeetsLimit network plan limit
+each_named_meets network number limit plan all named =
+    at_place (λ l. IsInForce l plan → MeetsLimit network plan l) network.limits number limit all named
+
+-- each plan between the inner and the upper plan of a node that meets the limits costs at least the bound
+pub bound_at-below : (network : NetworkOf) (node : Node) (tree : Tree) → IsNetwork network → IsAllowed network node tree → (plan : List Bool) → IsWithin node.inside plan → IsWithin plan node.upper → MeetsLimits network plan → IsAtMost (bound_at network node tree) (cost_of network.candidates plan)
+bound_at-below network node (tip cost) bounds allowed plan above below meets = cost_of-grows network.candidates node.inside plan above
+bound_at-below network node (tip (pivot number)) bounds allowed plan above below meets =
+    let limit : LimitOf = allowed.limit in
+    let kept : IsLimit network limit = each_named network number limit bounds.each_limit allowed.named in
+    let met : MeetsLimit network plan limit =
+    each_named_meets network number limit plan meets allowed.named (IsInForce-grows limit node.inside plan above allowed.owned) in
+    absurd (refuted_below network plan node.upper limit bounds kept.bounded.alpha_low below allowed.refuted met)
+bound_at-below network node (fork candidate with_it without_it) bounds allowed plan above below meets =
+    let inside : candidate < length plan = omega (arith, IsWithin-length plan node.upper below, slice_get_within node.upper candidate true allowed.0.in_upper) in
+    elim (entry_at plan candidate inside) [
+      | inl has ↦ IsAtMost-lesser_left (bound_at network (with_chosen node candidate) with_it) (bound_at network (without_chosen node candidate) without_it) (cost_of network.candidates plan)
+          (bound_at-below network (with_chosen node candidate) with_it bounds allowed.1 plan (IsWithin-with node.inside plan candidate above has) below meets)
+      | inr lacks ↦ IsAtMost-lesser_right (bound_at network (with_chosen node candidate) with_it) (bound_at network (without_chosen node candidate) without_it) (cost_of network.candidates plan)
+          (bound_at-below network (without_chosen node candidate) without_it bounds allowed.2 plan above (IsWithin-without plan node.upper candidate below lacks) meets)
+    ]
+
+-- the bound of a log is a lower bound
+pub HasBound-below : (network : NetworkOf) (text : List ℕ) (bound : Bound) → IsNetwork network → HasBound network text bound → IsLowerBound network bound
+HasBound-below network text bound bounds log = λ plan long meets.
+    let below : IsAtMost (bound_at network (root_of network) log.tree) (cost_of network.candidates plan) =
+    bound_at-below network (root_of network) log.tree bounds log.log.allowed plan
+    (subst (λ (n : ℕ). IsWithin (replicate n false) plan) long (IsWithin-none plan))
+    (subst (λ (n : ℕ). IsWithin plan (replicate n true)) long (IsWithin-all plan)) meets in
+    subst (λ (b : Bound). IsAtMost b (cost_of network.candidates plan)) (sym log.least) below

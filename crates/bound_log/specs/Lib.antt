@@ -1,0 +1,8 @@
+pub mod Bound
+pub mod Counted
+pub mod LogText
+pub mod LogTree
+pub mod Narrow
+pub mod Sound
+pub mod Tree
+pub mod VerdictOf

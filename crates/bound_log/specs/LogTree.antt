@@ -1,0 +1,77 @@
+use Rattle.std.specs.Prelude.{◌≡◌, ℕ, ◌<◌, Bool, true, false, List, length, replicate, Some, slice_get, slice_set}
+use Rattle.geo_model.specs.Energy.{cost_of}
+use Rattle.geo_model.specs.Limit.{LimitOf, IsInForce}
+use Rattle.geo_model.specs.Network.{NetworkOf}
+use Rattle.geo_model.specs.declared.plan.Node.{Node}
+use Rattle.geo_model.specs.declared.verdict.Verdict.TheVariants.{Refuted}
+use Rattle.bound_log.specs.declared.bound.Bound.{Bound}
+use Rattle.bound_log.specs.declared.bound.Bound.TheVariants.{NoPlan, AtLeast}
+use Rattle.bound_log.specs.Bound.{lesser}
+use Rattle.bound_log.specs.LogText.{log_text}
+use Rattle.bound_log.specs.Tree.{LineOf, split, leaf, Leaf, cost, pivot, Tree, fork, tip}
+use Rattle.bound_log.specs.VerdictOf.{verdict_of}
+
+-- Logs of a network, and their bounds. A node stands for all plans that contain its inner plan and lie in its
+-- upper one. This project's own.
+
+-- the node of all plans
+abbrev pub root_of : NetworkOf → Node
+root_of network = record { inside = replicate (length network.candidates) false; upper = replicate (length network.candidates) true }
+
+-- the child of a split that chooses the candidate
+abbrev pub with_chosen : Node → ℕ → Node
+with_chosen node candidate = record { inside = slice_set node.inside candidate true; upper = node.upper }
+
+-- the child of a split that leaves the candidate out
+abbrev pub without_chosen : Node → ℕ → Node
+without_chosen node candidate = record { inside = node.inside; upper = slice_set node.upper candidate false }
+
+-- a split is allowed on a candidate that the node leaves open
+pub record IsOpenAt (network : NetworkOf) (node : Node) (candidate : ℕ) : Type 0 where
+  pub in_range : candidate < length network.candidates
+  pub in_upper : slice_get node.upper candidate ≡ Some true
+  pub not_inside : slice_get node.inside candidate ≡ Some false
+
+-- a limit refutes a node: it is in force for the inner plan, and its verdict on the upper plan is Refuted
+pub record IsRefutedBy (network : NetworkOf) (node : Node) (number : ℕ) : Type 0 where
+  pub limit : LimitOf
+  pub named : slice_get network.limits number ≡ Some limit
+  pub owned : IsInForce limit node.inside
+  pub refuted : verdict_of network node.upper limit ≡ Refuted
+
+-- a line is allowed at a node
+abbrev pub IsAllowedLine : NetworkOf → Node → LineOf → Type 0
+IsAllowedLine network node (split candidate) = IsOpenAt network node candidate
+IsAllowedLine network node (leaf cost) = Unit {0}
+IsAllowedLine network node (leaf (pivot limit)) = IsRefutedBy network node limit
+
+-- a tree is allowed at a node: each of its lines is allowed at its own node
+abbrev pub IsAllowed : NetworkOf → Node → Tree → Type 0
+IsAllowed network node (tip end) = IsAllowedLine network node (leaf end)
+IsAllowed network node (fork candidate with_it without_it) =
+    IsAllowedLine network node (split candidate) ×
+    IsAllowed network (with_chosen node candidate) with_it ×
+    IsAllowed network (without_chosen node candidate) without_it
+
+-- the bound of a leaf at a node: the price of the inner plan, or that no plan is left
+abbrev pub leaf_bound : NetworkOf → Node → Leaf → Bound
+leaf_bound network node cost = AtLeast (cost_of network.candidates node.inside)
+leaf_bound network node (pivot limit) = NoPlan
+
+-- the bound of a tree at a node: the least bound of its leaves
+abbrev pub bound_at : NetworkOf → Node → Tree → Bound
+bound_at network node (tip end) = leaf_bound network node end
+bound_at network node (fork candidate with_it without_it) =
+    lesser (bound_at network (with_chosen node candidate) with_it)
+    (bound_at network (without_chosen node candidate) without_it)
+
+-- a text is a log of the network, with this tree
+pub record IsLog (network : NetworkOf) (text : List ℕ) (tree : Tree) : Type 0 where
+  pub spelled : text ≡ log_text tree
+  pub allowed : IsAllowed network (root_of network) tree
+
+-- a text is a log of the network, and this is its bound
+pub record HasBound (network : NetworkOf) (text : List ℕ) (bound : Bound) : Type 0 where
+  pub tree : Tree
+  pub log : IsLog network text tree
+  pub least : bound ≡ bound_at network (root_of network) tree

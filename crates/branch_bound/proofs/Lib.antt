@@ -1,0 +1,6 @@
+pub mod EnergySteps
+pub mod PieceLemmas
+pub mod NodeLemmas
+pub mod OpenCount
+pub mod ExploreLemmas
+pub mod SearchLemmas

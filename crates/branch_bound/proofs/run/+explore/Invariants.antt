@@ -1,0 +1,5 @@
+use Rattle.branch_bound.proofs.OpenCount.{open_count}
+use Rattle.branch_bound.proofs.run.+explore.Given as goal
+
+abbrev pub decreases-explore : goal.decreases-explore
+decreases-explore g l = open_count l.node.now.inside l.node.now.upper

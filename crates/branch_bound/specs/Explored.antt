@@ -1,0 +1,108 @@
+use Rattle.std.specs.Prelude.{◌≡◌, ◌≢◌, ℕ, ◌+◌, ◌-◌, ◌^◌, ◌≤◌, min, if◌then◌else◌, Bool, true, false, List, [], ◌∷◌, ◌++◌, length, Option, Some, None}
+use Rattle.std.specs.Option.{ForSome}
+use Rattle.shelf_io.specs.Files.{Files, with_piece}
+use Rattle.shelf_io.specs.Faults.{LastFault, Rose, KeepsFaults, write_of}
+use Rattle.geo_model.specs.Energy.{cost_of, IsWithin}
+use Rattle.geo_model.specs.Network.{NetworkOf}
+use Rattle.geo_model.specs.declared.answer.Counts.{Counts}
+use Rattle.geo_model.specs.declared.plan.Node.{Node}
+use Rattle.bound_log.specs.declared.bound.Bound.{Bound}
+use Rattle.bound_log.specs.declared.bound.Bound.TheVariants.{NoPlan, AtLeast}
+use Rattle.bound_log.specs.Bound.{lesser}
+use Rattle.bound_log.specs.Counted.{is_split, is_cost, is_pivot}
+use Rattle.bound_log.specs.LogText.{line_text, lines_text}
+use Rattle.bound_log.specs.LogTree.{IsAllowed, IsAllowedLine, leaf_bound, bound_at}
+use Rattle.bound_log.specs.Tree.{LineOf, split, leaf, Leaf, cost, pivot, Tree, tree_lines}
+use Rattle.branch_bound.specs.declared.line.Line.{Line}
+use Rattle.branch_bound.specs.declared.line.Line.TheVariants as line
+use Rattle.branch_bound.specs.declared.search_fault.SearchFault.{SearchFault}
+use Rattle.branch_bound.specs.declared.search_fault.SearchFault.TheVariants as fault
+use Rattle.branch_bound.specs.Searched.{IsCertified}
+
+-- What the parts of a search do. This project's own.
+
+-- what a contract sees of a shelf
+pub record ShelfState : Type 0 where
+  pub held : Option Files
+  pub faults : ℕ
+  pub last_fault : Option LastFault
+  pub started : Option (List ℕ)
+
+-- the state of a shelf, from what its trait shows
+abbrev pub state_of : {S : Type 0} → (S → Option Files) → (S → ℕ) → (S → Option LastFault) → (S → Option (List ℕ)) → S → ShelfState
+state_of held faults last_fault started shelf = record { held = held shelf; faults = faults shelf; last_fault = last_fault shelf; started = started shelf }
+
+-- a text was added under the started name, and no fault was counted
+pub record Adds (name text : List ℕ) (before now : ShelfState) : Type 0 where
+  pub written : now.held ≡ with_piece before.held name text
+  pub started : now.started ≡ Some name
+  pub quiet : KeepsFaults before.faults now.faults before.last_fault now.last_fault
+
+-- the beginning of a text was added under the name, and then a fault came, for want of memory or as a write failed
+pub record Breaks (name text : List ℕ) (why : SearchFault) (before now : ShelfState) : Type 0 where
+  pub piece : List ℕ
+  pub rest : List ℕ
+  pub begins : text ≡ piece ++ rest
+  pub written : now.held ≡ with_piece before.held name piece
+  pub later : before.faults ≤ now.faults
+  pub failed : why ≡ fault.WriteFault → Rose before.faults now.faults × (now.last_fault ≡ Some (write_of name))
+  pub no_memory : why ≡ fault.NoMemory → KeepsFaults before.faults now.faults before.last_fault now.last_fault
+
+-- the line of a log that a value of the code stands for
+abbrev pub line_of : Line → LineOf
+line_of (line.Split candidate) = split candidate
+line_of line.Cost = leaf cost
+line_of (line.Pivot limit) = leaf (pivot limit)
+
+-- a count with the lines that pass, one after another, up to the last value of a counter
+abbrev pub counted_on : ℕ → (LineOf → Bool) → List LineOf → ℕ
+counted_on before test [] = before
+counted_on before test (line ∷ lines) = counted_on (if test line then min (before + 1) (2 ^ 64 - 1) else before) test lines
+
+-- counts with these lines besides
+abbrev pub counts_with : Counts → List LineOf → Counts
+counts_with before lines = record {
+  splits = counted_on before.splits is_split lines;
+  costs = counted_on before.costs is_cost lines;
+  pivots = counted_on before.pivots is_pivot lines;
+  cuts = before.cuts;
+  duals = before.duals }
+
+-- a node of the network: its plans have an entry for each candidate, and the inner one lies in the upper one
+pub record IsNode (network : NetworkOf) (node : Node) : Type 0 where
+  pub inside_long : length node.inside ≡ length network.candidates
+  pub upper_long : length node.upper ≡ length network.candidates
+  pub within : IsWithin node.inside node.upper
+
+-- the best plan so far, as a bound
+abbrev pub best_bound : NetworkOf → Option (List Bool) → Bound
+best_bound network None = NoPlan
+best_bound network (Some plan) = AtLeast (cost_of network.candidates plan)
+
+-- the best plan so far is certified
+abbrev pub IsKept : NetworkOf → Option (List Bool) → Type 0
+IsKept network best = ForSome best (IsCertified network)
+
+-- a leaf was found for a node: it is allowed there, and the best plan is as cheap as the leaf or the best one before
+pub record IsLeafAt (network : NetworkOf) (node : Node) (before now : Option (List Bool)) (found : Line) : Type 0 where
+  pub end : Leaf
+  pub spelled : line_of found ≡ leaf end
+  pub allowed : IsAllowedLine network node (leaf end)
+  pub best : best_bound network now ≡ lesser (best_bound network before) (leaf_bound network node end)
+  pub kept : IsKept network now
+
+-- the plans of a node were explored: the lines of a tree of it were added and counted, and the best plan is as cheap
+-- as the tree's bound or the best one before
+pub record Explores (network : NetworkOf) (node : Node) (name : List ℕ) (best_before best_now : Option (List Bool)) (counts counts_now : Counts) (before now : ShelfState) : Type 0 where
+  pub tree : Tree
+  pub allowed : IsAllowed network node tree
+  pub added : Adds name (lines_text (tree_lines tree)) before now
+  pub counted : counts_now ≡ counts_with counts (tree_lines tree)
+  pub best : best_bound network best_now ≡ lesser (best_bound network best_before) (bound_at network node tree)
+  pub kept : IsKept network best_now
+
+-- the lines of some tree of the node were begun, and then a fault came
+pub record BreaksOff (network : NetworkOf) (node : Node) (name : List ℕ) (why : SearchFault) (before now : ShelfState) : Type 0 where
+  pub tree : Tree
+  pub allowed : IsAllowed network node tree
+  pub broken : Breaks name (lines_text (tree_lines tree)) why before now

@@ -1,0 +1,4 @@
+pub mod Searched
+pub mod Faults
+pub mod Explored
+pub mod Logged

@@ -1,0 +1,23 @@
+use Rattle.std.specs.Prelude.{◌≡◌, ℕ, List}
+use Rattle.geo_model.specs.Network.{NetworkOf}
+use Rattle.geo_model.specs.declared.answer.SearchDone.{SearchDone}
+use Rattle.bound_log.specs.LogText.{log_text}
+use Rattle.bound_log.specs.LogTree.{root_of, IsAllowed}
+use Rattle.bound_log.specs.Tree.{Tree}
+use Rattle.branch_bound.specs.declared.search_fault.SearchFault.{SearchFault}
+use Rattle.branch_bound.specs.Explored.{ShelfState, Adds, Breaks}
+use Rattle.branch_bound.specs.Searched.{IsSearched}
+
+-- What a search leaves on a shelf. This project's own.
+
+-- one whole log was added under the name, its lines are counted, and the answer is what the log says
+pub record Searches (network : NetworkOf) (name : List ℕ) (done : SearchDone) (before now : ShelfState) : Type 0 where
+  pub tree : Tree
+  pub searched : IsSearched network tree done
+  pub added : Adds name (log_text tree) before now
+
+-- the beginning of a log of the network was added under the name, and then a fault came
+pub record BreaksLog (network : NetworkOf) (name : List ℕ) (why : SearchFault) (before now : ShelfState) : Type 0 where
+  pub tree : Tree
+  pub allowed : IsAllowed network (root_of network) tree
+  pub broken : Breaks name (log_text tree) why before now

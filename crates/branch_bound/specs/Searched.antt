@@ -1,0 +1,74 @@
+use Rattle.std.specs.Prelude.{◌≡◌, ◌≢◌, ◌⊎◌, ℕ, ◌<◌, ℤ, pos, ◌≤ℤ◌, Bool, List, ◌++◌, length, Option, Some, None, slice_get, All, take}
+use Rattle.geo_model.specs.Energy.{cost_of}
+use Rattle.geo_model.specs.Limit.{LimitOf, IsInForce}
+use Rattle.geo_model.specs.Network.{NetworkOf}
+use Rattle.geo_model.specs.Verdicts.{IsCertifiedBy, IsUnsettledBy}
+use Rattle.geo_model.specs.declared.answer.Answer.{Answer}
+use Rattle.geo_model.specs.declared.answer.Answer.TheVariants as answer
+use Rattle.geo_model.specs.declared.answer.Counts.{Counts}
+use Rattle.geo_model.specs.declared.answer.SearchDone.{SearchDone}
+use Rattle.geo_model.specs.declared.verdict.Verdict.TheVariants.{Open}
+use Rattle.bound_log.specs.declared.bound.Bound.{Bound}
+use Rattle.bound_log.specs.declared.bound.Bound.TheVariants.{NoPlan, AtLeast}
+use Rattle.bound_log.specs.Counted.{counts_of}
+
+use Rattle.bound_log.specs.LogTree.{root_of, IsAllowed, bound_at}
+use Rattle.bound_log.specs.Tree.{Tree, tree_lines}
+use Rattle.bound_log.specs.VerdictOf.{verdict_of}
+
+-- What a search answers, and what its log says. This project's own.
+
+-- a plan of the network that is certified: each limit in force is met
+pub record IsCertified (network : NetworkOf) (plan : List Bool) : Type 0 where
+  pub long : length plan ≡ length network.candidates
+  pub certified : IsCertifiedBy (verdict_of network) network plan
+
+-- a certified plan whose price is the bound
+pub record IsBest (network : NetworkOf) (bound : Bound) (plan : List Bool) : Type 0 where
+  pub certified : IsCertified network plan
+  pub price : bound ≡ AtLeast (cost_of network.candidates plan)
+
+-- the first limit in force for a plan whose verdict is Open, with its step and interval
+pub record IsFirstOpen (network : NetworkOf) (plan : List Bool) (number step : ℕ) (lo hi : ℤ) : Type 0 where
+  pub limit : LimitOf
+  pub named : slice_get network.limits number ≡ Some limit
+  pub in_force : IsInForce limit plan
+  pub open_here : verdict_of network plan limit ≡ Open step lo hi
+  pub first : (k : ℕ) (earlier : LimitOf) → k < number → slice_get network.limits k ≡ Some earlier → IsInForce earlier plan → (s : ℕ) (a b : ℤ) → verdict_of network plan earlier ≢ Open s a b
+  pub low : lo ≤ℤ pos 0
+  pub high : pos 0 ≤ℤ hi
+
+-- an unsettled plan whose price is the bound, where every certified plan costs more
+pub record IsUndecided (network : NetworkOf) (bound : Bound) (plan : List Bool) (limit step : ℕ) (lo hi : ℤ) : Type 0 where
+  pub long : length plan ≡ length network.candidates
+  pub unsettled : IsUnsettledBy (verdict_of network) network plan
+  pub price : bound ≡ AtLeast (cost_of network.candidates plan)
+  pub dearer : (other : List Bool) → IsCertified network other → cost_of network.candidates plan < cost_of network.candidates other
+  pub open_limit : IsFirstOpen network plan limit step lo hi
+
+-- an answer fits a bound
+abbrev pub IsAnswer : NetworkOf → Bound → Answer → Type 0
+IsAnswer network bound (answer.Best plan) = IsBest network bound plan
+IsAnswer network bound answer.NoPlan = bound ≡ NoPlan
+IsAnswer network bound (answer.Undecided plan limit step lo hi) = IsUndecided network bound plan limit step lo hi
+
+-- a search is done: its log is a tree that the network allows, with its lines counted, and its answer fits the bound
+pub record IsSearched (network : NetworkOf) (tree : Tree) (done : SearchDone) : Type 0 where
+  pub allowed : IsAllowed network (root_of network) tree
+  pub counted : done.counts ≡ counts_of (tree_lines tree)
+  pub answered : IsAnswer network (bound_at network (root_of network) tree) done.answer
+
+-- an answer is decided: it isn't `Undecided`
+abbrev pub IsDecided : Answer → Type 0
+IsDecided (answer.Best plan) = Unit {0}
+IsDecided answer.NoPlan = Unit {0}
+IsDecided (answer.Undecided plan limit step lo hi) = ⊥
+
+-- the answer that the best plan, if there is one, makes
+abbrev pub answer_of : Option (List Bool) → Answer
+answer_of None = answer.NoPlan
+answer_of (Some plan) = answer.Best plan
+
+-- no line is counted
+abbrev pub no_counts : Counts
+no_counts = record { splits = 0; costs = 0; pivots = 0; cuts = 0; duals = 0 }

@@ -1,0 +1,85 @@
+//! The lines that the search writes.
+ghost use Rattle.std.specs.Prelude.{◌≡◌, ◌+◌, ◌-◌, ◌^◌, [], ◌∷◌, ◌++◌, min, Some, OnOk, OnErr, IfErr};
+ghost use Rattle.bound_log.specs.LogText.{line_text};
+ghost use Rattle.branch_bound.specs.Explored.{state_of, Adds, Breaks, line_of, counts_with};
+
+use bound_log::{put_cost, put_pivot, put_split};
+use geo_base::NoMemory;
+use geo_model::Counts;
+use shelf_io::{Shelf, WriteAnswer};
+
+use crate::search_fault::SearchFault;
+
+/// A line of a log: a split on a candidate, a leaf of the chosen candidates' price, or a leaf that
+/// a limit refutes.
+#[derive(Clone, Copy, Debug, PartialEq, Eq)]
+pub enum Line {
+    Split(u32),
+    Cost,
+    Pivot(u32),
+}
+
+/// Appends the bytes of a line. Refused, `out` is as before.
+fn spell(out: &mut Vec<u8>, line: Line) -> Result<(), NoMemory>
+    ensures put { OnOk result (out.new.items ≡ out.old.items ++ line_text (line_of line)) }
+{
+    match line {
+        Line::Split(candidate) => put_split(out, candidate),
+        Line::Cost => put_cost(out),
+        Line::Pivot(limit) => put_pivot(out, limit),
+    }
+}
+
+/// Counts a line. A count that has reached its last value stays there.
+fn count(counts: &mut Counts, line: Line)
+    ensures { counts.new ≡ counts_with counts.old (line_of line ∷ []) }
+{
+    match line {
+        Line::Split(_) => counts.splits = counts.splits.saturating_add(1),
+        Line::Cost => counts.costs = counts.costs.saturating_add(1),
+        Line::Pivot(_) => counts.pivots = counts.pivots.saturating_add(1),
+    }
+}
+
+/// Appends a piece under the started name.
+pub fn write_piece<H: Shelf>(shelf: &mut H, name: &str, piece: &[u8]) -> Result<(), SearchFault>
+    requires { H.started shelf.old ≡ Some name.now }
+    ensures added { OnOk result (Adds name.now piece.now
+        (state_of H.held H.faults H.last_fault H.started shelf.old)
+        (state_of H.held H.faults H.last_fault H.started shelf.new)) }
+    ensures refused { IfErr result (λ why. Breaks name.now piece.now why
+        (state_of H.held H.faults H.last_fault H.started shelf.old)
+        (state_of H.held H.faults H.last_fault H.started shelf.new)) }
+{
+    match shelf.append(name, piece) {
+        Ok(()) => Ok(()),
+        Err(WriteAnswer::Failed) => Err(SearchFault::WriteFault),
+        Err(WriteAnswer::NoMemory) => Err(SearchFault::NoMemory),
+    }
+}
+
+/// Writes a line of the log and counts it. `buffer` is room for its bytes.
+pub fn write_line<H: Shelf>(
+    shelf: &mut H,
+    name: &str,
+    buffer: &mut Vec<u8>,
+    counts: &mut Counts,
+    line: Line,
+) -> Result<(), SearchFault>
+    requires { H.started shelf.old ≡ Some name.now }
+    ensures added { OnOk result (Adds name.now (line_text (line_of line))
+        (state_of H.held H.faults H.last_fault H.started shelf.old)
+        (state_of H.held H.faults H.last_fault H.started shelf.new)) }
+    ensures counted { OnOk result (counts.new ≡ counts_with counts.old (line_of line ∷ [])) }
+    ensures refused { IfErr result (λ why. Breaks name.now (line_text (line_of line)) why
+        (state_of H.held H.faults H.last_fault H.started shelf.old)
+        (state_of H.held H.faults H.last_fault H.started shelf.new)) }
+{
+    buffer.clear();
+    if spell(buffer, line).is_err() {
+        return Err(SearchFault::NoMemory);
+    }
+    write_piece(shelf, name, buffer.as_slice())?;
+    count(counts, line);
+    Ok(())
+}

@@ -1,0 +1,184 @@
+//! The search over the tree of nodes.
+ghost use Rattle.std.specs.Prelude.{◌≡◌, None, Some, OnOk, IfErr, IfOk};
+ghost use Rattle.bound_log.specs.LogText.{head_text};
+ghost use Rattle.bound_log.specs.LogTree.{root_of};
+ghost use Rattle.bound_log.specs.Narrow.{IsNarrow};
+ghost use Rattle.branch_bound.specs.Explored.{state_of, IsNode, IsKept, Adds, Breaks, Explores, BreaksOff};
+ghost use Rattle.branch_bound.specs.Logged.{Searches, BreaksLog};
+ghost use Rattle.branch_bound.specs.Searched.{IsDecided, answer_of, no_counts};
+
+use std::alloc::Global;
+
+use bound_log::put_head;
+use geo_base::NoMemory;
+use geo_model::{Answer, Counts, Network, Node, Plan, SearchDone};
+use shelf_io::Shelf;
+
+use crate::line::{Line, write_line, write_piece};
+use crate::node_tests::{leaf_at, open_candidate};
+use crate::search_fault::SearchFault;
+
+/// What a search has found so far: the best plan, the lines counted, and room for the next one.
+#[derive(Drop)]
+struct Progress {
+    best: Option<Plan>,
+    counts: Counts,
+    buffer: Vec<u8>,
+}
+
+impl Progress {
+    /// Nothing has been found yet.
+    fn new(alloc: Global) -> Progress
+        ensures best { result.best ≡ None }
+        ensures counts { result.counts ≡ no_counts }
+    {
+        Progress {
+            best: None,
+            counts: Counts {
+                splits: 0,
+                costs: 0,
+                pivots: 0,
+                cuts: 0,
+                duals: 0,
+            },
+            buffer: Vec::new(alloc),
+        }
+    }
+
+    /// The answer of a search that is over.
+    fn done(self) -> SearchDone
+        ensures answer { result.answer ≡ answer_of self.best }
+        ensures counts { result.counts ≡ self.counts }
+    {
+        let Progress { best, counts, .. } = self;
+        let answer = match best {
+            Some(plan) => Answer::Best(plan),
+            None => Answer::NoPlan,
+        };
+        SearchDone { answer, counts }
+    }
+}
+
+/// Explores the plans of a node: writes the lines of a tree of it, and keeps the best plan.
+fn explore<H: Shelf>(
+    alloc: Global,
+    network: &Network,
+    shelf: &mut H,
+    name: &str,
+    progress: &mut Progress,
+    node: &mut Node,
+) -> Result<(), SearchFault>
+    requires narrow { IsNarrow network.now }
+    requires started { H.started shelf.old ≡ Some name.now }
+    requires node { IsNode network.now node.old }
+    requires kept { IsKept network.now progress.old.best }
+    ensures explored { OnOk result (Explores network.now node.old name.now
+        progress.old.best progress.new.best progress.old.counts progress.new.counts
+        (state_of H.held H.faults H.last_fault H.started shelf.old)
+        (state_of H.held H.faults H.last_fault H.started shelf.new)) }
+    ensures node { OnOk result (node.new ≡ node.old) }
+    ensures refused { IfErr result (λ why. BreaksOff network.now node.old name.now why
+        (state_of H.held H.faults H.last_fault H.started shelf.old)
+        (state_of H.held H.faults H.last_fault H.started shelf.new)) }
+{
+    let leaf = match leaf_at(alloc, network, node, &mut progress.best) {
+        Ok(leaf) => leaf,
+        Err(_) => return Err(SearchFault::NoMemory),
+    };
+    if let Some(line) = leaf {
+        if let Err(why) = write_line(shelf, name, &mut progress.buffer, &mut progress.counts, line)
+        {
+            return Err(why);
+        }
+        return Ok(());
+    }
+    let candidate = match open_candidate(network, node) {
+        Some(candidate) => candidate,
+        None => unreachable!(),
+    };
+    let line = Line::Split(candidate);
+    if let Err(why) = write_line(shelf, name, &mut progress.buffer, &mut progress.counts, line) {
+        return Err(why);
+    }
+    node.inside.set(candidate, true);
+    if let Err(why) = explore(alloc, network, shelf, name, progress, node) {
+        return Err(why);
+    }
+    node.inside.set(candidate, false);
+    node.upper.set(candidate, false);
+    if let Err(why) = explore(alloc, network, shelf, name, progress, node) {
+        return Err(why);
+    }
+    node.upper.set(candidate, true);
+    Ok(())
+}
+
+/// The node of all plans.
+fn root_node(alloc: Global, network: &Network) -> Result<Node, NoMemory>
+    ensures root { IfOk result (λ node. node ≡ root_of network.now) }
+    ensures node { IfOk result (λ node. IsNode network.now node) }
+{
+    let m = network.candidates().len() as u32;
+    let inside = Plan::empty(alloc, m)?;
+    let upper = Plan::full(alloc, m)?;
+    Ok(Node { inside, upper })
+}
+
+/// Writes the first line of a log. `buffer` is room for its bytes.
+fn begin_log<H: Shelf>(
+    shelf: &mut H,
+    name: &str,
+    buffer: &mut Vec<u8>,
+) -> Result<(), SearchFault>
+    requires { H.started shelf.old ≡ Some name.now }
+    ensures added { OnOk result (Adds name.now head_text
+        (state_of H.held H.faults H.last_fault H.started shelf.old)
+        (state_of H.held H.faults H.last_fault H.started shelf.new)) }
+    ensures refused { IfErr result (λ why. Breaks name.now head_text why
+        (state_of H.held H.faults H.last_fault H.started shelf.old)
+        (state_of H.held H.faults H.last_fault H.started shelf.new)) }
+{
+    buffer.clear();
+    if put_head(buffer).is_err() {
+        return Err(SearchFault::NoMemory);
+    }
+    write_piece(shelf, name, buffer.as_slice())
+}
+
+/// Searches for the cheapest plan that meets the limits, and appends a log that proves the answer to
+/// the started name, a line at a time. So far it takes networks of one new height.
+pub fn search<H: Shelf>(
+    alloc: Global,
+    network: &Network,
+    shelf: &mut H,
+    name: &str,
+) -> Result<SearchDone, SearchFault>
+    requires narrow { IsNarrow network.now }
+    requires started { H.started shelf.old ≡ Some name.now }
+
+    // One whole log was added under the name, and the answer is what it says.
+    ensures searched { IfOk result (λ done. Searches network.now name.now done
+        (state_of H.held H.faults H.last_fault H.started shelf.old)
+        (state_of H.held H.faults H.last_fault H.started shelf.new)) }
+
+    // With one new height each plan is certified or refuted.
+    ensures decided { IfOk result (λ done. IsDecided done.answer) }
+
+    // The beginning of a log was added, and the fault has its cause.
+    ensures refused { IfErr result (λ why. BreaksLog network.now name.now why
+        (state_of H.held H.faults H.last_fault H.started shelf.old)
+        (state_of H.held H.faults H.last_fault H.started shelf.new)) }
+{
+    let mut node = match root_node(alloc, network) {
+        Ok(node) => node,
+        Err(_) => return Err(SearchFault::NoMemory),
+    };
+    let mut progress = Progress::new(alloc);
+    if let Err(why) = begin_log(shelf, name, &mut progress.buffer) {
+        return Err(why);
+    }
+    if let Err(why) = explore(alloc, network, shelf, name, &mut progress, &mut node) {
+        return Err(why);
+    }
+    Ok(progress.done())
+}

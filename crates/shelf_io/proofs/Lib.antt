@@ -1,0 +1,4 @@
+pub mod FaultLaws
+pub mod FileLaws
+pub mod StoredLaws
+pub mod WrittenLaws

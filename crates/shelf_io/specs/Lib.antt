@@ -1,0 +1,7 @@
+pub mod Files
+pub mod Faults
+pub mod Stored
+pub mod Written
+pub mod FailingCalls
+pub mod MemShelf
+pub mod MemSink

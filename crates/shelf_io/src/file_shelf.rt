@@ -1,0 +1,119 @@
+ghost use Rattle.std.specs.Prelude.{◌≡◌, ℕ, ◌^◌, ◌≤◌, List, ◌++◌, length, None, OnOk, OnErr};
+ghost use Rattle.std.specs.Option.{option_map};
+ghost use Rattle.std.specs.String.{string_bytes};
+
+use crate::access::Access;
+use crate::faults::Faults;
+use crate::read_answer::ReadAnswer;
+use crate::shelf::Shelf;
+use crate::transfer::{read_up_to, write_whole};
+use crate::write_answer::WriteAnswer;
+use std::alloc::Global;
+use std::fs;
+use std::rt::Files;
+
+/// A file that is open for writing, under its name.
+#[derive(Drop)]
+struct OpenedFile<F> {
+    name: String,
+    file: F,
+}
+
+/// The files of the system. It doesn't tell what they hold. A file that isn't there is a fault.
+#[derive(Drop)]
+pub struct FileShelf<'r, R: Files> {
+    rt: &'r R,
+    alloc: Global,
+    faults: Faults,
+    opened: Option<OpenedFile<R::File>>,
+}
+
+impl<'r, R: Files> Shelf for FileShelf<'r, R> {
+    ghost held = { λ _. None };
+
+    ghost faults = { λ shelf. shelf.faults.count };
+
+    ghost last_fault = { λ shelf. shelf.faults.last };
+
+    ghost started = { λ shelf. option_map (λ opened. string_bytes opened.name) shelf.opened };
+
+    ghost started_is_held = { λ shelf files name told started. absurd (Prim.cc) };
+
+    fn read_whole(&mut self, name: &str, limit: u64, into: &mut Vec<u8>) -> Result<(), ReadAnswer> {
+        let kept = String::from_str(self.alloc, name)?;
+        match read_file(self.rt, name, limit, into) {
+            Err(ReadAnswer::Failed) => {
+                self.faults.add(Access::Read, kept);
+                Err(ReadAnswer::Failed)
+            }
+            answer => answer,
+        }
+    }
+
+    fn start(&mut self, name: &str) -> Result<(), WriteAnswer> {
+        self.opened = None;
+        let name_kept = String::from_str(self.alloc, name)?;
+        match fs::create(self.rt, name) {
+            Ok(file) => {
+                self.opened = Some(OpenedFile {
+                    name: name_kept,
+                    file,
+                });
+                Ok(())
+            }
+            Err(_) => {
+                self.faults.add(Access::Write, name_kept);
+                Err(WriteAnswer::Failed)
+            }
+        }
+    }
+
+    fn append(&mut self, _name: &str, piece: &[u8]) -> Result<(), WriteAnswer> {
+        let mut opened = self.opened.take().unwrap();
+        if write_whole(&mut opened.file, piece) {
+            self.opened = Some(opened);
+            return Ok(());
+        }
+        let OpenedFile { name, file: _ } = opened;
+        self.faults.add(Access::Write, name);
+        Err(WriteAnswer::Failed)
+    }
+}
+
+impl<'r, R: Files> FileShelf<'r, R> {
+    /// No file is started.
+    pub fn new(rt: &'r R, alloc: Global) -> FileShelf<'r, R>
+        ensures held { ⟦<FileShelf<'r, R> as Shelf>⟧.held result ≡ None }
+        ensures started { ⟦<FileShelf<'r, R> as Shelf>⟧.started result ≡ None }
+        ensures faults { ⟦<FileShelf<'r, R> as Shelf>⟧.faults result ≡ 0 }
+        ensures last_fault { ⟦<FileShelf<'r, R> as Shelf>⟧.last_fault result ≡ None }
+    {
+        FileShelf {
+            rt,
+            alloc,
+            faults: Faults::none(),
+            opened: None,
+        }
+    }
+}
+
+/// Opens the file and appends its bytes to `into`, which stays as it was after a refusal.
+fn read_file<R: Files>(rt: &R, name: &str, limit: u64, into: &mut Vec<u8>) -> Result<(), ReadAnswer>
+    requires { limit ≤ 2 ^ 28 }
+    ensures appends { OnOk result ((bytes : List ℕ) × (length bytes ≤ limit)
+        × (into.new.items ≡ into.old.items ++ bytes)) }
+    ensures unread { OnErr result (into.new.items ≡ into.old.items) }
+{
+    let mut file = match fs::open(rt, name) {
+        Ok(file) => file,
+        Err(_) => return Err(ReadAnswer::Failed),
+    };
+    let start = into.len();
+    match read_up_to(&mut file, limit, into) {
+        Ok(()) => Ok(()),
+        Err(refused) => {
+            into.truncate(start);
+            Err(refused)
+        }
+    }
+}

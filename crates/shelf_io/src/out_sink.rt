@@ -1,0 +1,35 @@
+ghost use Rattle.std.specs.Prelude.{◌≡◌, None};
+
+use crate::sink::Sink;
+use crate::transfer::print_whole;
+use crate::write_answer::WriteAnswer;
+
+/// The standard output. It doesn't tell what was written.
+#[derive(Drop)]
+pub struct OutSink<'r, R: Print> {
+    rt: &'r R,
+    faults: u64,
+}
+
+impl<'r, R: Print> Sink for OutSink<'r, R> {
+    ghost written = { λ _. None };
+
+    ghost faults = { λ sink. sink.faults };
+
+    fn put(&mut self, piece: &[u8]) -> Result<(), WriteAnswer> {
+        if print_whole(self.rt, piece) {
+            return Ok(());
+        }
+        self.faults = self.faults.saturating_add(1);
+        Err(WriteAnswer::Failed)
+    }
+}
+
+impl<'r, R: Print> OutSink<'r, R> {
+    pub fn new(rt: &'r R) -> OutSink<'r, R>
+        ensures written { ⟦<OutSink<'r, R> as Sink>⟧.written result ≡ None }
+        ensures faults { ⟦<OutSink<'r, R> as Sink>⟧.faults result ≡ 0 }
+    {
+        OutSink { rt, faults: 0 }
+    }
+}

@@ -1,0 +1,79 @@
+ghost use Rattle.std.specs.Prelude.{◌≡◌, ℕ, ◌+◌, ◌^◌, ◌≤◌, ◌<◌, List, ◌++◌, length, take, OnOk, IfSome, IsErrOf, IsTrue};
+ghost use Rattle.std.specs.Option.{ForSome};
+ghost use Rattle.std.specs.Bool.{OnFalse};
+ghost use Rattle.std.specs.Io.KnownBytes.{Appends};
+
+use crate::read_answer::ReadAnswer;
+use std::io::{Read, Write};
+
+const BLOCK: usize = 4096;
+
+/// Appends all that the reader gives, which it reads to `limit + 1` bytes at most. A refused call may have
+/// appended some.
+pub(crate) fn read_up_to<R: Read>(
+    reader: &mut R,
+    limit: u64,
+    into: &mut Vec<u8>,
+) -> Result<(), ReadAnswer>
+    requires { limit ≤ 2 ^ 28 }
+    ensures appends { (bytes : List ℕ) × (length bytes ≤ limit + 1) × (into.new.items ≡ into.old.items ++ bytes)
+        × (OnOk result (length bytes ≤ limit)) }
+    ensures whole { OnOk result (IfSome (R.remaining reader.old)
+        (λ bytes. into.new.items ≡ into.old.items ++ bytes)) }
+    ensures too_long { IsErrOf result ReadAnswer.TooLong → IfSome (R.remaining reader.old)
+        (λ bytes. limit < length bytes) }
+{
+    let mut block = [0u8; BLOCK];
+    let mut room = limit + 1;
+    while room > 0 {
+        let most = if room < BLOCK as u64 {
+            room as usize
+        } else {
+            BLOCK
+        };
+        let taken = match reader.read(&mut block[..most]) {
+            Ok(taken) => taken,
+            Err(_) => return Err(ReadAnswer::Failed),
+        };
+        if taken == 0 {
+            return Ok(());
+        }
+        if into.extend_from_slice(&block[..taken]).is_err() {
+            return Err(ReadAnswer::NoMemory);
+        }
+        room -= taken as u64;
+    }
+    Err(ReadAnswer::TooLong)
+}
+
+/// Writes the whole piece, and says whether that was done. It isn't where the writer takes nothing.
+pub(crate) fn write_whole<W: Write>(writer: &mut W, piece: &[u8]) -> bool
+    ensures written { IsTrue result → Appends (W.contents writer.old) (W.contents writer.new) piece.now }
+    ensures stopped { OnFalse result ((n : ℕ)
+        × Appends (W.contents writer.old) (W.contents writer.new) (take n piece.now)) }
+{
+    let mut rest = piece;
+    while !rest.is_empty() {
+        let taken = match writer.write(rest) {
+            Ok(taken) => taken,
+            Err(_) => return false,
+        };
+        if taken == 0 {
+            return false;
+        }
+        rest = &rest[taken..];
+    }
+    true
+}
+
+/// Prints the whole piece, and says whether that was done. It isn't where nothing is taken.
+pub(crate) fn print_whole<R: Print>(rt: &R, piece: &[u8]) -> bool {
+    let mut rest = piece;
+    while !rest.is_empty() {
+        match rt.write_some(rest) {
+            Ok(taken) if taken > 0 => rest = &rest[taken..],
+            _ => return false,
+        }
+    }
+    true
+}
