@@ -6,4 +6,6 @@ pub mod NarrowLevelLemmas
 pub mod NarrowLemmas
 pub mod CommandLemmas
 pub mod TextLemmas
+pub mod InputLemmas
+pub mod LoadLemmas
 mod NarrowExamples

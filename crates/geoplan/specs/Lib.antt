@@ -5,7 +5,12 @@ pub mod NarrowCandidates
 pub mod Narrow
 pub mod NarrowNetwork
 pub mod CommandOf
+pub mod CommandView
 pub mod Texts
+pub mod Codes
 pub mod Input
+pub mod Standing
+pub mod Loading
+pub mod Solving
 
 

@@ -2,8 +2,11 @@
 #![tactic(auto)]
 
 mod command;
+mod load;
 mod narrow;
 mod report;
+mod solve;
+mod status;
 mod words;
 
 pub use words::Words;
