@@ -11,7 +11,7 @@ use Rattle.geoplan.specs.NarrowRows.{each_of, under_header, same_texts, unmarked
 use Rattle.geoplan.specs.NarrowPoints.{PointsOf, limited, height_of, is_place, point_of, new_here, new_points, only, points_from, points_of, point_header}
 use Rattle.geoplan.specs.NarrowCandidates.{LevelsOf, level_of, levels_from, levels_of, candidate_header}
 use Rattle.geoplan.specs.Narrow.{NarrowOf, narrow_from, narrow_tables, network_of}
-use Rattle.geoplan.specs.NarrowNetwork.{IsNarrowNetwork}
+use Rattle.bound_log.specs.Narrow.{IsNarrow}
 use Rattle.geoplan.specs.declared.narrow.point.Height.{Height}
 use Rattle.geoplan.specs.declared.narrow.point.Height.TheVariants.{Fixed, Limited}
 use Rattle.geoplan.specs.declared.narrow.point.Point.{Point}
@@ -147,7 +147,7 @@ narrow_bounds points_bytes candidates_bytes points levels of read =
     network_bounds points.new_point levels.candidates limit.0 limit.1 facts.few facts.each
 
 -- and it is narrow
-pub network_of-narrow : (points : PointsOf) (new : NewPoint) (bytes : List ℕ) (levels : LevelsOf) → levels_of points bytes ≡ Some levels → IsNarrowNetwork (network_of new levels.candidates)
+pub network_of-narrow : (points : PointsOf) (new : NewPoint) (bytes : List ℕ) (levels : LevelsOf) → levels_of points bytes ≡ Some levels → IsNarrow (network_of new levels.candidates)
 network_of-narrow points new bytes levels read = network_narrow new levels.candidates (levels_of-facts points bytes levels read).each
 
 -- what both tables give comes of their points and of their levels
@@ -174,7 +174,7 @@ narrow_tables-from points candidates tables is =
     made_tables points candidates table (levels_of table candidates) tables of refl made)
 
 -- the network that two narrow tables give is narrow
-pub narrow_tables-narrow : (points candidates : List ℕ) (tables : NarrowOf) → narrow_tables points candidates ≡ Some tables → IsNarrowNetwork tables.network
+pub narrow_tables-narrow : (points candidates : List ℕ) (tables : NarrowOf) → narrow_tables points candidates ≡ Some tables → IsNarrow tables.network
 narrow_tables-narrow points candidates tables is =
     let from : IsFromTables points candidates tables = narrow_tables-from points candidates tables is in
     rw from.value (network_of-narrow from.points from.points.new_point candidates from.levels from.levels_read)
@@ -184,3 +184,9 @@ pub narrow_tables-bounds : (points candidates : List ℕ) (tables : NarrowOf) �
 narrow_tables-bounds points candidates tables is =
     let from : IsFromTables points candidates tables = narrow_tables-from points candidates tables is in
     rw from.value (narrow_bounds points candidates from.points from.levels from.points_read from.levels_read)
+
+-- there are as many names as candidates
+pub narrow_tables-named : (points candidates : List ℕ) (tables : NarrowOf) → narrow_tables points candidates ≡ Some tables → length tables.names ≡ length tables.network.candidates
+narrow_tables-named points candidates tables is =
+    let from : IsFromTables points candidates tables = narrow_tables-from points candidates tables is in
+    rw from.value (levels_of-facts from.points candidates from.levels from.levels_read).named

@@ -6,14 +6,14 @@ use Rattle.std.proofs.lemmas.Int.{ints, clamps}
 use Rattle.std.proofs.lemmas.Option.{none-some}
 use Rattle.std.proofs.lemmas.List.Elements.{All-nil, All-cons, All-weaker}
 use Rattle.std.proofs.lemmas.List.Sums.{sum_by-le, count_by-le-length}
-use Rattle.std.specs.Prelude.{All, AllPairs, unsigned_abs, int_lt, sum_by}
+use Rattle.std.specs.Prelude.{All, AllPairs, IsNone, unsigned_abs, int_lt, sum_by}
 use Rattle.std.specs.Int.{int_max}
 use Rattle.geo_model.specs.Row.{Entries, IsSparse, IsRow, total_size, unit_at}
 use Rattle.geo_model.specs.Candidate.{CandidateOf, IsCandidate}
 use Rattle.geo_model.specs.Energy.{full_energy}
 use Rattle.geo_model.specs.Limit.{SquareOf, IsLoad, load, is_point_limit}
 use Rattle.geo_model.specs.Network.{IsLimit, IsNetwork}
-use Rattle.geoplan.specs.NarrowNetwork.{IsNarrow, IsNarrowSquare, IsNarrowLimit, IsNarrowNetwork}
+use Rattle.bound_log.specs.Narrow.{IsLevelRow, IsHeightSquare, IsNarrow}
 use Rattle.geoplan.specs.NarrowCandidates.{weight_of}
 use Rattle.geoplan.specs.Narrow.{height_limit, network_of}
 use Rattle.geoplan.specs.declared.narrow.points.NewPoint.{NewPoint}
@@ -72,7 +72,7 @@ none_short = record {
   each = All-nil IsEntry;
 }
 
-narrow_short : (entries : Entries) → IsNarrow entries → IsShort entries
+narrow_short : (entries : Entries) → IsLevelRow entries → IsShort entries
 narrow_short entries is =
     elim is [
       | inl e ↦ rw e none_short
@@ -80,7 +80,7 @@ narrow_short entries is =
     ]
 
 -- a row of narrow entries keeps the bounds of a row
-pub narrow_row : (entries : Entries) (weight : ℕ) → IsNarrow entries → 1 ≤ weight → weight ≤ 1000000 → IsRow (record { entries = entries; weight = pos weight })
+pub narrow_row : (entries : Entries) (weight : ℕ) → IsLevelRow entries → 1 ≤ weight → weight ≤ 1000000 → IsRow (record { entries = entries; weight = pos weight })
 narrow_row entries weight is least most =
     let short : IsShort entries = narrow_short entries is in
     let size : total_size entries ≤ length entries * 10000 = sum_by-le (λ entry. unsigned_abs entry.1) 10000 entries (All-weaker IsEntry (λ entry. unsigned_abs entry.1 ≤ 10000) (λ entry e. e.small) entries short.each) in
@@ -94,7 +94,7 @@ narrow_row entries weight is least most =
     }
 
 -- its columns are below 1
-pub narrow_columns : (entries : Entries) → IsNarrow entries → All (λ entry. entry.0 < 1) entries
+pub narrow_columns : (entries : Entries) → IsLevelRow entries → All (λ entry. entry.0 < 1) entries
 narrow_columns entries is =
     All-weaker IsEntry (λ entry. entry.0 < 1) (λ entry e. omega (arith, e.column)) entries (narrow_short entries is).each
 
@@ -104,7 +104,7 @@ pub record IsOneRow (candidate : CandidateOf) : Type 0 where
   pub entries : Entries
   pub weight : ℕ
   pub rows : candidate.rows ≡ record { entries = entries; weight = pos weight } ∷ []
-  pub narrow : IsNarrow entries
+  pub narrow : IsLevelRow entries
   pub least : 1 ≤ weight
   pub most : weight ≤ 1000000
 
@@ -115,8 +115,8 @@ one_row_candidate candidate is = record {
   columns = rw is.rows (All-one (λ row. All (λ entry. entry.0 < 1) row.entries) _ (narrow_columns is.entries is.narrow));
 }
 
-one_row_narrow : (candidate : CandidateOf) → IsOneRow candidate → All (λ row. IsNarrow row.entries) candidate.rows
-one_row_narrow candidate is = rw is.rows (All-one (λ row. IsNarrow row.entries) _ is.narrow)
+one_row_narrow : (candidate : CandidateOf) → IsOneRow candidate → All (λ row. IsLevelRow row.entries) candidate.rows
+one_row_narrow candidate is = rw is.rows (All-one (λ row. IsLevelRow row.entries) _ is.narrow)
 
 one_row_length : (candidate : CandidateOf) → IsOneRow candidate → length candidate.rows ≤ 1
 one_row_length candidate is = rw is.rows (omega arith)
@@ -176,12 +176,11 @@ network_bounds new candidates least most few each =
     }
 
 -- and it is narrow
-pub network_narrow : (new : NewPoint) (candidates : List CandidateOf) → All IsOneRow candidates → IsNarrowNetwork (network_of new candidates)
+pub network_narrow : (new : NewPoint) (candidates : List CandidateOf) → All IsOneRow candidates → IsNarrow (network_of new candidates)
+unfolding height_square
 network_narrow new candidates each = record {
   unknowns = refl;
-  rows = All-weaker IsOneRow (λ candidate. All (λ row. IsNarrow row.entries) candidate.rows) one_row_narrow candidates each;
-  limits = All-one IsNarrowLimit (height_limit new) (record {
-    unowned = refl;
-    squares = All-one IsNarrowSquare _ (record { beta = refl; entries = refl });
-  });
+  levels = All-weaker IsOneRow (λ candidate. All (λ row. IsLevelRow row.entries) candidate.rows) one_row_narrow candidates each;
+  unowned = All-one (λ limit. IsNone limit.owner) (height_limit new) refl;
+  heights = All-one (λ limit. All IsHeightSquare limit.squares) (height_limit new) (All-one IsHeightSquare height_square (refl, refl));
 }

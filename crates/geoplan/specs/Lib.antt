@@ -3,7 +3,6 @@ pub mod NarrowRows
 pub mod NarrowPoints
 pub mod NarrowCandidates
 pub mod Narrow
-pub mod NarrowNetwork
 pub mod CommandOf
 pub mod CommandView
 pub mod Texts
@@ -12,5 +11,3 @@ pub mod Input
 pub mod Standing
 pub mod Loading
 pub mod Solving
-
-

@@ -1,5 +1,4 @@
 ghost use Rattle.std.specs.Prelude.{◌≡◌, ◌≢◌, ◌∷◌, [], ◌≤◌, pos, ◌≤ℤ◌, length, MatchOption, IfOk, IfSome, option_map};
-ghost use Rattle.geoplan.specs.NarrowNetwork.{IsNarrow};
 ghost use Rattle.geoplan.specs.NarrowCandidates.{between, deviation_of, price_of, weight_of, level_entries, entries_of, is_level, level_of};
 
 use crate::narrow::name::Name;
