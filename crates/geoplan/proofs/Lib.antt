@@ -9,3 +9,4 @@ pub mod TextLemmas
 pub mod InputLemmas
 pub mod LoadLemmas
 mod NarrowExamples
+pub mod SolveLemmas

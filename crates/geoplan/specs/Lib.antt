@@ -11,3 +11,5 @@ pub mod Input
 pub mod Standing
 pub mod Loading
 pub mod Solving
+pub mod Reporting
+

@@ -1,6 +1,7 @@
 //! Plans for control networks.
 #![tactic(auto)]
 
+mod answer;
 mod command;
 mod load;
 mod narrow;
