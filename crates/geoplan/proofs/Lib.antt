@@ -8,5 +8,6 @@ pub mod CommandLemmas
 pub mod TextLemmas
 pub mod InputLemmas
 pub mod LoadLemmas
+mod NarrowExamples
 pub mod SolveLemmas
 pub mod PrintLemmas

@@ -1,18 +1,17 @@
 -- What holds of all that two narrow tables give.
-use Rattle.std.proofs.Common.{◌≡◌, ℕ, ◌+◌, ◌≤◌, List, [], ◌∷◌, ◌++◌, length, map, Option, Some, None, option_map, option_and_then, arith, refl, ap, sym, ◌∙◌, subst, ◌&&◌, Bool, true, false, if◌then◌else◌, nat_le, bytes_eq, codes}
+use Rattle.std.proofs.Common.{◌≡◌, ℕ, ◌+◌, ◌≤◌, List, [], ◌∷◌, length, map, Option, Some, None, option_map, option_and_then, arith, refl, sym, ◌∙◌, subst, ◌&&◌, true, false, if◌then◌else◌, nat_le, bytes_eq, codes}
 use Rattle.std.proofs.lemmas.Bool.{leb-true, and_parts}
 use Rattle.std.proofs.lemmas.List.{length-map}
 use Rattle.std.proofs.lemmas.List.Elements.{All-nil, All-cons, All-append, All-map, All-head, All-tail}
 use Rattle.std.proofs.lemmas.Option.{same_Some, none-some, cond_some, option_and_then_some}
 use Rattle.std.specs.Prelude.{All}
-use Rattle.geo_model.specs.Candidate.{CandidateOf}
 use Rattle.geo_model.specs.Network.{IsNetwork}
 use Rattle.geoplan.specs.NarrowText.{decimal_of}
 use Rattle.geoplan.specs.NarrowRows.{each_of, under_header, same_texts, unmarked_rows, names_differ}
 use Rattle.geoplan.specs.NarrowPoints.{PointsOf, limited, height_of, is_place, point_of, new_here, new_points, only, points_from, points_of, point_header}
 use Rattle.geoplan.specs.NarrowCandidates.{LevelsOf, level_of, levels_from, levels_of, candidate_header}
 use Rattle.geoplan.specs.Narrow.{NarrowOf, narrow_from, narrow_tables, network_of}
-use Rattle.geoplan.specs.NarrowNetwork.{IsNarrowNetwork}
+use Rattle.bound_log.specs.Narrow.{IsNarrow}
 use Rattle.geoplan.specs.declared.narrow.point.Height.{Height}
 use Rattle.geoplan.specs.declared.narrow.point.Height.TheVariants.{Fixed, Limited}
 use Rattle.geoplan.specs.declared.narrow.point.Point.{Point}
@@ -89,8 +88,8 @@ new_points-within : (number : ℕ) (points : List Point) → All (λ point. IsHe
 new_points-within number [] all = All-nil (λ (new : NewPoint). IsLimitIn new.limit)
 new_points-within number (point ∷ rest) all =
     All-append (λ (new : NewPoint). IsLimitIn new.limit) (new_here number point.height) (new_points (number + 1) rest)
-      (new_here-within number point.height (All-head (λ (p : Point). IsHeight p.height) point rest all))
-      (new_points-within (number + 1) rest (All-tail (λ (p : Point). IsHeight p.height) point rest all))
+    (new_here-within number point.height (All-head (λ (p : Point). IsHeight p.height) point rest all))
+    (new_points-within (number + 1) rest (All-tail (λ (p : Point). IsHeight p.height) point rest all))
 
 only-All : {X : Type 0} (P : X → Type 0) (xs : List X) (x : X) → only xs ≡ Some x → All P xs → P x
 only-All P [] x is all = absurd (none-some x is)
@@ -114,7 +113,7 @@ pub points_of-limit : (bytes : List ℕ) (points : PointsOf) → points_of bytes
 unfolding points_of
 points_of-limit bytes points is =
     option_and_then_some points_from _ points is (λ list read from.
-      points_from-within list points (under_header-All point_of (λ point. IsHeight point.height) point_of-within point_header (unmarked_rows bytes) list read) from)
+    points_from-within list points (under_header-All point_of (λ point. IsHeight point.height) point_of-within point_header (unmarked_rows bytes) list read) from)
 
 -- what holds of the candidates of a table
 pub record IsLevels (levels : LevelsOf) : Type 0 where
@@ -138,7 +137,7 @@ pub levels_of-facts : (points : PointsOf) (bytes : List ℕ) (levels : LevelsOf)
 unfolding levels_of
 levels_of-facts points bytes levels is =
     option_and_then_some levels_from _ levels is (λ list read from.
-      levels_from-facts list levels (under_header-All (level_of points) (λ level. IsOneRow level.candidate) (level_of-one points) candidate_header (unmarked_rows bytes) list read) from)
+    levels_from-facts list levels (under_header-All (level_of points) (λ level. IsOneRow level.candidate) (level_of-one points) candidate_header (unmarked_rows bytes) list read) from)
 
 -- the network of both tables keeps the bounds of a network
 pub narrow_bounds : (points_bytes candidates_bytes : List ℕ) (points : PointsOf) (levels : LevelsOf) → points_of points_bytes ≡ Some points → levels_of points candidates_bytes ≡ Some levels → IsNetwork (network_of points.new_point levels.candidates)
@@ -148,7 +147,7 @@ narrow_bounds points_bytes candidates_bytes points levels of read =
     network_bounds points.new_point levels.candidates limit.0 limit.1 facts.few facts.each
 
 -- and it is narrow
-pub network_of-narrow : (points : PointsOf) (new : NewPoint) (bytes : List ℕ) (levels : LevelsOf) → levels_of points bytes ≡ Some levels → IsNarrowNetwork (network_of new levels.candidates)
+pub network_of-narrow : (points : PointsOf) (new : NewPoint) (bytes : List ℕ) (levels : LevelsOf) → levels_of points bytes ≡ Some levels → IsNarrow (network_of new levels.candidates)
 network_of-narrow points new bytes levels read = network_narrow new levels.candidates (levels_of-facts points bytes levels read).each
 
 -- what both tables give comes of their points and of their levels
@@ -172,10 +171,10 @@ made_tables points_bytes candidates_bytes points (Some levels) tables of read is
 pub narrow_tables-from : (points candidates : List ℕ) (tables : NarrowOf) → narrow_tables points candidates ≡ Some tables → IsFromTables points candidates tables
 narrow_tables-from points candidates tables is =
     option_and_then_some (λ table. option_map (narrow_from table) (levels_of table candidates)) (points_of points) tables is (λ table of made.
-      made_tables points candidates table (levels_of table candidates) tables of refl made)
+    made_tables points candidates table (levels_of table candidates) tables of refl made)
 
 -- the network that two narrow tables give is narrow
-pub narrow_tables-narrow : (points candidates : List ℕ) (tables : NarrowOf) → narrow_tables points candidates ≡ Some tables → IsNarrowNetwork tables.network
+pub narrow_tables-narrow : (points candidates : List ℕ) (tables : NarrowOf) → narrow_tables points candidates ≡ Some tables → IsNarrow tables.network
 narrow_tables-narrow points candidates tables is =
     let from : IsFromTables points candidates tables = narrow_tables-from points candidates tables is in
     rw from.value (network_of-narrow from.points from.points.new_point candidates from.levels from.levels_read)
@@ -185,3 +184,9 @@ pub narrow_tables-bounds : (points candidates : List ℕ) (tables : NarrowOf) �
 narrow_tables-bounds points candidates tables is =
     let from : IsFromTables points candidates tables = narrow_tables-from points candidates tables is in
     rw from.value (narrow_bounds points candidates from.points from.levels from.points_read from.levels_read)
+
+-- there are as many names as candidates
+pub narrow_tables-named : (points candidates : List ℕ) (tables : NarrowOf) → narrow_tables points candidates ≡ Some tables → length tables.names ≡ length tables.network.candidates
+narrow_tables-named points candidates tables is =
+    let from : IsFromTables points candidates tables = narrow_tables-from points candidates tables is in
+    rw from.value (levels_of-facts from.points candidates from.levels from.levels_read).named

@@ -1,10 +1,10 @@
 -- What the definitions of points and levels keep.
-use Rattle.std.proofs.Common.{◌≡◌, ℕ, ◌≤◌, pos, List, [], ◌∷◌, length, map, Option, Some, None, option_map, option_and_then, arith, refl, ap, sym, ◌∙◌, ◌==◌, ◌&&◌, Bool, true, false, if◌then◌else◌, nat_le, inl, inr, negsuc, subst}
-use Rattle.std.proofs.lemmas.Bool.{leb-true, and_parts, cond_both}
+use Rattle.std.proofs.Common.{◌≡◌, ℕ, ◌≤◌, pos, List, [], ◌∷◌, Option, Some, None, arith, refl, ap, ◌==◌, ◌&&◌, Bool, true, false, if◌then◌else◌, nat_le, inl, inr, negsuc, subst}
+use Rattle.std.proofs.lemmas.Bool.{leb-true, and_parts}
 use Rattle.std.proofs.lemmas.Option.{same_Some, none-some, cond_some}
 use Rattle.geo_model.specs.Row.{Entries}
 use Rattle.geo_model.specs.Candidate.{CandidateOf}
-use Rattle.geoplan.specs.NarrowNetwork.{IsNarrow}
+use Rattle.bound_log.specs.Narrow.{IsLevelRow}
 use Rattle.geoplan.specs.NarrowPoints.{PointsOf}
 use Rattle.geoplan.specs.NarrowCandidates.{between, deviation_of, price_of, weight_of, level_entries, entries_between, entries_of, is_level, level_from, level_of, number_of}
 use Rattle.geoplan.specs.NarrowText.{decimal_of, whole_of}
@@ -28,30 +28,30 @@ unfolding price_of
 price_of-within text price is = (between-within 0 1000000000 (whole_of 10 text) price is).1
 
 -- the entries of a level are narrow
-level_entries-narrow : (new from to : ℕ) → IsNarrow (level_entries new from to)
+level_entries-narrow : (new from to : ℕ) → IsLevelRow (level_entries new from to)
 level_entries-narrow new from to =
-    elim (to == new) as (λ t. IsNarrow (if t then (0, pos 10000) ∷ [] else (if from == new then (0, negsuc 9999) ∷ [] else []))) [
+    elim (to == new) as (λ t. IsLevelRow (if t then (0, pos 10000) ∷ [] else (if from == new then (0, negsuc 9999) ∷ [] else []))) [
       | true ↦ inr (inl refl)
-      | false ↦ elim (from == new) as (λ t. IsNarrow (if t then (0, negsuc 9999) ∷ [] else [])) [ true ↦ inr (inr refl) | false ↦ inl refl ]
+      | false ↦ elim (from == new) as (λ t. IsLevelRow (if t then (0, negsuc 9999) ∷ [] else [])) [ true ↦ inr (inr refl) | false ↦ inl refl ]
     ]
 
-different-narrow : (new from to : ℕ) (t : Bool) (entries : Entries) → (if t then None else Some (level_entries new from to)) ≡ Some entries → IsNarrow entries
+different-narrow : (new from to : ℕ) (t : Bool) (entries : Entries) → (if t then None else Some (level_entries new from to)) ≡ Some entries → IsLevelRow entries
 different-narrow new from to true entries is = absurd (none-some entries is)
 different-narrow new from to false entries is =
-    subst (λ (e : Entries). IsNarrow e) (same_Some (level_entries new from to) entries is) (level_entries-narrow new from to)
+    subst (λ (e : Entries). IsLevelRow e) (same_Some (level_entries new from to) entries is) (level_entries-narrow new from to)
 
-entries_between-narrow : (new : ℕ) (from to : Option ℕ) (entries : Entries) → entries_between new from to ≡ Some entries → IsNarrow entries
+entries_between-narrow : (new : ℕ) (from to : Option ℕ) (entries : Entries) → entries_between new from to ≡ Some entries → IsLevelRow entries
 entries_between-narrow new None to entries is = absurd (none-some entries is)
 entries_between-narrow new (Some from) None entries is = absurd (none-some entries is)
 entries_between-narrow new (Some from) (Some to) entries is = different-narrow new from to (from == to) entries is
 
-pub entries_of-narrow : (points : PointsOf) (from to : List ℕ) (entries : Entries) → entries_of points from to ≡ Some entries → IsNarrow entries
+pub entries_of-narrow : (points : PointsOf) (from to : List ℕ) (entries : Entries) → entries_of points from to ≡ Some entries → IsLevelRow entries
 unfolding entries_of
 entries_of-narrow points from to entries is =
     entries_between-narrow points.new_point.number (number_of points.names from) (number_of points.names to) entries is
 
 -- a level's candidate is one narrow row
-level_from-one : (name : List ℕ) (entries : Option Entries) (u price : Option ℕ) (level : Level) → ((e : Entries) → entries ≡ Some e → IsNarrow e) → ((n : ℕ) → u ≡ Some n → (10 ≤ n) × (n ≤ 10000)) → ((p : ℕ) → price ≡ Some p → p ≤ 1000000000) → level_from name entries u price ≡ Some level → IsOneRow level.candidate
+level_from-one : (name : List ℕ) (entries : Option Entries) (u price : Option ℕ) (level : Level) → ((e : Entries) → entries ≡ Some e → IsLevelRow e) → ((n : ℕ) → u ≡ Some n → (10 ≤ n) × (n ≤ 10000)) → ((p : ℕ) → price ≡ Some p → p ≤ 1000000000) → level_from name entries u price ≡ Some level → IsOneRow level.candidate
 level_from-one name (Some e) (Some n) (Some p) level narrow within cheap is =
     let bounds : (1 ≤ weight_of n) × (weight_of n ≤ 1000000) = weight_of-bounds n (within n refl).0 (within n refl).1 in
     let same : record { price = p; rows = record { entries = e; weight = pos (weight_of n) } ∷ [] } ≡ level.candidate = ap (λ (l : Level). l.candidate) (same_Some _ level is) in

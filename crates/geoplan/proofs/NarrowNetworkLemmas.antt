@@ -1,20 +1,19 @@
 -- The bounds of the network that narrow tables give.
-use Rattle.std.proofs.Common.{◌≡◌, ◌≢◌, ℕ, ◌+◌, ◌*◌, ◌/◌, ◌^◌, ◌<◌, ◌≤◌, ℤ, pos, negsuc, ◌*ℤ◌, ◌≤ℤ◌, List, [], ◌∷◌, ◌++◌, length, map, Option, Some, None, option_map, option_and_then, arith, refl, ap, sym, ◌∙◌, suc, zero, inl, inr, ◌⊎◌, ◌==◌, ◌&&◌, Bool, true, false, if◌then◌else◌, lit<, lit≤, nat_le, cond}
+use Rattle.std.proofs.Common.{◌≡◌, ◌≢◌, ℕ, ◌+◌, ◌*◌, ◌/◌, ◌^◌, ◌<◌, ◌≤◌, ℤ, pos, negsuc, ◌*ℤ◌, ◌≤ℤ◌, List, [], ◌∷◌, length, arith, refl, suc, zero, inl, inr, ◌&&◌, lit<, lit≤}
 use Rattle.std.proofs.Math.Nat.{mul-le-mul}
 use Rattle.std.proofs.lemmas.Nat.{le-div, div_below}
 use Rattle.std.proofs.lemmas.Int.{ints, clamps}
-use Rattle.std.proofs.lemmas.Bool.{leb-true, and_parts}
-use Rattle.std.proofs.lemmas.Option.{same_Some, none-some}
-use Rattle.std.proofs.lemmas.List.Elements.{All-nil, All-cons, All-append, All-weaker, All-map, All-head}
+use Rattle.std.proofs.lemmas.Option.{none-some}
+use Rattle.std.proofs.lemmas.List.Elements.{All-nil, All-cons, All-weaker}
 use Rattle.std.proofs.lemmas.List.Sums.{sum_by-le, count_by-le-length}
-use Rattle.std.specs.Prelude.{All, AllPairs, IsNone, unsigned_abs, int_lt, sum_by, count_by}
+use Rattle.std.specs.Prelude.{All, AllPairs, IsNone, unsigned_abs, int_lt, sum_by}
 use Rattle.std.specs.Int.{int_max}
-use Rattle.geo_model.specs.Row.{Entries, RowOf, IsSparse, IsRow, total_size, unit_at}
+use Rattle.geo_model.specs.Row.{Entries, IsSparse, IsRow, total_size, unit_at}
 use Rattle.geo_model.specs.Candidate.{CandidateOf, IsCandidate}
 use Rattle.geo_model.specs.Energy.{full_energy}
-use Rattle.geo_model.specs.Limit.{SquareOf, LimitOf, IsLoad, load, is_point_limit}
-use Rattle.geo_model.specs.Network.{NetworkOf, IsLimit, IsNetwork}
-use Rattle.geoplan.specs.NarrowNetwork.{IsNarrow, IsNarrowSquare, IsNarrowLimit, IsNarrowNetwork}
+use Rattle.geo_model.specs.Limit.{SquareOf, IsLoad, load, is_point_limit}
+use Rattle.geo_model.specs.Network.{IsLimit, IsNetwork}
+use Rattle.bound_log.specs.Narrow.{IsLevelRow, IsHeightSquare, IsNarrow}
 use Rattle.geoplan.specs.NarrowCandidates.{weight_of}
 use Rattle.geoplan.specs.Narrow.{height_limit, network_of}
 use Rattle.geoplan.specs.declared.narrow.points.NewPoint.{NewPoint}
@@ -25,10 +24,9 @@ unfolding weight_of
 weight_of-bounds u least most =
     let low : 10 * 10 ≤ u * u = mul-le-mul least least in
     let high : u * u ≤ 10000 * 10000 = mul-le-mul most most in
-    let positive : 0 < 2 * (u * u) = omega (arith, low) in
-    (
+    let positive : 0 < 2 * (u * u) = omega (arith, low) in (
       le-div 1 (2 * 10 ^ 8 + u * u) (2 * (u * u)) positive (omega (arith, high)),
-      (let below : (2 * 10 ^ 8 + u * u) / (2 * (u * u)) < 1000001 = div_below (2 * 10 ^ 8 + u * u) (2 * (u * u)) 1000001 positive (omega (arith, low)) in omega arith)
+      (let below : (2 * 10 ^ 8 + u * u) / (2 * (u * u)) < 1000001 = div_below (2 * 10 ^ 8 + u * u) (2 * (u * u)) 1000001 positive (omega (arith, low)) in omega arith),
     )
 
 -- the pairs of a list of one element
@@ -74,7 +72,7 @@ none_short = record {
   each = All-nil IsEntry;
 }
 
-narrow_short : (entries : Entries) → IsNarrow entries → IsShort entries
+narrow_short : (entries : Entries) → IsLevelRow entries → IsShort entries
 narrow_short entries is =
     elim is [
       | inl e ↦ rw e none_short
@@ -82,7 +80,7 @@ narrow_short entries is =
     ]
 
 -- a row of narrow entries keeps the bounds of a row
-pub narrow_row : (entries : Entries) (weight : ℕ) → IsNarrow entries → 1 ≤ weight → weight ≤ 1000000 → IsRow (record { entries = entries; weight = pos weight })
+pub narrow_row : (entries : Entries) (weight : ℕ) → IsLevelRow entries → 1 ≤ weight → weight ≤ 1000000 → IsRow (record { entries = entries; weight = pos weight })
 narrow_row entries weight is least most =
     let short : IsShort entries = narrow_short entries is in
     let size : total_size entries ≤ length entries * 10000 = sum_by-le (λ entry. unsigned_abs entry.1) 10000 entries (All-weaker IsEntry (λ entry. unsigned_abs entry.1 ≤ 10000) (λ entry e. e.small) entries short.each) in
@@ -96,7 +94,7 @@ narrow_row entries weight is least most =
     }
 
 -- its columns are below 1
-pub narrow_columns : (entries : Entries) → IsNarrow entries → All (λ entry. entry.0 < 1) entries
+pub narrow_columns : (entries : Entries) → IsLevelRow entries → All (λ entry. entry.0 < 1) entries
 narrow_columns entries is =
     All-weaker IsEntry (λ entry. entry.0 < 1) (λ entry e. omega (arith, e.column)) entries (narrow_short entries is).each
 
@@ -106,7 +104,7 @@ pub record IsOneRow (candidate : CandidateOf) : Type 0 where
   pub entries : Entries
   pub weight : ℕ
   pub rows : candidate.rows ≡ record { entries = entries; weight = pos weight } ∷ []
-  pub narrow : IsNarrow entries
+  pub narrow : IsLevelRow entries
   pub least : 1 ≤ weight
   pub most : weight ≤ 1000000
 
@@ -117,8 +115,8 @@ one_row_candidate candidate is = record {
   columns = rw is.rows (All-one (λ row. All (λ entry. entry.0 < 1) row.entries) _ (narrow_columns is.entries is.narrow));
 }
 
-one_row_narrow : (candidate : CandidateOf) → IsOneRow candidate → All (λ row. IsNarrow row.entries) candidate.rows
-one_row_narrow candidate is = rw is.rows (All-one (λ row. IsNarrow row.entries) _ is.narrow)
+one_row_narrow : (candidate : CandidateOf) → IsOneRow candidate → All (λ row. IsLevelRow row.entries) candidate.rows
+one_row_narrow candidate is = rw is.rows (All-one (λ row. IsLevelRow row.entries) _ is.narrow)
 
 one_row_length : (candidate : CandidateOf) → IsOneRow candidate → length candidate.rows ≤ 1
 one_row_length candidate is = rw is.rows (omega arith)
@@ -178,12 +176,11 @@ network_bounds new candidates least most few each =
     }
 
 -- and it is narrow
-pub network_narrow : (new : NewPoint) (candidates : List CandidateOf) → All IsOneRow candidates → IsNarrowNetwork (network_of new candidates)
+pub network_narrow : (new : NewPoint) (candidates : List CandidateOf) → All IsOneRow candidates → IsNarrow (network_of new candidates)
+unfolding height_square
 network_narrow new candidates each = record {
   unknowns = refl;
-  rows = All-weaker IsOneRow (λ candidate. All (λ row. IsNarrow row.entries) candidate.rows) one_row_narrow candidates each;
-  limits = All-one IsNarrowLimit (height_limit new) (record {
-    unowned = refl;
-    squares = All-one IsNarrowSquare _ (record { beta = refl; entries = refl });
-  });
+  levels = All-weaker IsOneRow (λ candidate. All (λ row. IsLevelRow row.entries) candidate.rows) one_row_narrow candidates each;
+  unowned = All-one (λ limit. IsNone limit.owner) (height_limit new) refl;
+  heights = All-one (λ limit. All IsHeightSquare limit.squares) (height_limit new) (All-one IsHeightSquare height_square (refl, refl));
 }

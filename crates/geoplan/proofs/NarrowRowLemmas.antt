@@ -1,5 +1,5 @@
 -- How records, names and tables go.
-use Rattle.std.proofs.Common.{◌≡◌, ℕ, ◌+◌, ◌<◌, ◌≤◌, List, [], ◌∷◌, ◌++◌, length, Option, Some, None, option_map, option_and_then, arith, refl, ap, sym, ◌∙◌, append_assoc, add-one, get_or, drop, map, Bool, true, false, ◌&&◌, suc, Bor}
+use Rattle.std.proofs.Common.{◌≡◌, ℕ, ◌+◌, ◌<◌, List, [], ◌∷◌, ◌++◌, length, Option, Some, None, option_map, option_and_then, arith, refl, ap, sym, ◌∙◌, append_assoc, add-one, get_or, drop, map, ◌&&◌, suc, Bor}
 use Rattle.std.proofs.Math.Seq.{drop-cons}
 use Rattle.std.proofs.lemmas.Option.{same_Some, none-some, slice_get_within, get_or_from_slice_get}
 use Rattle.std.specs.Prelude.{slice_get, bytes_eq}

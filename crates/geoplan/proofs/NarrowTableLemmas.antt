@@ -1,5 +1,5 @@
 -- How the records of a whole table go.
-use Rattle.std.proofs.Common.{◌≡◌, ℕ, ◌+◌, ◌<◌, ◌≤◌, List, [], ◌∷◌, ◌++◌, length, Option, Some, None, option_map, option_and_then, arith, refl, ap, sym, ◌∙◌, drop, Bool, true, false, suc, zero, if◌then◌else◌, nat_eq, map, not}
+use Rattle.std.proofs.Common.{◌≡◌, ℕ, ◌+◌, ◌≤◌, List, [], ◌∷◌, length, Option, Some, None, option_and_then, arith, refl, drop, true, false, suc, zero, if◌then◌else◌, nat_eq, map, not}
 use Rattle.std.proofs.lemmas.Bool.{false_from_ne_true, cond_both}
 use Rattle.std.proofs.lemmas.Bool.Decides.{Decides-eqb}
 use Rattle.std.proofs.lemmas.Slice.Eq.{starts_is}

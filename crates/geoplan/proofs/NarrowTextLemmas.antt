@@ -1,18 +1,18 @@
 -- How the tests and numbers of texts go.
-use Rattle.std.proofs.Common.{◌≡◌, ℕ, ◌+◌, ◌-◌, ◌*◌, ◌^◌, ◌<◌, ◌≤◌, List, [], ◌∷◌, ◌++◌, length, take, drop, Bool, true, false, ◌&&◌, Option, Some, None, arith, refl, ap, sym, ◌∙◌, rules, get_or, add_assoc, lit<}
+use Rattle.std.proofs.Common.{◌≡◌, ℕ, ◌+◌, ◌-◌, ◌*◌, ◌^◌, ◌<◌, ◌≤◌, List, [], ◌∷◌, ◌++◌, length, true, false, Option, Some, arith, refl, ap, sym, ◌∙◌, get_or, add_assoc, lit<}
 use Rattle.std.proofs.Math.Nat.{pow-le-pow_right}
-use Rattle.std.proofs.lemmas.Bool.{and_parts, and_from, cases_Bool, leb-true, false_from_ne_true, true_from_ne_false, both_ways}
+use Rattle.std.proofs.lemmas.Bool.{and_parts, leb-true, false_from_ne_true, true_from_ne_false, both_ways}
 use Rattle.std.proofs.lemmas.Grind.{pow_more}
 use Rattle.std.proofs.lemmas.List.Folds.{list_all_at}
 use Rattle.std.proofs.lemmas.Bool.Decides.{nat_tests}
 use Rattle.std.proofs.lemmas.Str.{IsUtf8-from_is_utf8, is_utf8-from_IsUtf8}
-use Rattle.std.proofs.lemmas.Int.Digits.{digits_value_more, digits_value-lt}
-use Rattle.std.specs.Prelude.{nat_le, ◌==◌, IsUtf8, MatchResult, is_ok, Result, Ok, Err, if◌then◌else◌}
+use Rattle.std.proofs.lemmas.Int.Digits.{digits_value-lt}
+use Rattle.std.specs.Prelude.{IsUtf8, MatchResult, is_ok, Result, Ok, Err}
 use Rattle.std.specs.Char.{is_ascii_digit, digit_value}
 use Rattle.std.specs.List.{list_all}
 use Rattle.std.specs.Str.{is_utf8}
 use Rattle.std.specs.Str.Parse.{digits_value, digits_value_after, AllDigits}
-use Rattle.geoplan.specs.NarrowText.{is_digits, is_name, is_name_byte, is_fraction, decimal_of, decimal_from}
+use Rattle.geoplan.specs.NarrowText.{is_digits, is_name, is_name_byte, decimal_from}
 
 -- a text that is too short, one that is too long, and one of a right length
 pub is_digits-short : (least most : ℕ) (text : List ℕ) → length text < least → is_digits least most text ≡ false
@@ -63,12 +63,14 @@ utf8-is_ok (Ok s) text case good bad = sym (is_utf8-from_IsUtf8 text (good s cas
 utf8-is_ok (Err e) text case good bad = sym (false_from_ne_true (is_utf8 text) (λ is. bad e case (IsUtf8-from_is_utf8 text is)))
 
 -- the value of a digit
+digit_value-within : (byte : ℕ) → 48 ≤ byte → byte ≤ 57 → digit_value byte ≡ byte - 48
+digit_value-within byte low high = grind (arith, nat_tests)
+
 pub digit_value-digit : (byte : ℕ) → is_ascii_digit byte ≡ true → (48 ≤ byte) × (byte ≤ 57) × (digit_value byte ≡ byte - 48)
 digit_value-digit byte is =
     let low : 48 ≤ byte = leb-true 48 byte (and_parts _ _ is).0 in
     let high : byte ≤ 57 = leb-true byte 57 (and_parts _ _ is).1 in
-    let value : digit_value byte ≡ byte - 48 = grind (arith, nat_tests) in
-    (low, high, value)
+    (low, high, digit_value-within byte low high)
 
 -- one more digit
 pub digits_value_after-push : (number : ℕ) (digits : List ℕ) (byte : ℕ) → digits_value_after 10 number (digits ++ byte ∷ []) ≡ digits_value_after 10 number digits * 10 + digit_value byte

@@ -3,7 +3,6 @@ pub mod NarrowRows
 pub mod NarrowPoints
 pub mod NarrowCandidates
 pub mod Narrow
-pub mod NarrowNetwork
 pub mod CommandOf
 pub mod CommandView
 pub mod Texts
@@ -14,5 +13,4 @@ pub mod Loading
 pub mod Solving
 pub mod Reporting
 pub mod Printing
-
 

@@ -1,5 +1,5 @@
 -- The candidates of a table in the narrow form. This project's own.
-use Rattle.std.specs.Prelude.{ℕ, ◌+◌, ◌*◌, ◌/◌, ◌^◌, ℤ, pos, negsuc, List, [], ◌∷◌, map, length, Bool, ◌&&◌, ◌==◌, nat_le, if◌then◌else◌, Option, Some, None, option_map, option_and_then, position, bytes_eq, codes}
+use Rattle.std.specs.Prelude.{ℕ, ◌+◌, ◌*◌, ◌/◌, ◌^◌, pos, negsuc, List, [], ◌∷◌, map, length, Bool, ◌&&◌, ◌==◌, nat_le, if◌then◌else◌, Option, Some, None, option_and_then, position, bytes_eq, codes}
 use Rattle.geo_model.specs.Row.{Entries}
 use Rattle.geo_model.specs.Candidate.{CandidateOf}
 use Rattle.geoplan.specs.NarrowText.{is_empty, is_name, whole_of, decimal_of}
@@ -57,7 +57,7 @@ abbrev pub level_from : List ℕ → Option Entries → Option ℕ → Option �
 level_from name (Some entries) (Some u) (Some price) =
     Some (record {
       name = name;
-      candidate = record { price = price; rows = record { entries = entries; weight = pos (weight_of u) } ∷ [] }
+      candidate = record { price = price; rows = record { entries = entries; weight = pos (weight_of u) } ∷ [] };
     })
 level_from name entries u price = None
 

@@ -31,5 +31,8 @@ pub fn is_point_header(row: &TableRow) -> bool
 pub fn is_candidate_header(row: &TableRow) -> bool
     ensures { result ≡ same_texts row.now candidate_header }
 {
-    has_texts(row, &["name", "kind", "from", "to", "to2", "sd", "sdh", "price"])
+    has_texts(
+        row,
+        &["name", "kind", "from", "to", "to2", "sd", "sdh", "price"],
+    )
 }

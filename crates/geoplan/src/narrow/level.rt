@@ -1,5 +1,4 @@
 ghost use Rattle.std.specs.Prelude.{◌≡◌, ◌≢◌, ◌∷◌, [], ◌≤◌, pos, ◌≤ℤ◌, length, MatchOption, IfOk, IfSome, option_map};
-ghost use Rattle.geoplan.specs.NarrowNetwork.{IsNarrow};
 ghost use Rattle.geoplan.specs.NarrowCandidates.{between, deviation_of, price_of, weight_of, level_entries, entries_of, is_level, level_of};
 
 use crate::narrow::name::Name;
@@ -98,7 +97,12 @@ fn weight(deviation: u64) -> i64
 }
 
 // The entries of a level from one point to another, by their numbers.
-fn level_entries(alloc: Global, new: usize, from: usize, to: usize) -> Result<Vec<(u32, i64)>, NoMemory>
+fn level_entries(
+    alloc: Global,
+    new: usize,
+    from: usize,
+    to: usize,
+) -> Result<Vec<(u32, i64)>, NoMemory>
     ensures { IfOk result (λ entries. entries.items ≡ level_entries new from to) }
 {
     let mut entries = Vec::new(alloc);
@@ -112,7 +116,12 @@ fn level_entries(alloc: Global, new: usize, from: usize, to: usize) -> Result<Ve
 
 // The entries of a level between two different points.
 #[tactic(auto, unfolding(crate::specs::NarrowCandidates::entries_of))]
-fn entries(alloc: Global, points: &Points, from: &[u8], to: &[u8]) -> Result<Option<Vec<(u32, i64)>>, NoMemory>
+fn entries(
+    alloc: Global,
+    points: &Points,
+    from: &[u8],
+    to: &[u8],
+) -> Result<Option<Vec<(u32, i64)>>, NoMemory>
     ensures { IfOk result (λ read. option_map (λ entries. entries.items) read ≡ entries_of points.now from.now to.now) }
 {
     let (Some(from), Some(to)) = (points.number_of(from), points.number_of(to)) else {

@@ -67,7 +67,12 @@ fn levels_from(alloc: Global, levels: Vec<Level>) -> Result<Option<Levels>, NoMe
 }
 
 // The levels that the records left give.
-fn each_level(alloc: Global, points: &Points, rows: &mut TableRows, row: &mut TableRow) -> Result<Option<Vec<Level>>, NoMemory>
+fn each_level(
+    alloc: Global,
+    points: &Points,
+    rows: &mut TableRows,
+    row: &mut TableRow,
+) -> Result<Option<Vec<Level>>, NoMemory>
     ensures { IfOk result (λ read. option_map (λ levels. levels.items) read ≡ each_of (level_of points.now) rows.old) }
 {
     let mut levels = Vec::new(alloc);
@@ -81,7 +86,12 @@ fn each_level(alloc: Global, points: &Points, rows: &mut TableRows, row: &mut Ta
 }
 
 // The levels that the records left give, where the first of them is the header.
-fn levels_under(alloc: Global, points: &Points, rows: &mut TableRows, row: &mut TableRow) -> Result<Option<Vec<Level>>, NoMemory>
+fn levels_under(
+    alloc: Global,
+    points: &Points,
+    rows: &mut TableRows,
+    row: &mut TableRow,
+) -> Result<Option<Vec<Level>>, NoMemory>
     ensures { IfOk result (λ read. option_map (λ levels. levels.items) read ≡ option_and_then (each_of (level_of points.now)) (under_header candidate_header rows.old)) }
 {
     if !rows.next(row)? || !is_candidate_header(row) {

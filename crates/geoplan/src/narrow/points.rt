@@ -98,7 +98,11 @@ fn points_from(alloc: Global, points: Vec<Point>) -> Result<Option<Points>, NoMe
 }
 
 // The points that the records left give.
-fn each_point(alloc: Global, rows: &mut TableRows, row: &mut TableRow) -> Result<Option<Vec<Point>>, NoMemory>
+fn each_point(
+    alloc: Global,
+    rows: &mut TableRows,
+    row: &mut TableRow,
+) -> Result<Option<Vec<Point>>, NoMemory>
     ensures { IfOk result (λ read. option_map (λ points. points.items) read ≡ each_of point_of rows.old) }
 {
     let mut points = Vec::new(alloc);
@@ -112,7 +116,11 @@ fn each_point(alloc: Global, rows: &mut TableRows, row: &mut TableRow) -> Result
 }
 
 // The points that the records left give, where the first of them is the header.
-fn points_under(alloc: Global, rows: &mut TableRows, row: &mut TableRow) -> Result<Option<Vec<Point>>, NoMemory>
+fn points_under(
+    alloc: Global,
+    rows: &mut TableRows,
+    row: &mut TableRow,
+) -> Result<Option<Vec<Point>>, NoMemory>
     ensures { IfOk result (λ read. option_map (λ points. points.items) read ≡ option_and_then (each_of point_of) (under_header point_header rows.old)) }
 {
     if !rows.next(row)? || !is_point_header(row) {

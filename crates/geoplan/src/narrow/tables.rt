@@ -1,7 +1,7 @@
 ghost use Rattle.std.specs.Prelude.{◌≡◌, ◌≤◌, length, IfOk, IfSome};
 ghost use Rattle.geoplan.specs.Narrow.{height_limit, network_of, narrow_tables};
 ghost use Rattle.geo_model.specs.Network.{IsNetwork};
-ghost use Rattle.geoplan.specs.NarrowNetwork.{IsNarrowNetwork};
+ghost use Rattle.bound_log.specs.Narrow.{IsNarrow};
 
 use crate::narrow::levels::read_levels;
 use crate::narrow::name::Name;
@@ -77,10 +77,14 @@ fn network_of(alloc: Global, new: NewPoint, candidates: Vec<Candidate>) -> Resul
 }
 
 /// What two tables of at most 65536 bytes each give, where both are in the narrow form.
-pub fn read_narrow(alloc: Global, points: &[u8], candidates: &[u8]) -> Result<Option<NarrowTables>, NoMemory>
+pub fn read_narrow(
+    alloc: Global,
+    points: &[u8],
+    candidates: &[u8],
+) -> Result<Option<NarrowTables>, NoMemory>
     requires { length points.now ≤ 65536 }
     ensures read { IfOk result (λ read. read ≡ narrow_tables points.now candidates.now) }
-    ensures narrow { IfOk result (λ read. IfSome read (λ tables. IsNarrowNetwork tables.network)) }
+    ensures narrow { IfOk result (λ read. IfSome read (λ tables. IsNarrow tables.network)) }
     ensures named { IfOk result (λ read. IfSome read (λ tables. length tables.names ≡ length tables.network.candidates)) }
 {
     let Some(points) = read_points(alloc, points)? else {

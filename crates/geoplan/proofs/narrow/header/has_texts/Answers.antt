@@ -1,7 +1,6 @@
-use Rattle.std.proofs.Common.{◌≡◌, ◌+◌, ◌∙◌, Bool, true, false, ◌&&◌, not, map, drop, sym, refl}
+use Rattle.std.proofs.Common.{◌≡◌, ◌∙◌, true, false, sym, refl}
 use Rattle.std.proofs.lemmas.Bool.{not-true, not-false}
 use Rattle.std.specs.Prelude.{bytes_eq}
-use Rattle.geoplan.specs.NarrowRows.{same_texts}
 use Rattle.geoplan.proofs.NarrowRowLemmas.{texts_step}
 use Rattle.geoplan.proofs.narrow.header.has_texts.Goals as goal
 

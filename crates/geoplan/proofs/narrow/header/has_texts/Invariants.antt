@@ -1,4 +1,4 @@
-use Rattle.std.proofs.Common.{◌≡◌, map, drop, length}
+use Rattle.std.proofs.Common.{◌≡◌, map, drop}
 use Rattle.geoplan.specs.NarrowRows.{same_texts}
 use Rattle.geoplan.proofs.narrow.header.has_texts.Given as goal
 

@@ -1,4 +1,4 @@
-use Rattle.std.proofs.Common.{◌≡◌, None, Some, sym}
+use Rattle.std.proofs.Common.{None, Some, sym}
 use Rattle.std.proofs.lemmas.Bool.{both_ways}
 use Rattle.table_rows.specs.Mark.{StartsWithMark}
 use Rattle.geoplan.proofs.NarrowTableLemmas.{levels_of-marked, levels_of-read}

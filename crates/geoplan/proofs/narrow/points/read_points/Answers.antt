@@ -1,4 +1,4 @@
-use Rattle.std.proofs.Common.{◌≡◌, List, ℕ, None, Some, sym, ap, arith, length, ◌≤◌}
+use Rattle.std.proofs.Common.{◌≡◌, None, Some, sym, ap, arith, length, ◌≤◌}
 use Rattle.std.proofs.lemmas.Bool.{both_ways}
 use Rattle.table_rows.specs.Mark.{StartsWithMark}
 use Rattle.table_rows.specs.Rows.{table_rows}

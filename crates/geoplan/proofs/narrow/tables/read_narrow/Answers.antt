@@ -1,8 +1,4 @@
-use Rattle.std.proofs.Common.{◌≡◌, ◌≤◌, ◌∙◌, Some, sym, length, ap}
-use Rattle.geo_model.specs.Network.{IsNetwork}
-use Rattle.geoplan.specs.NarrowPoints.{points_of}
-use Rattle.geoplan.specs.NarrowCandidates.{levels_of}
-use Rattle.geoplan.specs.Narrow.{network_of}
+use Rattle.std.proofs.Common.{◌∙◌, sym}
 use Rattle.geoplan.proofs.NarrowLemmas.{points_of-limit, levels_of-facts, narrow_bounds, network_of-narrow}
 use Rattle.geoplan.proofs.narrow.tables.read_narrow.Goals as goal
 

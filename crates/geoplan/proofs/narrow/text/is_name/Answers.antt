@@ -1,9 +1,6 @@
 use Rattle.std.proofs.Common.{◌≡◌, ◌∙◌, length, true, ◌<◌, sym, arith}
-use Rattle.std.specs.Str.{is_utf8}
-use Rattle.std.specs.Prelude.{is_ok}
 use Rattle.std.specs.List.{list_all}
-use Rattle.std.proofs.lemmas.Bool.{eqb-false}
-use Rattle.geoplan.specs.NarrowText.{is_name_byte, is_name}
+use Rattle.geoplan.specs.NarrowText.{is_name_byte}
 use Rattle.geoplan.proofs.NarrowTextLemmas.{utf8-is_ok, is_name-within}
 use Rattle.geoplan.proofs.narrow.text.is_name.Goals as goal
 

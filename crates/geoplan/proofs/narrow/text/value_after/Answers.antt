@@ -1,8 +1,7 @@
-use Rattle.std.proofs.Common.{◌≡◌, ◌+◌, ◌-◌, ◌*◌, ◌<◌, ◌≤◌, ◌^◌, ℕ, List, length, take, get_or, true, refl, arith}
+use Rattle.std.proofs.Common.{◌≡◌, ◌+◌, ◌-◌, ◌*◌, ◌<◌, ◌≤◌, ◌^◌, ℕ, List, length, get_or, true, refl, arith}
 use Rattle.std.proofs.lemmas.List.{take_more}
 use Rattle.std.specs.List.{list_all}
 use Rattle.std.specs.Char.{is_ascii_digit, digit_value}
-use Rattle.std.specs.Str.Parse.{digits_value_after}
 use Rattle.geoplan.proofs.NarrowTextLemmas.{digit_at, digit_value-digit, digits_value_after-push, step_fits, step_size}
 use Rattle.geoplan.proofs.narrow.text.value_after.Invariants.{IsRead}
 use Rattle.geoplan.proofs.narrow.text.value_after.Goals as goal
