@@ -1,0 +1,3 @@
+pub mod Triangle
+pub mod Lending
+pub mod TriLending
