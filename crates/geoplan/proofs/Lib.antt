@@ -11,3 +11,4 @@ pub mod LoadLemmas
 mod NarrowExamples
 pub mod SolveLemmas
 pub mod PrintLemmas
+pub mod TopLemmas

@@ -1,4 +1,7 @@
-use Rattle.std.proofs.Common.{◌≡◌, ◌⊎◌, inl, inr, ℕ, List, [], ◌++◌, take, drop, refl, sym, ap, ◌∙◌, subst, Option}
+use Rattle.std.specs.Prelude.{◌==◌}
+use Rattle.std.proofs.lemmas.Bool.Decides.{nat_tests}
+use Rattle.std.proofs.lemmas.List.{nil_from_length}
+use Rattle.std.proofs.Common.{true, length, arith, ◌≡◌, ◌⊎◌, inl, inr, ℕ, List, [], ◌++◌, take, drop, refl, sym, ap, ◌∙◌, subst, Option}
 use Rattle.std.proofs.lemmas.List.{take-append-drop}
 use Rattle.shelf_io.specs.Faults.{Rose}
 use Rattle.shelf_io.specs.Written.{with_written}
@@ -33,3 +36,9 @@ Prints-failed begun text given ended n before now after same rose written =
 pub Prints-out : (begun : Status) (text given : List ℕ) (n : ℕ) (before now : SinkState) → given ≡ text → now.faults ≡ before.faults → now.written ≡ with_written before.written (take n given) → Prints begun text status.NoMemory before now
 Prints-out begun text given n before now same quiet written =
     inr (inr (record { after = refl; quiet = quiet; begins = prefix text given n before now same written }))
+
+-- a list of length 0 is empty
+pub no_bytes : (bytes : List ℕ) → (length bytes == 0) ≡ true → bytes ≡ []
+no_bytes bytes is =
+    let short : length bytes ≡ 0 = grind (arith, nat_tests) in
+    nil_from_length bytes short

@@ -13,4 +13,5 @@ pub mod Loading
 pub mod Solving
 pub mod Reporting
 pub mod Printing
+pub mod Promises
 

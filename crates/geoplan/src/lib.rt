@@ -9,6 +9,8 @@ mod report;
 mod run;
 mod solve;
 mod status;
+mod top;
 mod words;
 
+pub use top::geoplan;
 pub use words::Words;

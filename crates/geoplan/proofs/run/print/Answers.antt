@@ -1,14 +1,11 @@
-use Rattle.std.proofs.Common.{◌≡◌, [], length, ap, sym, ◌∙◌, Err}
-use Rattle.std.proofs.lemmas.List.{nil_from_length}
-use lib.Dec.{eqb→eq}
+use Rattle.std.proofs.Common.{◌≡◌, [], ap, sym, ◌∙◌, Err}
 use Rattle.geoplan.specs.Printing.{sink_state_of}
-use Rattle.geoplan.proofs.PrintLemmas.{Prints-nothing, Prints-failed, Prints-out}
+use Rattle.geoplan.proofs.PrintLemmas.{no_bytes, Prints-nothing, Prints-failed, Prints-out}
 use Rattle.geoplan.proofs.run.print.Goals as goal
 
 pub returns-then-is_empty : goal.returns-then-is_empty
 returns-then-is_empty g c =
-    let short : length c.as_slice.result.now ≡ 0 = eqb→eq (length c.as_slice.result.now) 0 (sym c.is_empty.ensures ∙ c.if-is_empty.true) in
-    let none : c.args.outcome.text.items ≡ [] = nil_from_length c.args.outcome.text.items (ap length (sym c.as_slice.ensures.value) ∙ short) in
+    let none : c.args.outcome.text.items ≡ [] = sym c.as_slice.ensures.value ∙ no_bytes c.as_slice.result.now (sym c.is_empty.ensures ∙ c.if-is_empty.true) in
     Prints-nothing c.args.outcome.status c.args.outcome.text.items (sink_state_of g.O.Sink.written g.O.Sink.faults c.args.out.now) none
 
 pub returns-in-Err-Failed : goal.returns-in-Err-Failed
