@@ -12,3 +12,5 @@ mod NarrowExamples
 pub mod SolveLemmas
 pub mod PrintLemmas
 pub mod TopLemmas
+pub mod FaultLemmas
+pub mod MemoryLemmas

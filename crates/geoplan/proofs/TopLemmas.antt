@@ -46,7 +46,7 @@ code_1 status.WriteFault is = absurd (omega arith)
 code_1 status.NoMemory is = absurd (omega arith)
 code_1 status.NotBuilt is = absurd (omega arith)
 
-code_6 : (ended : Status) → code_of ended ≡ 6 → ended ≡ status.WriteFault
+pub code_6 : (ended : Status) → code_of ended ≡ 6 → ended ≡ status.WriteFault
 code_6 status.Found is = absurd (omega arith)
 code_6 status.NoPlan is = absurd (omega arith)
 code_6 status.WordsRefused is = absurd (omega arith)
@@ -55,7 +55,7 @@ code_6 status.WriteFault is = refl
 code_6 status.NoMemory is = absurd (omega arith)
 code_6 status.NotBuilt is = absurd (omega arith)
 
-code_7 : (ended : Status) → code_of ended ≡ 7 → ended ≡ status.NoMemory
+pub code_7 : (ended : Status) → code_of ended ≡ 7 → ended ≡ status.NoMemory
 code_7 status.Found is = absurd (omega arith)
 code_7 status.NoPlan is = absurd (omega arith)
 code_7 status.WordsRefused is = absurd (omega arith)
