@@ -14,3 +14,6 @@ mod words;
 
 pub use top::geoplan;
 pub use words::Words;
+
+#[cfg(test)]
+mod tests;
