@@ -12,4 +12,3 @@ pub mod Standing
 pub mod Loading
 pub mod Solving
 pub mod Reporting
-
