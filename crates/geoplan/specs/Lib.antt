@@ -14,4 +14,3 @@ pub mod Solving
 pub mod Reporting
 pub mod Printing
 pub mod Promises
-
