@@ -81,6 +81,8 @@ Searches-done network node name best best_now counts counts_now done before midd
         allowed = subst (λ n. IsAllowed network n explored.tree) root explored.allowed;
         counted = counted_all ∙ explored.counted ∙ ap (λ c. counts_with c (tree_lines explored.tree)) none_counted ∙ counts_with-none (tree_lines explored.tree);
         answered = subst (λ a. IsAnswer network (bound_at network (root_of network) explored.tree) a) (sym answered)
-          (answer_fits network (bound_at network (root_of network) explored.tree) best_now explored.kept
-            (explored.best ∙ ap₂ (λ b n. lesser (best_bound network b) (bound_at network n explored.tree)) nothing root)) };
-      added = Adds-then name head_text (lines_text (tree_lines explored.tree)) before middle now added explored.added }
+            (answer_fits network (bound_at network (root_of network) explored.tree) best_now explored.kept
+            (explored.best ∙ ap₂ (λ b n. lesser (best_bound network b) (bound_at network n explored.tree)) nothing root));
+      };
+      added = Adds-then name head_text (lines_text (tree_lines explored.tree)) before middle now added explored.added;
+    }

@@ -66,7 +66,8 @@ counts_with before lines = record {
   costs = counted_on before.costs is_cost lines;
   pivots = counted_on before.pivots is_pivot lines;
   cuts = before.cuts;
-  duals = before.duals }
+  duals = before.duals;
+}
 
 -- a node of the network: its plans have an entry for each candidate, and the inner one lies in the upper one
 pub record IsNode (network : NetworkOf) (node : Node) : Type 0 where

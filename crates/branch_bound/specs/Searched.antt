@@ -11,7 +11,6 @@ use Rattle.geo_model.specs.declared.verdict.Verdict.TheVariants.{Open}
 use Rattle.bound_log.specs.declared.bound.Bound.{Bound}
 use Rattle.bound_log.specs.declared.bound.Bound.TheVariants.{NoPlan, AtLeast}
 use Rattle.bound_log.specs.Counted.{counts_of}
-
 use Rattle.bound_log.specs.LogTree.{root_of, IsAllowed, bound_at}
 use Rattle.bound_log.specs.Tree.{Tree, tree_lines}
 use Rattle.bound_log.specs.VerdictOf.{verdict_of}

@@ -98,10 +98,15 @@ log_fails words before now text sink sink_now silent (inr (none, refused)) = abs
     no_words text (inr (e, t)) = cc
 
 plan_fails : (words : List (List ℕ)) (before now : ShelfState) (text : List ℕ) (sink sink_now : SinkState) → Rose sink.faults sink_now.faults → WritesPrefix text sink sink_now → Answered words before now status.Found text → OnCommand words (λ command. LogFails command before now sink sink_now ⊎ PrintFails command before now sink sink_now)
-plan_fails words before now text sink sink_now rose begun (inl (command, is, found)) = (command, is, inr (record {
-  rose = rose;
-  quiet = found.log.quiet;
-  stands = λ files after told told_now. inl (found.tables, found.plan, HoldsPlan-of command before now text files after told told_now found, subst (λ t. WritesPrefix t sink sink_now) found.printed begun) }))
+plan_fails words before now text sink sink_now rose begun (inl (command, is, found)) = (
+  command,
+  is,
+  inr (record {
+    rose = rose;
+    quiet = found.log.quiet;
+    stands = λ files after told told_now. inl (found.tables, found.plan, HoldsPlan-of command before now text files after told told_now found, subst (λ t. WritesPrefix t sink sink_now) found.printed begun);
+  }),
+)
 plan_fails words before now text sink sink_now rose begun (inr (none, refused)) = absurd (no_words text refused.says)
   where
     no_words : (text : List ℕ) → SaysWords status.Found text → ⊥
@@ -109,10 +114,15 @@ plan_fails words before now text sink sink_now rose begun (inr (none, refused)) 
     no_words text (inr (e, t)) = cc
 
 none_fails : (words : List (List ℕ)) (before now : ShelfState) (text : List ℕ) (sink sink_now : SinkState) → Rose sink.faults sink_now.faults → WritesPrefix text sink sink_now → Answered words before now status.NoPlan text → OnCommand words (λ command. LogFails command before now sink sink_now ⊎ PrintFails command before now sink sink_now)
-none_fails words before now text sink sink_now rose begun (inl (command, is, found)) = (command, is, inr (record {
-  rose = rose;
-  quiet = found.log.quiet;
-  stands = λ files after told told_now. inr (found.tables, HoldsNone-of command before now text files after told told_now found, subst (λ t. WritesPrefix t sink sink_now) found.printed begun) }))
+none_fails words before now text sink sink_now rose begun (inl (command, is, found)) = (
+  command,
+  is,
+  inr (record {
+    rose = rose;
+    quiet = found.log.quiet;
+    stands = λ files after told told_now. inr (found.tables, HoldsNone-of command before now text files after told told_now found, subst (λ t. WritesPrefix t sink sink_now) found.printed begun);
+  }),
+)
 none_fails words before now text sink sink_now rose begun (inr (none, refused)) = absurd (no_words text refused.says)
   where
     no_words : (text : List ℕ) → SaysWords status.NoPlan text → ⊥
@@ -131,7 +141,7 @@ put_fails words status.NotBuilt before now text sink sink_now after rose begun a
 unwritten_by : (words : List (List ℕ)) (begun ended : Status) (before now : ShelfState) (text : List ℕ) (sink sink_now : SinkState) → code_of ended ≡ 6 → Answered words before now begun text → Prints begun text ended sink sink_now → OnCommand words (λ command. LogFails command before now sink sink_now ⊎ PrintFails command before now sink sink_now)
 unwritten_by words begun ended before now text sink sink_now is answered (inl printed) =
     log_fails words before now text sink sink_now (λ none. silent_all text sink sink_now none printed.all)
-      (subst (λ s. Answered words before now s text) (sym printed.same ∙ code_6 ended is) answered)
+    (subst (λ s. Answered words before now s text) (sym printed.same ∙ code_6 ended is) answered)
 unwritten_by words begun ended before now text sink sink_now is answered (inr (inl failed)) =
     put_fails words begun before now text sink sink_now (sym failed.after ∙ code_6 ended is) failed.rose failed.begins answered
 unwritten_by words begun ended before now text sink sink_now is answered (inr (inr out)) =

@@ -22,4 +22,5 @@ Loads-outside command points candidates before middle now one two long = record 
   input = λ files told. outside command files points candidates before.held middle.held told one.held one.has two.has long;
   good = λ tables is. absurd (cc);
   held = two.held ∙ one.held;
-  quiet = record { same_count = two.quiet.same_count ∙ one.quiet.same_count; same_last = two.quiet.same_last ∙ one.quiet.same_last } }
+  quiet = record { same_count = two.quiet.same_count ∙ one.quiet.same_count; same_last = two.quiet.same_last ∙ one.quiet.same_last };
+}

@@ -25,8 +25,15 @@ use Rattle.geoplan.proofs.FaultLemmas.{silent_prefix, silent_all}
 -- a whole log is a beginning of a log
 whole_began : (command : CommandOf) (before now : ShelfState) (tables : NarrowOf) (tree : Tree) → LeavesLog command before now tables tree → KeepsOrBegan command before.held now.held
 whole_began command before now tables tree log = inr (record {
-  tables = tables; tree = tree; piece = log_text tree; rest = [];
-  input = log.input; allowed = log.allowed; begins = sym (append-nil (log_text tree)); written = log.written })
+  tables = tables;
+  tree = tree;
+  piece = log_text tree;
+  rest = [];
+  input = log.input;
+  allowed = log.allowed;
+  begins = sym (append-nil (log_text tree));
+  written = log.written;
+})
 
 stands_keeps : (command : CommandOf) (before now : ShelfState) (begun : Status) (text : List ℕ) → Stands command before now begun text → KeepsOrBegan command before.held now.held
 stands_keeps command before now status.Found text found = whole_began command before now found.tables found.tree found.log
@@ -77,7 +84,8 @@ pub ran_out-of : (words : List (List ℕ)) (ended : Status) (before now : ShelfS
 ran_out-of words ended before now sink sink_now runs = record {
   held = answered_keeps words before now runs.begun runs.text runs.answered;
   printed = printed_prefix words runs.text sink sink_now (text_answered words before now runs.begun runs.text runs.answered)
-    (prints_prefix runs.begun ended runs.text sink sink_now runs.printed) }
+      (prints_prefix runs.begun ended runs.text sink sink_now runs.printed);
+}
 
 -- ---- complete answers
 
@@ -101,7 +109,7 @@ same_command words one other is is_other = let e : Some one ≡ Some other = sym
 answered_completes : (words : List (List ℕ)) (command : CommandOf) (files : Files) (before now : ShelfState) (begun : Status) (text : List ℕ) → command_of words ≡ Some command → before.held ≡ Some files → (Rose before.faults now.faults → ⊥) → Answered words before now begun text → IsComplete command files (code_of begun)
 answered_completes words command files before now begun text is told quiet (inl (other, is_other, stands)) =
     stands_completes command files before now begun text told quiet
-      (subst (λ c. Stands c before now begun text) (same_command words other command is_other is) stands)
+    (subst (λ c. Stands c before now begun text) (same_command words other command is_other is) stands)
 answered_completes words command files before now begun text is told quiet (inr (none, refused)) =
     absurd (let e : None ≡ Some command = sym none ∙ is in cc)
 

@@ -17,7 +17,8 @@ use Rattle.geoplan.specs.declared.status.Status.TheVariants as status
 pub Prints-nothing : (begun : Status) (text : List ℕ) (sink : SinkState) → text ≡ [] → Prints begun text begun sink sink
 Prints-nothing begun text sink none = inl (record {
   same = refl;
-  all = record { written = sym (with_written-nothing sink.written) ∙ ap (with_written sink.written) (sym none); quiet = refl } })
+  all = record { written = sym (with_written-nothing sink.written) ∙ ap (with_written sink.written) (sym none); quiet = refl };
+})
 
 -- a prefix that `take` names
 prefix : (text given : List ℕ) (n : ℕ) (before now : SinkState) → given ≡ text → now.written ≡ with_written before.written (take n given) → WritesPrefix text before now
@@ -25,7 +26,8 @@ prefix text given n before now same written = record {
   piece = take n given;
   rest = drop n given;
   begins = sym same ∙ sym (take-append-drop n given);
-  written = written }
+  written = written;
+}
 
 -- a put failed
 pub Prints-failed : (begun : Status) (text given : List ℕ) (ended : Status) (n : ℕ) (before now : SinkState) → ended ≡ after_failed_put begun → given ≡ text → Rose before.faults now.faults → now.written ≡ with_written before.written (take n given) → Prints begun text ended before now

@@ -21,7 +21,8 @@ Solves-after tables log done before middle now started quiet found = record {
   tree = found.tree;
   searched = found.searched;
   written = found.added.written ∙ ap (λ held. with_piece held log (log_text found.tree)) started ∙ with_piece-with_bytes before.held log [] (log_text found.tree);
-  quiet = record { same_count = found.added.quiet.same_count ∙ quiet.same_count; same_last = found.added.quiet.same_last ∙ quiet.same_last } }
+  quiet = record { same_count = found.added.quiet.same_count ∙ quiet.same_count; same_last = found.added.quiet.same_last ∙ quiet.same_last };
+}
 
 -- a log started and begun
 pub FailsSolve-after : (tables : NarrowOf) (log : List ℕ) (why : SearchFault) (before middle now : ShelfState) → middle.held ≡ with_bytes before.held log [] → KeepsFaults before.faults middle.faults before.last_fault middle.last_fault → BreaksLog tables.network log why middle now → FailsSolve tables log why before now
@@ -32,9 +33,11 @@ FailsSolve-after tables log why before middle now started quiet found = record {
     rest = found.broken.rest;
     allowed = found.allowed;
     begins = found.broken.begins;
-    written = found.broken.written ∙ ap (λ held. with_piece held log found.broken.piece) started ∙ with_piece-with_bytes before.held log [] found.broken.piece });
+    written = found.broken.written ∙ ap (λ held. with_piece held log found.broken.piece) started ∙ with_piece-with_bytes before.held log [] found.broken.piece;
+  });
   later = subst (λ n. n ≤ now.faults) quiet.same_count found.broken.later;
-  failed = λ is. let rose = found.broken.failed is in (subst (λ n. Rose n now.faults) quiet.same_count rose.0, rose.1) }
+  failed = λ is. let rose = found.broken.failed is in (subst (λ n. Rose n now.faults) quiet.same_count rose.0, rose.1);
+}
 
 -- a log that could not be started stands as before, or empty
 started_or_not : (tables : NarrowOf) (log : List ℕ) (before now : Option Files) → (now ≡ before) ⊎ (now ≡ with_bytes before log []) → (now ≡ before) ⊎ HoldsBeginning tables log before now
@@ -45,4 +48,5 @@ pub FailsSolve-start : (tables : NarrowOf) (log : List ℕ) (why : SearchFault) 
 FailsSolve-start tables log why before now held later failed = record {
   held = started_or_not tables log before.held now.held held;
   later = later;
-  failed = failed }
+  failed = failed;
+}

@@ -88,29 +88,33 @@ pub HoldsPlan-of : (command : CommandOf) (before now : ShelfState) (text : List 
 HoldsPlan-of command before now text files after told told_now found =
     let network = found.tables.network in
     let log : HasBound found.tables.network (bytes_of after command.log) (AtLeast (cost_of found.tables.network.candidates found.plan)) =
-        record {
-          tree = found.tree;
-          log = record { spelled = bytes_of-with_bytes before.held now.held command.log (log_text found.tree) found.log.written after told_now; allowed = found.log.allowed };
-          least = sym found.best.price } in
+    record {
+      tree = found.tree;
+      log = record { spelled = bytes_of-with_bytes before.held now.held command.log (log_text found.tree) found.log.written after told_now; allowed = found.log.allowed };
+      least = sym found.best.price;
+    } in
     record {
       input = found.log.input files told;
       certified = found.best.certified;
       meets = certified_meets found.tables.network found.plan found.log.good.narrow found.best.certified.certified;
       bound = log;
-      cheapest = HasBound-below found.tables.network (bytes_of after command.log) (AtLeast (cost_of found.tables.network.candidates found.plan)) found.log.good.bounds log }
+      cheapest = HasBound-below found.tables.network (bytes_of after command.log) (AtLeast (cost_of found.tables.network.candidates found.plan)) found.log.good.bounds log;
+    }
 
 -- a whole log without a plan
 pub HoldsNone-of : (command : CommandOf) (before now : ShelfState) (text : List ℕ) (files after : Files) → before.held ≡ Some files → now.held ≡ Some after → (found : FindsNone command before now text) → HoldsNone command files after found.tables
 HoldsNone-of command before now text files after told told_now found =
     let log : HasBound found.tables.network (bytes_of after command.log) NoPlan =
-        record {
-          tree = found.tree;
-          log = record { spelled = bytes_of-with_bytes before.held now.held command.log (log_text found.tree) found.log.written after told_now; allowed = found.log.allowed };
-          least = sym found.none } in
+    record {
+      tree = found.tree;
+      log = record { spelled = bytes_of-with_bytes before.held now.held command.log (log_text found.tree) found.log.written after told_now; allowed = found.log.allowed };
+      least = sym found.none;
+    } in
     record {
       input = found.log.input files told;
       bound = log;
-      none = HasBound-below found.tables.network (bytes_of after command.log) NoPlan found.log.good.bounds log }
+      none = HasBound-below found.tables.network (bytes_of after command.log) NoPlan found.log.good.bounds log;
+    }
 
 -- printed with status 0
 printed_found : (begun ended : Status) (text : List ℕ) (sink sink_now : SinkState) → code_of ended ≡ 0 → Prints begun text ended sink sink_now → (begun ≡ status.Found) × WritesAll text sink sink_now
@@ -124,11 +128,16 @@ printed_none begun ended text sink sink_now is (inr (inl failed)) = absurd (not_
 printed_none begun ended text sink sink_now is (inr (inr out)) = absurd (let e : status.NoMemory ≡ status.NoPlan = sym out.after ∙ code_1 ended is in cc)
 
 found_in : (words : List (List ℕ)) (before now : ShelfState) (text : List ℕ) (sink sink_now : SinkState) → WritesAll text sink sink_now → Answered words before now status.Found text → OnCommand words (λ command. WhereHeld before.held now.held (λ files after. IsFound command files after sink sink_now))
-found_in words before now text sink sink_now all (inl (command, is, found)) = (command, is, λ files after told told_now. record {
-  tables = found.tables;
-  plan = found.plan;
-  holds = HoldsPlan-of command before now text files after told told_now found;
-  printed = subst (λ t. WritesAll t sink sink_now) found.printed all })
+found_in words before now text sink sink_now all (inl (command, is, found)) = (
+  command,
+  is,
+  λ files after told told_now. record {
+    tables = found.tables;
+    plan = found.plan;
+    holds = HoldsPlan-of command before now text files after told told_now found;
+    printed = subst (λ t. WritesAll t sink sink_now) found.printed all;
+  },
+)
 found_in words before now text sink sink_now all (inr (none, refused)) = absurd (no_words refused.says)
   where
     no_words : ((status.Found ≡ status.WordsRefused) × (text ≡ words_text)) ⊎ ((status.Found ≡ status.NoMemory) × (text ≡ [])) → ⊥
@@ -136,10 +145,15 @@ found_in words before now text sink sink_now all (inr (none, refused)) = absurd 
     no_words (inr (e, t)) = cc
 
 none_in : (words : List (List ℕ)) (before now : ShelfState) (text : List ℕ) (sink sink_now : SinkState) → WritesAll text sink sink_now → Answered words before now status.NoPlan text → OnCommand words (λ command. WhereHeld before.held now.held (λ files after. IsNone command files after sink sink_now))
-none_in words before now text sink sink_now all (inl (command, is, found)) = (command, is, λ files after told told_now. record {
-  tables = found.tables;
-  holds = HoldsNone-of command before now text files after told told_now found;
-  printed = subst (λ t. WritesAll t sink sink_now) found.printed all })
+none_in words before now text sink sink_now all (inl (command, is, found)) = (
+  command,
+  is,
+  λ files after told told_now. record {
+    tables = found.tables;
+    holds = HoldsNone-of command before now text files after told told_now found;
+    printed = subst (λ t. WritesAll t sink sink_now) found.printed all;
+  },
+)
 none_in words before now text sink sink_now all (inr (none, refused)) = absurd (no_words refused.says)
   where
     no_words : ((status.NoPlan ≡ status.WordsRefused) × (text ≡ words_text)) ⊎ ((status.NoPlan ≡ status.NoMemory) × (text ≡ [])) → ⊥

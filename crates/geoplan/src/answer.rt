@@ -7,18 +7,16 @@ ghost use Rattle.geoplan.specs.Reporting.{CanReport, Reports};
 ghost use Rattle.geoplan.specs.Standing.{AreTables, IsGoodNetwork, Stands};
 ghost use Rattle.geoplan.specs.Texts.{cannot_read_text};
 
-use std::alloc::Global;
-
-use branch_bound::{Answer, SearchDone, SearchFault};
-use geo_base::NoMemory;
-use shelf_io::Shelf;
-
 use crate::command::Command;
 use crate::load::{LoadFault, Table, load};
 use crate::narrow::NarrowTables;
 use crate::report::{no_plan_report, not_built_refusal, plan_report, unread_refusal};
 use crate::solve::solve;
 use crate::status::Status;
+use branch_bound::{Answer, SearchDone, SearchFault};
+use geo_base::NoMemory;
+use shelf_io::Shelf;
+use std::alloc::Global;
 
 /// A status, and the text that is to be printed with it.
 #[derive(Drop)]

@@ -6,13 +6,11 @@ ghost use Rattle.geoplan.specs.Input.{input_from};
 ghost use Rattle.geoplan.specs.Loading.{ReadsTable, FailsRead, Loads, FailsLoad};
 ghost use Rattle.geoplan.specs.Standing.{IsGoodNetwork};
 
-use std::alloc::Global;
-
-use geo_base::NoMemory;
-use shelf_io::{ReadAnswer, Shelf};
-
 use crate::command::Command;
 use crate::narrow::{NarrowTables, read_narrow};
+use geo_base::NoMemory;
+use shelf_io::{ReadAnswer, Shelf};
+use std::alloc::Global;
 
 /// The most bytes of a table.
 const MOST_BYTES: u64 = 65536;
@@ -108,7 +106,12 @@ pub fn load<H: Shelf>(
     let Some(candidates) = candidates else {
         return Ok(None);
     };
-    match judge(alloc, command.redundancy, points.as_slice(), candidates.as_slice()) {
+    match judge(
+        alloc,
+        command.redundancy,
+        points.as_slice(),
+        candidates.as_slice(),
+    ) {
         Ok(tables) => Ok(tables),
         Err(NoMemory) => Err(LoadFault::NoMemory),
     }

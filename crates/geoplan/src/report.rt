@@ -2,13 +2,11 @@
 ghost use Rattle.std.specs.Prelude.{◌≡◌, ◌≤◌, ◌++◌, if◌then◌else◌, [], List, Bool, length, codes, IfOk, OnOk};
 ghost use Rattle.geoplan.specs.Texts.{words_text, not_built_text, cannot_read_text, take_text, takes_text, plan_text, no_plan_text};
 
-use std::alloc::Global;
-
+use crate::narrow::Name;
 use geo_base::NoMemory;
 use geo_model::{Network, Plan, cost};
 use itoa::Buffer;
-
-use crate::narrow::Name;
+use std::alloc::Global;
 
 /// Appends the line of a chosen candidate.
 fn put_take(text: &mut Vec<u8>, name: &Name) -> Result<(), NoMemory>

@@ -3,15 +3,13 @@ ghost use Rattle.std.specs.Prelude.{◌≡◌};
 ghost use Rattle.branch_bound.specs.Explored.{state_of};
 ghost use Rattle.geoplan.specs.Printing.{sink_state_of, Prints, SaysWords, Runs};
 
-use std::alloc::Global;
-
-use shelf_io::{Shelf, Sink, WriteAnswer};
-
 use crate::answer::{Outcome, answer};
 use crate::command::Command;
 use crate::report::words_refusal;
 use crate::status::Status;
 use crate::words::Words;
+use shelf_io::{Shelf, Sink, WriteAnswer};
+use std::alloc::Global;
 
 /// Prints the text of an outcome in one piece, if it has one, and answers the status to end with.
 fn print<O: Sink>(out: &mut O, outcome: Outcome) -> Status
@@ -39,12 +37,7 @@ fn refuse_words(alloc: Global) -> Outcome
 }
 
 /// Runs a command line, and answers the status to end with.
-pub fn run<H: Shelf, O: Sink>(
-    alloc: Global,
-    words: &Words,
-    shelf: &mut H,
-    out: &mut O,
-) -> Status
+pub fn run<H: Shelf, O: Sink>(alloc: Global, words: &Words, shelf: &mut H, out: &mut O) -> Status
     ensures { Runs words.now result
         (state_of H.held H.faults H.last_fault H.started shelf.old)
         (state_of H.held H.faults H.last_fault H.started shelf.new)

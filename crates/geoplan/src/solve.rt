@@ -5,12 +5,10 @@ ghost use Rattle.branch_bound.specs.Searched.{IsDecided};
 ghost use Rattle.geoplan.specs.Solving.{Solves, FailsSolve};
 ghost use Rattle.geoplan.specs.Standing.{IsGoodNetwork};
 
-use std::alloc::Global;
-
+use crate::narrow::NarrowTables;
 use branch_bound::{SearchDone, SearchFault, search};
 use shelf_io::{Shelf, WriteAnswer};
-
-use crate::narrow::NarrowTables;
+use std::alloc::Global;
 
 /// Starts the log and searches the network of the tables.
 pub fn solve<H: Shelf>(

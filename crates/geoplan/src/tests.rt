@@ -6,11 +6,18 @@ use std::process::Abort;
 use std::test::Fail;
 
 const POINTS: &str = "name,x,y,z,plane,height\nA,,,100.000,,fixed\nH,,,101.000,,1.0\n";
+
 const NEARER_POINTS: &str = "name,x,y,z,plane,height\nA,,,100.000,,fixed\nH,,,101.000,,0.9\n";
-const PLANE_POINTS: &str = "name,x,y,z,plane,height\nA,5512345.678,3400000.000,,fixed,\nB,5612345.678,3400000.000,,5.0,\n";
+
+const PLANE_POINTS: &str =
+    "name,x,y,z,plane,height\nA,5512345.678,3400000.000,,fixed,\nB,5612345.678,3400000.000,,5.0,\n";
+
 const NO_CANDIDATES: &str = "name,kind,from,to,to2,sd,sdh,price\n";
+
 const ONE_LEVEL: &str = "name,kind,from,to,to2,sd,sdh,price\nl1,level,A,H,,1.00,,5\n";
-const TWO_LEVELS: &str = "name,kind,from,to,to2,sd,sdh,price\nl1,level,A,H,,1.00,,5\nl2,level,A,H,,1.00,,7\n";
+
+const TWO_LEVELS: &str =
+    "name,kind,from,to,to2,sd,sdh,price\nl1,level,A,H,,1.00,,5\nl2,level,A,H,,1.00,,7\n";
 
 /// A run, and what it leaves: the status, the printed text and the log.
 struct Case {
@@ -25,18 +32,126 @@ struct Case {
 }
 
 const CASES: [Case; 12] = [
-    Case { points: POINTS, candidates: ONE_LEVEL, words: "geoplan plan p.csv c.csv 0 l.log", failing_call: 0, failing_put: 0, status: 0, printed: "plan\ncost 5\ntake,l1\nbound 5\n", log: "geoplan-log 1\ns 0\nc\np 0\n" },
-    Case { points: NEARER_POINTS, candidates: ONE_LEVEL, words: "geoplan plan p.csv c.csv 0 l.log", failing_call: 0, failing_put: 0, status: 1, printed: "no plan\nbound none\n", log: "geoplan-log 1\np 0\n" },
-    Case { points: NEARER_POINTS, candidates: TWO_LEVELS, words: "geoplan plan p.csv c.csv 0 l.log", failing_call: 0, failing_put: 0, status: 0, printed: "plan\ncost 12\ntake,l1\ntake,l2\nbound 12\n", log: "geoplan-log 1\ns 0\ns 1\nc\np 0\np 0\n" },
-    Case { points: POINTS, candidates: NO_CANDIDATES, words: "geoplan plan p.csv c.csv 0 l.log", failing_call: 0, failing_put: 0, status: 1, printed: "no plan\nbound none\n", log: "geoplan-log 1\np 0\n" },
-    Case { points: POINTS, candidates: ONE_LEVEL, words: "geoplan plan p.csv c.csv 1000 l.log", failing_call: 0, failing_put: 0, status: 2, printed: "words not understood\n", log: "old" },
-    Case { points: POINTS, candidates: ONE_LEVEL, words: "geoplan plan p.csv p.csv 0 l.log", failing_call: 0, failing_put: 0, status: 2, printed: "words not understood\n", log: "old" },
-    Case { points: POINTS, candidates: ONE_LEVEL, words: "geoplan plan --help", failing_call: 0, failing_put: 0, status: 2, printed: "words not understood\n", log: "old" },
-    Case { points: POINTS, candidates: ONE_LEVEL, words: "geoplan plan p.csv c.csv 1 l.log", failing_call: 0, failing_put: 0, status: 10, printed: "not built\n", log: "old" },
-    Case { points: PLANE_POINTS, candidates: ONE_LEVEL, words: "geoplan plan p.csv c.csv 0 l.log", failing_call: 0, failing_put: 0, status: 10, printed: "not built\n", log: "old" },
-    Case { points: NEARER_POINTS, candidates: TWO_LEVELS, words: "geoplan plan p.csv c.csv 0 l.log", failing_call: 6, failing_put: 0, status: 6, printed: "", log: "geoplan-log 1\ns 0\ns " },
-    Case { points: POINTS, candidates: ONE_LEVEL, words: "geoplan plan q.csv c.csv 0 l.log", failing_call: 0, failing_put: 0, status: 5, printed: "cannot read q.csv\n", log: "old" },
-    Case { points: POINTS, candidates: ONE_LEVEL, words: "geoplan plan p.csv c.csv 0 l.log", failing_call: 0, failing_put: 1, status: 6, printed: "plan\ncost 5\nta", log: "geoplan-log 1\ns 0\nc\np 0\n" },
+    Case {
+        points: POINTS,
+        candidates: ONE_LEVEL,
+        words: "geoplan plan p.csv c.csv 0 l.log",
+        failing_call: 0,
+        failing_put: 0,
+        status: 0,
+        printed: "plan\ncost 5\ntake,l1\nbound 5\n",
+        log: "geoplan-log 1\ns 0\nc\np 0\n",
+    },
+    Case {
+        points: NEARER_POINTS,
+        candidates: ONE_LEVEL,
+        words: "geoplan plan p.csv c.csv 0 l.log",
+        failing_call: 0,
+        failing_put: 0,
+        status: 1,
+        printed: "no plan\nbound none\n",
+        log: "geoplan-log 1\np 0\n",
+    },
+    Case {
+        points: NEARER_POINTS,
+        candidates: TWO_LEVELS,
+        words: "geoplan plan p.csv c.csv 0 l.log",
+        failing_call: 0,
+        failing_put: 0,
+        status: 0,
+        printed: "plan\ncost 12\ntake,l1\ntake,l2\nbound 12\n",
+        log: "geoplan-log 1\ns 0\ns 1\nc\np 0\np 0\n",
+    },
+    Case {
+        points: POINTS,
+        candidates: NO_CANDIDATES,
+        words: "geoplan plan p.csv c.csv 0 l.log",
+        failing_call: 0,
+        failing_put: 0,
+        status: 1,
+        printed: "no plan\nbound none\n",
+        log: "geoplan-log 1\np 0\n",
+    },
+    Case {
+        points: POINTS,
+        candidates: ONE_LEVEL,
+        words: "geoplan plan p.csv c.csv 1000 l.log",
+        failing_call: 0,
+        failing_put: 0,
+        status: 2,
+        printed: "words not understood\n",
+        log: "old",
+    },
+    Case {
+        points: POINTS,
+        candidates: ONE_LEVEL,
+        words: "geoplan plan p.csv p.csv 0 l.log",
+        failing_call: 0,
+        failing_put: 0,
+        status: 2,
+        printed: "words not understood\n",
+        log: "old",
+    },
+    Case {
+        points: POINTS,
+        candidates: ONE_LEVEL,
+        words: "geoplan plan --help",
+        failing_call: 0,
+        failing_put: 0,
+        status: 2,
+        printed: "words not understood\n",
+        log: "old",
+    },
+    Case {
+        points: POINTS,
+        candidates: ONE_LEVEL,
+        words: "geoplan plan p.csv c.csv 1 l.log",
+        failing_call: 0,
+        failing_put: 0,
+        status: 10,
+        printed: "not built\n",
+        log: "old",
+    },
+    Case {
+        points: PLANE_POINTS,
+        candidates: ONE_LEVEL,
+        words: "geoplan plan p.csv c.csv 0 l.log",
+        failing_call: 0,
+        failing_put: 0,
+        status: 10,
+        printed: "not built\n",
+        log: "old",
+    },
+    Case {
+        points: NEARER_POINTS,
+        candidates: TWO_LEVELS,
+        words: "geoplan plan p.csv c.csv 0 l.log",
+        failing_call: 6,
+        failing_put: 0,
+        status: 6,
+        printed: "",
+        log: "geoplan-log 1\ns 0\ns ",
+    },
+    Case {
+        points: POINTS,
+        candidates: ONE_LEVEL,
+        words: "geoplan plan q.csv c.csv 0 l.log",
+        failing_call: 0,
+        failing_put: 0,
+        status: 5,
+        printed: "cannot read q.csv\n",
+        log: "old",
+    },
+    Case {
+        points: POINTS,
+        candidates: ONE_LEVEL,
+        words: "geoplan plan p.csv c.csv 0 l.log",
+        failing_call: 0,
+        failing_put: 1,
+        status: 6,
+        printed: "plan\ncost 5\nta",
+        log: "geoplan-log 1\ns 0\nc\np 0\n",
+    },
 ];
 
 /// The words of a line.
@@ -56,7 +171,12 @@ fn try_case(rt: &impl Abort, alloc: Global, case: &Case) -> Result<(), Fail> {
     shelf.put_file("c.csv", case.candidates.as_bytes())?;
     shelf.put_file("l.log", b"old")?;
     let mut out = MemSink::new(alloc, vec![in alloc; case.failing_put]?);
-    let status = geoplan(alloc, &words_of(rt, alloc, case.words), &mut shelf, &mut out);
+    let status = geoplan(
+        alloc,
+        &words_of(rt, alloc, case.words),
+        &mut shelf,
+        &mut out,
+    );
     assert_eq!(rt; status, case.status);
     assert_eq!(rt; out.bytes(), case.printed.as_bytes());
     assert_eq!(rt; shelf.file("l.log"), Some(case.log.as_bytes()));

@@ -9,34 +9,27 @@ ghost use Rattle.geoplan.specs.Printing.{sink_state_of};
 ghost use Rattle.geoplan.specs.Promises.{WhereHeld, IsStatus, IsFound, IsNone, IsUnread, LogFails, PrintFails, IsNotBuilt, OthersStay, RanOut, Says, IsComplete};
 ghost use Rattle.geoplan.specs.Texts.{words_text};
 
-use std::alloc::Global;
-
-use shelf_io::{Shelf, Sink};
-
 use crate::run::run;
 use crate::words::Words;
+use shelf_io::{Shelf, Sink};
+use std::alloc::Global;
 
 /// Does all that the program does: reads the words of a command line, the program's name first,
 /// reads the tables that they name from `shelf`, writes the log to it, prints to `out`, and answers
 /// the exit status.
-pub fn geoplan<H: Shelf, O: Sink>(
-    alloc: Global,
-    words: &Words,
-    shelf: &mut H,
-    out: &mut O,
-) -> u8
+pub fn geoplan<H: Shelf, O: Sink>(alloc: Global, words: &Words, shelf: &mut H, out: &mut O) -> u8
     ensures status { IsStatus result }
 
     // 0: the printed plan meets every limit for all whole-number displacements, and every plan that
     // meets them costs at least as much, which the log proves.
     ensures found { result ≡ 0 → OnCommand words.now (λ command. WhereHeld (H.held shelf.old) (H.held shelf.new)
         (λ files after. IsFound command files after
-            (sink_state_of O.written O.faults out.old) (sink_state_of O.written O.faults out.new))) }
+        (sink_state_of O.written O.faults out.old) (sink_state_of O.written O.faults out.new))) }
 
     // 1: no plan meets the limits, which the log proves.
     ensures none { result ≡ 1 → OnCommand words.now (λ command. WhereHeld (H.held shelf.old) (H.held shelf.new)
         (λ files after. IsNone command files after
-            (sink_state_of O.written O.faults out.old) (sink_state_of O.written O.faults out.new))) }
+        (sink_state_of O.written O.faults out.old) (sink_state_of O.written O.faults out.new))) }
 
     // 2: exactly where the words aren't accepted, but for want of memory.
     ensures words { result ≡ 2 → (command_of words.now ≡ None) × Says words_text
@@ -52,13 +45,13 @@ pub fn geoplan<H: Shelf, O: Sink>(
     // 6: a write of the log failed in this call, or a put of the report did.
     ensures unwritten { result ≡ 6 → OnCommand words.now (λ command.
         LogFails command
-            (state_of H.held H.faults H.last_fault H.started shelf.old)
-            (state_of H.held H.faults H.last_fault H.started shelf.new)
-            (sink_state_of O.written O.faults out.old) (sink_state_of O.written O.faults out.new)
+        (state_of H.held H.faults H.last_fault H.started shelf.old)
+        (state_of H.held H.faults H.last_fault H.started shelf.new)
+        (sink_state_of O.written O.faults out.old) (sink_state_of O.written O.faults out.new)
         ⊎ PrintFails command
-            (state_of H.held H.faults H.last_fault H.started shelf.old)
-            (state_of H.held H.faults H.last_fault H.started shelf.new)
-            (sink_state_of O.written O.faults out.old) (sink_state_of O.written O.faults out.new)) }
+        (state_of H.held H.faults H.last_fault H.started shelf.old)
+        (state_of H.held H.faults H.last_fault H.started shelf.new)
+        (sink_state_of O.written O.faults out.old) (sink_state_of O.written O.faults out.new)) }
 
     // 7: memory ran out, for which no cause is said.
     ensures out_of_memory { result ≡ 7 → RanOut words.now

@@ -1,9 +1,8 @@
 ghost use Rattle.std.specs.Prelude.{◌≡◌, ◌+◌, ◌<◌, ◌^◌, [], ◌∷◌, ◌++◌, Some, length, slice_get, OnOk, OnErr};
 
+use geo_base::NoMemory;
 use std::alloc::Global;
 use std::marker::Model;
-
-use geo_base::NoMemory;
 
 /// The words of a command line, the program's name first. Contracts see a list of their bytes.
 #[derive(Drop)]

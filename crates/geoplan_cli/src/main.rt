@@ -1,12 +1,11 @@
 //! The program `geoplan`: the top call over the files of the system and the standard output.
 #![tactic(auto)]
 
+use geoplan::{Words, geoplan};
+use shelf_io::{FileShelf, OutSink};
 use std::env;
 use std::io::ErrorKind;
 use std::process::ExitCode;
-
-use geoplan::{Words, geoplan};
-use shelf_io::{FileShelf, OutSink};
 
 /// The status where the system doesn't give the words of the command line, or gives too many.
 const NO_WORDS: u8 = 70;
