@@ -14,8 +14,11 @@ use std::test::Fail;
 
 /// A level of 1 mm that ends at the new height.
 fn level(alloc: Global, price: u64) -> Result<Candidate, NoMemory>
-    ensures { IfOk result (λ candidate. candidate ≡ record { price = price; rows =
-        record { entries = (0, pos 10000) ∷ []; weight = pos 10000 } ∷ [] }) }
+    ensures { IfOk result (λ candidate. candidate ≡ record {
+      price = price;
+      rows =
+          record { entries = (0, pos 10000) ∷ []; weight = pos 10000 } ∷ [];
+    }) }
 {
     let mut entries = Vec::new(alloc);
     entries.push((0u32, 10000i64))?;
@@ -26,8 +29,13 @@ fn level(alloc: Global, price: u64) -> Result<Candidate, NoMemory>
 
 /// The limit of 0.9 mm on the new height.
 fn height_limit(alloc: Global) -> Result<Limit, NoMemory>
-    ensures { IfOk result (λ limit. limit ≡ record { kind = Height 1; owner = None; alpha = pos 81; squares =
-        record { beta = pos (10 ^ 14); entries = (0, pos 1) ∷ [] } ∷ [] }) }
+    ensures { IfOk result (λ limit. limit ≡ record {
+      kind = Height 1;
+      owner = None;
+      alpha = pos 81;
+      squares =
+          record { beta = pos (10 ^ 14); entries = (0, pos 1) ∷ [] } ∷ [];
+    }) }
 {
     let mut entries = Vec::new(alloc);
     entries.push((0u32, 1i64))?;
