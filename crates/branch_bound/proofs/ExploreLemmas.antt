@@ -1,6 +1,6 @@
 use Rattle.std.proofs.lemmas.Bool.{false≢true}
-use Rattle.std.proofs.Common.{replicate, ◌≡◌, ◌<◌, ◌≤◌, ℕ, zero, suc, Bool, true, false, List, [], ◌∷◌, ◌++◌, length, set, refl, sym, ap, ap₂, ◌∙◌, subst, arith, append_assoc, Some, Option, if◌then◌else◌, ◌+◌, min, ◌-◌, ◌^◌}
-use Rattle.std.specs.Prelude.{slice_get, slice_set, flat_map}
+use Rattle.std.proofs.Common.{replicate, ◌≡◌, ℕ, zero, suc, Bool, true, false, List, [], ◌∷◌, ◌++◌, length, set, refl, sym, ap, ap₂, ◌∙◌, subst, arith, Some, Option, if◌then◌else◌, ◌+◌, min, ◌-◌, ◌^◌}
+use Rattle.std.specs.Prelude.{slice_get, slice_set}
 use Rattle.std.proofs.lemmas.List.Concat.{flat_map-append}
 use Rattle.std.proofs.lemmas.List.{length-set, length-replicate, append-nil}
 use Rattle.shelf_io.specs.Files.{Files, IsHeld}
@@ -13,8 +13,8 @@ use Rattle.bound_log.specs.declared.bound.Bound.{Bound}
 use Rattle.bound_log.specs.declared.bound.Bound.TheVariants.{NoPlan, AtLeast}
 use Rattle.bound_log.specs.Counted.{is_split, is_cost, is_pivot}
 use Rattle.bound_log.specs.LogText.{line_text, lines_text}
-use Rattle.bound_log.specs.LogTree.{root_of, IsOpenAt, IsAllowed, with_chosen, without_chosen, bound_at}
-use Rattle.bound_log.specs.Tree.{LineOf, split, leaf, Leaf, cost, pivot, Tree, fork, tip, tree_lines}
+use Rattle.bound_log.specs.LogTree.{root_of, IsOpenAt, with_chosen, without_chosen, bound_at}
+use Rattle.bound_log.specs.Tree.{LineOf, split, leaf, Leaf, cost, Tree, fork, tip, tree_lines}
 use Rattle.branch_bound.specs.declared.line.Line.{Line}
 use Rattle.branch_bound.specs.declared.search_fault.SearchFault.{SearchFault}
 use Rattle.branch_bound.specs.declared.search_fault.SearchFault.TheVariants as fault

@@ -1,4 +1,4 @@
-use Rattle.std.proofs.Common.{get_or, subst, pos, ◌≡◌, ◌<◌, ◌≤◌, ℕ, zero, suc, ◌+◌, Bool, true, false, List, [], ◌∷◌, length, arith, refl, ap, ap₂, sym, ◌∙◌, Some}
+use Rattle.std.proofs.Common.{get_or, subst, pos, ◌≡◌, ◌<◌, ℕ, zero, suc, Bool, true, false, List, [], ◌∷◌, length, arith, refl, ap, sym, Some}
 use Rattle.std.specs.Prelude.{slice_get, All, ◌≢◌, int_le, if◌then◌else◌}
 use Rattle.std.proofs.lemmas.Bool.{false≢true}
 use Rattle.geo_model.specs.Energy.{IsWithin}

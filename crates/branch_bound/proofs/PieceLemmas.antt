@@ -1,7 +1,7 @@
-use Rattle.std.proofs.Common.{◌≡◌, ◌≤◌, ℕ, List, [], ◌∷◌, ◌++◌, Some, None, refl, sym, ap, ◌∙◌, arith, append_assoc, subst}
+use Rattle.std.proofs.Common.{◌≡◌, ◌≤◌, ℕ, List, [], ◌++◌, Some, None, refl, sym, ap, ◌∙◌, arith, append_assoc, subst}
 use Rattle.std.specs.Prelude.{Option}
 use Rattle.shelf_io.specs.Files.{Files, IsHeld, with_piece}
-use Rattle.shelf_io.specs.Faults.{LastFault, Rose, KeepsFaults, write_of}
+use Rattle.shelf_io.specs.Faults.{Rose}
 use Rattle.shelf_io.proofs.FileLaws.{with_piece-nothing, with_piece-with_piece}
 use Rattle.branch_bound.specs.Explored.{ShelfState, Adds, Breaks}
 use Rattle.branch_bound.specs.declared.search_fault.SearchFault.{SearchFault}

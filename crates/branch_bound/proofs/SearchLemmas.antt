@@ -1,26 +1,22 @@
-use Rattle.std.proofs.Common.{true, false, ◌≡◌, ℕ, Bool, List, [], ◌∷◌, ◌++◌, refl, sym, ap, ap₂, cond, zero-add, ◌∙◌, subst, Some, None, Option, min, ◌+◌, ◌-◌, ◌^◌, ◌≤◌, arith, if◌then◌else◌}
+use Rattle.std.proofs.Common.{true, false, ◌≡◌, ℕ, Bool, List, [], ◌∷◌, refl, sym, ap, ap₂, cond, zero-add, ◌∙◌, subst, Some, None, Option, min, ◌+◌, ◌-◌, ◌^◌, ◌≤◌, arith, if◌then◌else◌}
 use Rattle.std.specs.Prelude.{count_by}
 use Rattle.std.proofs.lemmas.List.Sums.{sum_by-cons}
 use Rattle.shelf_io.specs.Files.{Files, IsHeld}
-use Rattle.geo_model.specs.Energy.{cost_of}
 use Rattle.geo_model.specs.Network.{NetworkOf}
-use Rattle.geo_model.specs.declared.answer.Answer.{Answer}
-use Rattle.geo_model.specs.declared.answer.Answer.TheVariants as answer
 use Rattle.geo_model.specs.declared.answer.Counts.{Counts}
 use Rattle.geo_model.specs.declared.answer.SearchDone.{SearchDone}
 use Rattle.geo_model.specs.declared.plan.Node.{Node}
 use Rattle.bound_log.specs.declared.bound.Bound.{Bound}
-use Rattle.bound_log.specs.declared.bound.Bound.TheVariants.{NoPlan, AtLeast}
 use Rattle.bound_log.specs.Bound.{lesser}
 use Rattle.bound_log.specs.Counted.{counted, counts_of, is_split, is_cost, is_pivot}
 use Rattle.bound_log.specs.LogText.{head_text, lines_text, log_text}
 use Rattle.bound_log.specs.LogTree.{root_of, IsAllowed, bound_at}
-use Rattle.bound_log.specs.Tree.{LineOf, Tree, tip, cost, tree_lines}
+use Rattle.bound_log.specs.Tree.{LineOf, tip, cost, tree_lines}
 use Rattle.branch_bound.specs.declared.search_fault.SearchFault.{SearchFault}
 use Rattle.branch_bound.specs.declared.search_fault.SearchFault.TheVariants as fault
 use Rattle.branch_bound.specs.Explored.{ShelfState, Adds, Breaks, Explores, BreaksOff, IsKept, best_bound, counted_on, counts_with}
 use Rattle.branch_bound.specs.Logged.{Searches, BreaksLog}
-use Rattle.branch_bound.specs.Searched.{IsAnswer, IsBest, answer_of, no_counts}
+use Rattle.branch_bound.specs.Searched.{IsAnswer, answer_of, no_counts}
 use Rattle.branch_bound.proofs.PieceLemmas.{Breaks-nothing, Adds-then, Breaks-after, Breaks-longer}
 
 -- How the head and the exploration of the root make a search.

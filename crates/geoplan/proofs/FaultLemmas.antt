@@ -1,26 +1,21 @@
-use Rattle.std.proofs.Common.{◌≡◌, ◌≢◌, ◌⊎◌, inl, inr, ◌≤◌, ℕ, Bool, List, [], ◌∷◌, ◌++◌, length, refl, sym, ap, ◌∙◌, subst, Option, Some, None, is_some}
+use Rattle.std.proofs.Common.{◌≡◌, ◌⊎◌, inl, inr, ℕ, List, [], ◌∷◌, ◌++◌, refl, sym, ap, ◌∙◌, subst, Option, Some, is_some}
 use Rattle.std.specs.FinMap.{get}
-use Rattle.std.proofs.lemmas.List.{append-nil}
-use Rattle.shelf_io.specs.Files.{Files, bytes_of, with_bytes}
-use Rattle.shelf_io.specs.Faults.{Rose, KeepsFaults}
+use Rattle.shelf_io.specs.Files.{Files, with_bytes}
+use Rattle.shelf_io.specs.Faults.{Rose}
 use Rattle.shelf_io.specs.Written.{with_written}
 use Rattle.shelf_io.proofs.FileLaws.{is_some-with_bytes, KeepsOthers-with_bytes}
 use Rattle.shelf_io.proofs.WrittenLaws.{with_written-nothing, is_some-with_written}
 use Rattle.bound_log.specs.LogText.{log_text}
-use Rattle.bound_log.specs.Tree.{Tree}
 use Rattle.branch_bound.specs.Explored.{ShelfState}
 use Rattle.geoplan.specs.Codes.{code_of, after_failed_put}
 use Rattle.geoplan.specs.CommandOf.{CommandOf, command_of}
-use Rattle.geoplan.specs.Input.{OnCommand, input_of}
-use Rattle.geoplan.specs.Narrow.{NarrowOf}
-use Rattle.geoplan.specs.Printing.{SinkState, WritesPrefix, WritesAll, IsPrinted, FailsToPrint, RunsOutPrinting, Prints, SaysWords, RefusesWords, Answered, Runs}
-use Rattle.geoplan.specs.Promises.{WhereHeld, HoldsPlan, HoldsNone, LogFails, ReportBegan, PrintFails, OthersStay, IsText, RanOut, IsComplete}
-use Rattle.geoplan.specs.Reporting.{HasNoText}
-use Rattle.geoplan.specs.Standing.{LeavesLog, FindsPlan, FindsNone, BeganLog, KeepsOrBegan, Stands}
-use Rattle.geoplan.specs.Texts.{words_text, plan_text, no_plan_text}
+use Rattle.geoplan.specs.Input.{OnCommand}
+use Rattle.geoplan.specs.Printing.{SinkState, WritesPrefix, WritesAll, Prints, SaysWords, Answered, Runs}
+use Rattle.geoplan.specs.Promises.{WhereHeld, LogFails, PrintFails, OthersStay}
+use Rattle.geoplan.specs.Standing.{KeepsOrBegan, Stands}
 use Rattle.geoplan.specs.declared.status.Status.{Status}
 use Rattle.geoplan.specs.declared.status.Status.TheVariants as status
-use Rattle.geoplan.proofs.TopLemmas.{code_6, code_7, HoldsPlan-of, HoldsNone-of}
+use Rattle.geoplan.proofs.TopLemmas.{code_6, HoldsPlan-of, HoldsNone-of}
 
 -- How the clauses on faults, on want of memory and on what stays follow from a run.
 

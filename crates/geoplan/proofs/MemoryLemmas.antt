@@ -1,22 +1,20 @@
-use Rattle.std.proofs.Common.{◌≡◌, ◌⊎◌, inl, inr, ◌≤◌, ℕ, Bool, List, [], ◌∷◌, ◌++◌, length, refl, sym, ap, ◌∙◌, subst, Option, Some, None}
+use Rattle.std.proofs.Common.{◌≡◌, ◌⊎◌, inl, inr, ℕ, List, [], refl, sym, ap, ◌∙◌, subst, Option, Some, None}
 use Rattle.std.proofs.lemmas.List.{append-nil}
-use Rattle.shelf_io.specs.Files.{Files, bytes_of, with_bytes}
-use Rattle.shelf_io.specs.Faults.{Rose, KeepsFaults}
+use Rattle.shelf_io.specs.Files.{Files}
+use Rattle.shelf_io.specs.Faults.{Rose}
 use Rattle.bound_log.specs.LogText.{log_text}
 use Rattle.bound_log.specs.Tree.{Tree}
 use Rattle.branch_bound.specs.Explored.{ShelfState}
-use Rattle.geoplan.specs.Codes.{code_of, after_failed_put}
+use Rattle.geoplan.specs.Codes.{code_of}
 use Rattle.geoplan.specs.CommandOf.{CommandOf, command_of}
 use Rattle.geoplan.specs.Input.{OnCommand, input_of}
 use Rattle.geoplan.specs.Narrow.{NarrowOf}
-use Rattle.geoplan.specs.Printing.{SinkState, WritesPrefix, WritesAll, Prints, SaysWords, RefusesWords, Answered, Runs}
+use Rattle.geoplan.specs.Printing.{SinkState, WritesPrefix, WritesAll, Prints, SaysWords, Answered, Runs}
 use Rattle.geoplan.specs.Promises.{IsText, RanOut, IsComplete}
-use Rattle.geoplan.specs.Standing.{LeavesLog, BeganLog, KeepsOrBegan, Stands}
-use Rattle.geoplan.specs.Texts.{words_text, plan_text, no_plan_text}
+use Rattle.geoplan.specs.Standing.{LeavesLog, KeepsOrBegan, Stands}
 use Rattle.geoplan.specs.declared.status.Status.{Status}
 use Rattle.geoplan.specs.declared.status.Status.TheVariants as status
-use Rattle.geoplan.proofs.TopLemmas.{code_7}
-use Rattle.geoplan.proofs.FaultLemmas.{silent_prefix, silent_all}
+use Rattle.geoplan.proofs.FaultLemmas.{silent_prefix}
 
 -- How the clauses on want of memory and on complete answers follow from a run.
 

@@ -1,8 +1,7 @@
-use Rattle.std.proofs.Common.{◌≡◌, ◌⊎◌, inl, inr, ◌≤◌, ℕ, List, [], ◌++◌, refl, sym, ap, ◌∙◌, subst, Option, Some}
+use Rattle.std.proofs.Common.{◌≡◌, ◌⊎◌, inl, inr, ◌≤◌, ℕ, List, [], refl, ap, ◌∙◌, subst, Option, Some}
 use Rattle.shelf_io.specs.Files.{Files, with_bytes, with_piece}
 use Rattle.shelf_io.specs.Faults.{Rose, KeepsFaults, write_of}
 use Rattle.shelf_io.proofs.FileLaws.{with_piece-with_bytes}
-use Rattle.shelf_io.proofs.FaultLaws.{later-Rose}
 use Rattle.geo_model.specs.declared.answer.SearchDone.{SearchDone}
 use Rattle.bound_log.specs.LogText.{log_text}
 use Rattle.bound_log.specs.Tree.{tip, cost}

@@ -1,27 +1,20 @@
-use Rattle.std.proofs.Common.{◌≡◌, ◌≢◌, ◌⊎◌, inl, inr, ◌≤◌, ℕ, Bool, List, [], ◌∷◌, ◌++◌, length, refl, sym, ap, ◌∙◌, subst, Option, Some, None, is_some, arith}
-use Rattle.std.specs.FinMap.{get}
-use Rattle.std.proofs.lemmas.List.{append-nil}
-use Rattle.shelf_io.specs.Files.{Files, bytes_of, with_bytes}
-use Rattle.shelf_io.specs.Faults.{Rose, KeepsFaults}
-use Rattle.shelf_io.specs.Written.{with_written}
-use Rattle.shelf_io.proofs.FileLaws.{bytes_of-with_bytes, is_some-with_bytes, KeepsOthers-with_bytes, KeepsOthers-same}
-use Rattle.shelf_io.proofs.WrittenLaws.{with_written-nothing, is_some-with_written}
+use Rattle.std.proofs.Common.{◌≡◌, ◌⊎◌, inl, inr, ℕ, List, [], refl, sym, ◌∙◌, subst, Some, arith}
+use Rattle.shelf_io.specs.Files.{Files, bytes_of}
+use Rattle.shelf_io.proofs.FileLaws.{bytes_of-with_bytes}
 use Rattle.geo_model.specs.Energy.{cost_of}
 use Rattle.bound_log.specs.LogText.{log_text}
 use Rattle.bound_log.specs.LogTree.{HasBound}
-use Rattle.bound_log.specs.Tree.{Tree}
 use Rattle.bound_log.proofs.NarrowLemmas.{certified_meets}
 use Rattle.bound_log.proofs.SoundLemmas.{HasBound-below}
 use Rattle.bound_log.specs.declared.bound.Bound.TheVariants.{NoPlan, AtLeast}
 use Rattle.branch_bound.specs.Explored.{ShelfState}
 use Rattle.geoplan.specs.Codes.{code_of, after_failed_put}
-use Rattle.geoplan.specs.CommandOf.{CommandOf, command_of}
-use Rattle.geoplan.specs.Input.{OnCommand, input_of}
-use Rattle.geoplan.specs.Narrow.{NarrowOf}
-use Rattle.geoplan.specs.Printing.{SinkState, WritesPrefix, WritesAll, IsPrinted, FailsToPrint, RunsOutPrinting, Prints, RefusesWords, Answered, Runs}
-use Rattle.geoplan.specs.Promises.{WhereHeld, HoldsPlan, HoldsNone, IsFound, IsNone, LogFails, ReportBegan, PrintFails, OthersStay, IsText, RanOut, IsComplete}
-use Rattle.geoplan.specs.Standing.{LeavesLog, FindsPlan, FindsNone, BeganLog, KeepsOrBegan, Stands}
-use Rattle.geoplan.specs.Texts.{words_text, plan_text, no_plan_text}
+use Rattle.geoplan.specs.CommandOf.{CommandOf}
+use Rattle.geoplan.specs.Input.{OnCommand}
+use Rattle.geoplan.specs.Printing.{SinkState, WritesAll, Prints, Answered, Runs}
+use Rattle.geoplan.specs.Promises.{WhereHeld, HoldsPlan, HoldsNone, IsFound, IsNone}
+use Rattle.geoplan.specs.Standing.{FindsPlan, FindsNone}
+use Rattle.geoplan.specs.Texts.{words_text}
 use Rattle.geoplan.specs.declared.status.Status.{Status}
 use Rattle.geoplan.specs.declared.status.Status.TheVariants as status
 

@@ -1,4 +1,4 @@
-use Rattle.std.specs.Prelude.{ℕ, List, [], ◌∷◌, drop, Bool, false, not, ◌||◌, ◌==◌, if◌then◌else◌, Option, Some, None, option_map, bytes_eq, codes}
+use Rattle.std.specs.Prelude.{ℕ, List, [], ◌∷◌, drop, Bool, false, not, ◌||◌, ◌==◌, if◌then◌else◌, Option, None, option_map, bytes_eq, codes}
 use Rattle.std.specs.List.{list_all}
 use Rattle.geoplan.specs.NarrowText.{whole_of}
 

@@ -1,4 +1,4 @@
-use Rattle.std.specs.Prelude.{◌≡◌, ◌⊎◌, ℕ, ◌≤◌, List, length, ◌&&◌, ◌==◌, nat_le, if◌then◌else◌, Option, Some, None}
+use Rattle.std.specs.Prelude.{◌≡◌, ℕ, List, length, ◌&&◌, ◌==◌, nat_le, if◌then◌else◌, Option, Some, None}
 use Rattle.shelf_io.specs.Files.{Files, bytes_of}
 use Rattle.geoplan.specs.CommandOf.{CommandOf, command_of}
 use Rattle.geoplan.specs.Narrow.{NarrowOf, narrow_tables}

@@ -1,9 +1,9 @@
-use Rattle.std.specs.Prelude.{◌≡◌, ◌⊎◌, ℕ, List, [], ◌++◌, Option}
+use Rattle.std.specs.Prelude.{◌≡◌, ◌⊎◌, ℕ, List, ◌++◌, Option}
 use Rattle.shelf_io.specs.Faults.{Rose}
 use Rattle.shelf_io.specs.Written.{with_written}
 use Rattle.branch_bound.specs.Explored.{ShelfState}
 use Rattle.geoplan.specs.Codes.{after_failed_put}
-use Rattle.geoplan.specs.CommandOf.{CommandOf, command_of}
+use Rattle.geoplan.specs.CommandOf.{command_of}
 use Rattle.geoplan.specs.Input.{OnCommand}
 use Rattle.geoplan.specs.Reporting.{HasNoText}
 use Rattle.geoplan.specs.Standing.{Stands}

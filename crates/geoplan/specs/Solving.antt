@@ -1,4 +1,4 @@
-use Rattle.std.specs.Prelude.{◌≡◌, ◌⊎◌, ℕ, ◌≤◌, List, [], ◌++◌, Option, Some}
+use Rattle.std.specs.Prelude.{◌≡◌, ◌⊎◌, ℕ, ◌≤◌, List, ◌++◌, Option, Some}
 use Rattle.shelf_io.specs.Files.{Files, with_bytes}
 use Rattle.shelf_io.specs.Faults.{Rose, KeepsFaults, write_of}
 use Rattle.geo_model.specs.declared.answer.SearchDone.{SearchDone}

@@ -1,8 +1,8 @@
 use Rattle.std.specs.Prelude.{◌≡◌, ◌⊎◌, ℕ, ◌≤◌, Bool, List, [], ◌++◌, length, Option, Some, None}
 use Rattle.std.specs.Option.{ForSome}
-use Rattle.shelf_io.specs.Files.{Files, bytes_of, with_bytes}
-use Rattle.shelf_io.specs.Faults.{LastFault, Rose, KeepsFaults, read_of, write_of}
-use Rattle.geo_model.specs.Network.{NetworkOf, IsNetwork}
+use Rattle.shelf_io.specs.Files.{Files, with_bytes}
+use Rattle.shelf_io.specs.Faults.{Rose, KeepsFaults, read_of, write_of}
+use Rattle.geo_model.specs.Network.{IsNetwork}
 use Rattle.bound_log.specs.Narrow.{IsNarrow}
 use Rattle.bound_log.specs.declared.bound.Bound.TheVariants.{NoPlan}
 use Rattle.bound_log.specs.LogText.{log_text}
@@ -13,7 +13,7 @@ use Rattle.branch_bound.specs.Searched.{IsBest}
 use Rattle.geoplan.specs.CommandOf.{CommandOf}
 use Rattle.geoplan.specs.Input.{input_of}
 use Rattle.geoplan.specs.Narrow.{NarrowOf}
-use Rattle.geoplan.specs.Texts.{words_text, not_built_text, cannot_read_text, plan_text, no_plan_text}
+use Rattle.geoplan.specs.Texts.{not_built_text, cannot_read_text, plan_text, no_plan_text}
 use Rattle.geoplan.specs.declared.status.Status.{Status}
 use Rattle.geoplan.specs.declared.status.Status.TheVariants as status
 

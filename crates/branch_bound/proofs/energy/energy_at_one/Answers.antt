@@ -1,6 +1,5 @@
-use Rattle.std.proofs.Common.{◌≡◌, ◌+◌, ◌*◌, ℕ, ℤ, pos, ◌+ℤ◌, ◌≤ℤ◌, Bool, true, false, if◌then◌else◌, ap, take, arith}
+use Rattle.std.proofs.Common.{◌≡◌, ℤ, pos, Bool, true, false, if◌then◌else◌, ap, arith}
 use Rattle.std.proofs.lemmas.Int.{ints}
-use Rattle.geo_model.specs.Energy.{energy}
 use Rattle.geo_model.specs.Candidate.{candidate_energy}
 use Rattle.bound_log.specs.VerdictOf.{ones}
 use Rattle.branch_bound.proofs.EnergySteps.{energy-take}

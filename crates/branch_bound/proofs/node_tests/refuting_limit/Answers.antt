@@ -1,4 +1,4 @@
-use Rattle.std.proofs.Common.{refl, rules, ◌≡◌, arith, length, ap, sym, ◌∙◌}
+use Rattle.std.proofs.Common.{refl, rules, ◌≡◌, length, sym, ◌∙◌}
 use Rattle.geo_model.specs.declared.verdict.Verdict.TheVariants.{Refuted}
 use Rattle.std.proofs.lemmas.Option.{slice_get_read}
 use Rattle.branch_bound.proofs.node_tests.refuting_limit.Goals as goal

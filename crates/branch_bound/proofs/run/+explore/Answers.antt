@@ -1,9 +1,8 @@
-use Rattle.std.proofs.Common.{rules, ◌≡◌, ◌<◌, ap, ap₂, sym, ◌∙◌, List, Bool, subst, refl, Some, true, arith}
-use Rattle.std.specs.Prelude.{slice_set}
+use Rattle.std.proofs.Common.{rules, ◌≡◌, ◌<◌, sym, ◌∙◌, subst, refl, Some}
 use Rattle.geo_model.specs.declared.plan.Node.{Node}
 use Rattle.bound_log.specs.LogTree.{with_chosen, without_chosen, IsOpenAt}
 use Rattle.bound_log.specs.Narrow.{IsNarrow}
-use Rattle.branch_bound.specs.Explored.{state_of, BreaksOff, IsNode, IsKept}
+use Rattle.branch_bound.specs.Explored.{state_of, IsNode, IsKept}
 use Rattle.branch_bound.proofs.ExploreLemmas.{BreaksOff-nothing, BreaksOff-leaf, BreaksOff-split, BreaksOff-first, BreaksOff-second, Explores-leaf, Explores-split, IsNode-with, IsNode-without, IsNode-same, IsKept-same, BreaksOff-same, Explores-same, child_with, child_without, node_back}
 use Rattle.branch_bound.proofs.OpenCount.{open_count, open_count-with, open_count-without}
 use Rattle.branch_bound.proofs.run.+explore.Goals as goal

@@ -1,5 +1,3 @@
-use Rattle.std.proofs.Common.{rules, ◌≡◌, Some}
-use Rattle.bound_log.specs.LogTree.{root_of}
 use Rattle.branch_bound.specs.Explored.{state_of}
 use Rattle.branch_bound.proofs.SearchLemmas.{BreaksLog-nothing, BreaksLog-head, BreaksLog-tree, Searches-done}
 use Rattle.branch_bound.proofs.run.search.Goals as goal

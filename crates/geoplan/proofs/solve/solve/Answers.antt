@@ -1,4 +1,4 @@
-use Rattle.std.proofs.Common.{ap, ◌∙◌, Err, is_ok, sym, refl}
+use Rattle.std.proofs.Common.{ap, ◌∙◌, Err, refl}
 use Rattle.branch_bound.specs.declared.search_fault.SearchFault.TheVariants as search
 use Rattle.branch_bound.specs.Explored.{state_of}
 use Rattle.geoplan.proofs.SolveLemmas.{Solves-after, FailsSolve-after, FailsSolve-start}
