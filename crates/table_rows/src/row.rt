@@ -1,10 +1,14 @@
-ghost use Rattle.std.specs.Prelude.{◌≡◌, ◌<◌, [], Some, length, slice_get};
+ghost use Rattle.std.specs.Prelude.{◌≡◌, ◌<◌, [], Some, length, map, slice_get};
+ghost use Rattle.std.specs.List.{list_all};
+ghost use Rattle.std.specs.Str as Text;
+ghost use Rattle.table_rows.specs.Header.{same_texts};
 ghost use Rattle.table_rows.specs.Rows.{is_blank};
 
 use crate::field_text::text_of;
 use csv::ByteRecord;
 use std::alloc::Global;
 use std::marker::Model;
+use std::str;
 
 /// A record of a table, seen as the texts of its fields. One row serves for many records.
 #[derive(Drop)]
@@ -55,5 +59,32 @@ impl TableRow {
         ensures { result ≡ is_blank self.now }
     {
         self.len() == 1 && self.field(0).is_empty()
+    }
+
+    /// Whether the texts are exactly these.
+    pub fn has_texts(&self, texts: &[&str]) -> bool
+        ensures { result ≡ same_texts self.now (map (λ text. text.now) texts.now) }
+    {
+        if self.len() != texts.len() {
+            return false;
+        }
+        'places: for place in 0..texts.len() {
+            if self.field(place) != texts[place].as_bytes() {
+                return false;
+            }
+        }
+        true
+    }
+
+    /// Whether each text is UTF-8.
+    pub fn is_utf8(&self) -> bool
+        ensures { result ≡ list_all Text.is_utf8 self.now }
+    {
+        'places: for place in 0..self.len() {
+            if str::from_utf8(self.field(place)).is_err() {
+                return false;
+            }
+        }
+        true
     }
 }

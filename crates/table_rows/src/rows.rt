@@ -1,8 +1,10 @@
-ghost use Rattle.std.specs.Prelude.{◌≡◌, ◌∷◌, [], true, false, Some, IfOk, OnErr, Ok};
+ghost use Rattle.std.specs.Prelude.{◌≡◌, ◌∷◌, [], true, false, Some, IfOk, OnErr, Ok, map};
+ghost use Rattle.table_rows.specs.Header.{rows_under};
 ghost use Rattle.table_rows.specs.Rows.{table_rows};
 ghost use Rattle.table_rows.specs.Reading.{StandsBetween, rows_left, texts_left};
 ghost use Rattle.csv.specs.Reading.{error_kind, stops_reader};
 
+use crate::mark::has_second_mark;
 use crate::row::TableRow;
 use csv::{Error, ErrorKind, Reader, ReaderBuilder};
 use geo_base::NoMemory;
@@ -77,6 +79,27 @@ impl<'a> TableRows<'a> {
         TableRows {
             reader,
             ended: false,
+        }
+    }
+
+    /// The records under the header row. None where record 1 isn't this header, where there is no record, or where a
+    /// second byte order mark follows the first.
+    pub fn under_header(
+        alloc: Global,
+        bytes: &'a [u8],
+        header: &[&str],
+    ) -> Result<Option<TableRows<'a>>, NoMemory>
+        ensures { IfOk result (λ rows. rows ≡ rows_under (map (λ text. text.now) header.now) bytes.now) }
+    {
+        if has_second_mark(bytes) {
+            return Ok(None);
+        }
+        let mut rows = TableRows::open(alloc, bytes);
+        let mut first = TableRow::new(alloc);
+        if rows.next(&mut first)? && first.has_texts(header) {
+            Ok(Some(rows))
+        } else {
+            Ok(None)
         }
     }
 

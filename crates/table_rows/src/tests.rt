@@ -1,4 +1,4 @@
-use crate::{TableRow, TableRows, has_second_mark, starts_with_mark};
+use crate::{TableRow, TableRows, first_fault_is_least, has_second_mark, starts_with_mark};
 use geo_base::NoMemory;
 use std::alloc::Global;
 
@@ -54,10 +54,50 @@ fn tables_read_as_their_records(rt: HostRuntime) -> Result<(), NoMemory> {
     Ok(())
 }
 
+// Tables, and whether record 1 is the header row `name,x`. The expected answers come from another program.
+const HEADERS: [(&[u8], bool); 9] = [
+    (b"name,x\nA,1\n", true),
+    (b"\xEF\xBB\xBF name ,\"x\"\r\n", true),
+    (b"\xEF\xBB\xBF\xEF\xBB\xBFname,x\n", false),
+    (b"", false),
+    (b"\n\"\"\n", false),
+    (b"name,X\n", false),
+    (b"name\n", false),
+    (b"name,x,\n", false),
+    (b"\n\nname,x\n", true),
+];
+
+#[test]
+fn a_header_row_is_asked_for(rt: HostRuntime) -> Result<(), NoMemory> {
+    for (bytes, is_header) in HEADERS {
+        let rows = TableRows::under_header(rt.alloc(), bytes, &["name", "x"])?;
+        assert!(rt; rows.is_some() == is_header);
+    }
+    Ok(())
+}
+
+// Records, and whether each text is UTF-8. The expected answers come from another program.
+const ROWS: [(&[u8], bool); 3] = [
+    (b"a,\xC3\xA9", true),
+    (b"a,\xFF,b", false),
+    (b"\xC3 ,\xA9", false),
+];
+
+#[test]
+fn texts_are_told_from_other_bytes(rt: HostRuntime) -> Result<(), NoMemory> {
+    for (bytes, is_text) in ROWS {
+        let mut row = TableRow::new(rt.alloc());
+        assert!(rt; TableRows::open(rt.alloc(), bytes).next(&mut row)?);
+        assert!(rt; row.is_utf8() == is_text);
+    }
+    Ok(())
+}
+
 #[test]
 fn a_second_mark_is_told(rt: HostRuntime) {
     assert!(rt; has_second_mark(b"\xEF\xBB\xBF\xEF\xBB\xBF"));
     assert!(rt; !has_second_mark(b"\xEF\xBB\xBFa\xEF\xBB\xBF"));
     assert!(rt; starts_with_mark(b"\xEF\xBB\xBFa"));
     assert!(rt; !starts_with_mark(b"\xEF\xBB"));
+    first_fault_is_least();
 }
