@@ -20,6 +20,10 @@ rule broken kind = record { broken = broken; kind = kind }
 abbrev pub text_at : List (List ℕ) → ℕ → List ℕ
 text_at row place = unwrap_or (slice_get row place) []
 
+-- whether a text is empty
+abbrev pub is_empty : List ℕ → Bool
+is_empty text = length text == 0
+
 -- the rules of a record as a whole: its number is at most this, it has so many fields, and each text is UTF-8
 unfoldable pub record_rules : ℕ → ℕ → ℕ → List (List ℕ) → List (Rule FaultKind)
 record_rules most fields number row =

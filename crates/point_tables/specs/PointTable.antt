@@ -1,5 +1,5 @@
 -- The points table: its rules, its first fault and the points that it stands for. This project's own.
-use Rattle.std.specs.Prelude.{ℕ, ℤ, pos, neg_ℤ, ◌^◌, List, [], ◌∷◌, ◌++◌, Bool, not, ◌&&◌, ◌||◌, ◌==◌, if◌then◌else◌, codes, drop, length, map, Option, unsigned_abs}
+use Rattle.std.specs.Prelude.{ℕ, ℤ, pos, neg_ℤ, ◌^◌, List, [], ◌∷◌, ◌++◌, Bool, not, ◌&&◌, ◌||◌, if◌then◌else◌, codes, drop, map, Option, unsigned_abs}
 use Rattle.std.specs.Option.{option_map_or}
 use Rattle.std.specs.Str.{bytes_eq}
 use Rattle.text_num.specs.Decimal.{decimal_of}
@@ -10,15 +10,13 @@ use Rattle.point_tables.specs.declared.fault.FaultKind.TheVariants as kind
 use Rattle.point_tables.specs.declared.part.Part.{Part}
 use Rattle.point_tables.specs.declared.part.Part.TheVariants as part
 use Rattle.point_tables.specs.declared.record.PointRecord.{PointRecord}
-use Rattle.point_tables.specs.Columns.{name_rules, number_rules, record_rules, rule, text_at}
+use Rattle.point_tables.specs.Columns.{is_empty, name_rules, number_rules, record_rules, rule, text_at}
 
 -- the header row
 abbrev pub point_header : List (List ℕ)
 point_header = codes "name" ∷ codes "x" ∷ codes "y" ∷ codes "z" ∷ codes "plane" ∷ codes "height" ∷ []
 
-abbrev pub is_empty : List ℕ → Bool
-is_empty text = length text == 0
-
+-- whether a text is `fixed`
 abbrev pub is_fixed : List ℕ → Bool
 is_fixed text = bytes_eq text (codes "fixed")
 

@@ -1,5 +1,5 @@
 -- What the columns of a record are read as, and what a record adds to the points before it.
-use Rattle.std.specs.Prelude.{ℕ, ℤ, ◌≡◌, ◌≢◌, List, [], ◌∷◌, ◌++◌, Bool, true, false, Option, Some, None, is_none, IsSome, Result, Ok, Err}
+use Rattle.std.specs.Prelude.{ℕ, ℤ, ◌≡◌, List, [], ◌∷◌, ◌++◌, Bool, true, false, not, ◌&&◌, ◌||◌, Option, Some, None, is_none, Result, Ok, Err}
 use Rattle.table_rows.specs.Faults.{Rule, first_broken}
 use Rattle.point_tables.specs.declared.columns.Columns.{Columns}
 use Rattle.point_tables.specs.declared.fault.FaultKind.{FaultKind}
@@ -7,17 +7,11 @@ use Rattle.point_tables.specs.declared.fault.TableAnswer.{TableAnswer}
 use Rattle.point_tables.specs.declared.fault.TableAnswer.TheVariants as answer
 use Rattle.point_tables.specs.declared.fault.TableName.TheVariants as table
 use Rattle.point_tables.specs.declared.part.Part.{Part}
-use Rattle.point_tables.specs.declared.part.Part.TheVariants as part
 use Rattle.point_tables.specs.declared.record.PointRecord.{PointRecord}
-use Rattle.point_tables.specs.Accepted.{IsCoordinate, IsPart}
-use Rattle.point_tables.specs.Columns.{text_at}
+use Rattle.point_tables.specs.Accepted.{IsCoordinate, IsPart, is_absent}
+use Rattle.point_tables.specs.Columns.{is_empty, text_at}
 use Rattle.point_tables.specs.Names.{is_among, is_name}
-use Rattle.point_tables.specs.PointTable.{coordinate_of, is_empty, part_of}
-
-abbrev pub is_absent : Part → Bool
-is_absent part.Absent = true
-is_absent part.Fixed = false
-is_absent (part.New limit) = false
+use Rattle.point_tables.specs.PointTable.{coordinate_of, part_of}
 
 -- a coordinate is that of a text, within its bounds, and there is none only where the text is empty
 pub record IsCoordinateOf (text : List ℕ) (given : Option ℤ) : Type 0 where
@@ -31,6 +25,11 @@ pub record IsPartOf (text : List ℕ) (given : Part) : Type 0 where
   pub bound : IsPart given
   pub empty : is_absent given ≡ is_empty text
 
+-- whether a part lacks a coordinate that it needs
+abbrev pub has_missing : Columns → Bool
+has_missing columns =
+    (not (is_absent columns.plane) && (is_none columns.x || is_none columns.y)) || (not (is_absent columns.height) && is_none columns.z)
+
 -- the columns of a record, none of which is missing
 pub record IsColumns (row : List (List ℕ)) (columns : Columns) : Type 0 where
   pub x : IsCoordinateOf (text_at row 1) columns.x
@@ -38,9 +37,7 @@ pub record IsColumns (row : List (List ℕ)) (columns : Columns) : Type 0 where
   pub z : IsCoordinateOf (text_at row 3) columns.z
   pub plane : IsPartOf (text_at row 4) columns.plane
   pub height : IsPartOf (text_at row 5) columns.height
-  pub has_x : columns.plane ≢ part.Absent → IsSome columns.x
-  pub has_y : columns.plane ≢ part.Absent → IsSome columns.y
-  pub has_z : columns.height ≢ part.Absent → IsSome columns.z
+  pub complete : has_missing columns ≡ false
 
 -- a name is this text, and no other point has it
 pub record IsNewName (text : List ℕ) (names : List (List ℕ)) (name : List ℕ) : Type 0 where

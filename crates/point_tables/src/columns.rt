@@ -1,7 +1,7 @@
 ghost use Rattle.std.specs.Prelude.{◌≡◌, length};
 ghost use Rattle.point_tables.specs.Columns.{Reads};
 ghost use Rattle.point_tables.specs.PointTable.{column_rules, coordinate_rules, part_rules};
-ghost use Rattle.point_tables.specs.Read.{IsColumns, IsCoordinateOf, IsPartOf};
+ghost use Rattle.point_tables.specs.Read.{IsColumns, IsCoordinateOf, IsPartOf, has_missing};
 
 use crate::fault::FaultKind;
 use crate::number::read_number;
@@ -21,6 +21,17 @@ pub(crate) struct Columns {
     pub(crate) z: Option<i64>,
     pub(crate) plane: Part,
     pub(crate) height: Part,
+}
+
+impl Columns {
+    // Whether a part lacks a coordinate that it needs.
+    fn has_missing(&self) -> bool
+        ensures { result ≡ has_missing self.now }
+    {
+        let lacks_plane = !self.plane.is_absent() && (self.x.is_none() || self.y.is_none());
+        let lacks_height = !self.height.is_absent() && self.z.is_none();
+        lacks_plane || lacks_height
+    }
 }
 
 // A coordinate in millimetres, if there is one.
@@ -62,18 +73,15 @@ pub(crate) fn read_columns(row: &TableRow) -> Result<Columns, FaultKind>
     let z = read_coordinate(row.field(3))?;
     let plane = read_part(row.field(4))?;
     let height = read_part(row.field(5))?;
-    if !matches!(plane, Part::Absent) && (x.is_none() || y.is_none()) {
-        return Err(FaultKind::Missing);
-    }
-    if !matches!(height, Part::Absent) && z.is_none() {
-        return Err(FaultKind::Missing);
-    }
-    Ok(Columns {
+    let columns = Columns {
         x,
         y,
         z,
         plane,
         height,
-    })
+    };
+    if columns.has_missing() {
+        return Err(FaultKind::Missing);
+    }
+    Ok(columns)
 }
-

@@ -1,3 +1,6 @@
+ghost use Rattle.std.specs.Prelude.{◌≡◌};
+ghost use Rattle.point_tables.specs.Accepted.{is_absent};
+
 /// A part of a point, its plane position or its height.
 #[derive(Clone, Copy, Debug, PartialEq, Eq)]
 pub enum Part {
@@ -7,4 +10,16 @@ pub enum Part {
     Fixed,
     /// The part is to be measured, within this limit in tenths of a millimetre.
     New(u32),
+}
+
+impl Part {
+    /// Whether the point has no such part.
+    pub fn is_absent(self) -> bool
+        ensures { result ≡ is_absent self }
+    {
+        match self {
+            Part::Absent => true,
+            Part::Fixed | Part::New(_) => false,
+        }
+    }
 }
