@@ -75,13 +75,14 @@ returns c =
     let z = at-field (λ t. IsCoordinateOf t c.in_ok-z.z) c.args.row.now 3 c.field-3.result.now c.field-3.ensures c.in_ok-z.ensures.1 in
     let plane = at-field (λ t. IsPartOf t c.in_ok-plane.plane) c.args.row.now 4 c.field-4.result.now c.field-4.ensures c.in_ok-plane.ensures.1 in
     let height = at-field (λ t. IsPartOf t c.in_ok-height.height) c.args.row.now 5 c.field-5.result.now c.field-5.ensures c.in_ok-height.ensures.1 in
-    let complete = sym c.has_missing.ensures ∙ c.if-has_missing.false in
-    (broken-missing c.args.row.now None
-    (keeps-coordinate c.args.row.now 1 c.field.result.now c.field.ensures c.in_ok-x.ensures.0)
-    (keeps-coordinate c.args.row.now 2 c.field-2.result.now c.field-2.ensures c.in_ok-y.ensures.0)
-    (keeps-coordinate c.args.row.now 3 c.field-3.result.now c.field-3.ensures c.in_ok-z.ensures.0)
-    (keeps-part c.args.row.now 4 c.field-4.result.now c.field-4.ensures c.in_ok-plane.ensures.0)
-    (keeps-part c.args.row.now 5 c.field-5.result.now c.field-5.ensures c.in_ok-height.ensures.0)
-    (missing-none c.args.row.now (record { x = c.in_ok-x.x; y = c.in_ok-y.y; z = c.in_ok-z.z; plane = c.in_ok-plane.plane; height = c.in_ok-height.height })
-    x y z plane height complete),
-      record { x = x; y = y; z = z; plane = plane; height = height; complete = complete })
+    let complete = sym c.has_missing.ensures ∙ c.if-has_missing.false in (
+      broken-missing c.args.row.now None
+          (keeps-coordinate c.args.row.now 1 c.field.result.now c.field.ensures c.in_ok-x.ensures.0)
+          (keeps-coordinate c.args.row.now 2 c.field-2.result.now c.field-2.ensures c.in_ok-y.ensures.0)
+          (keeps-coordinate c.args.row.now 3 c.field-3.result.now c.field-3.ensures c.in_ok-z.ensures.0)
+          (keeps-part c.args.row.now 4 c.field-4.result.now c.field-4.ensures c.in_ok-plane.ensures.0)
+          (keeps-part c.args.row.now 5 c.field-5.result.now c.field-5.ensures c.in_ok-height.ensures.0)
+          (missing-none c.args.row.now (record { x = c.in_ok-x.x; y = c.in_ok-y.y; z = c.in_ok-z.z; plane = c.in_ok-plane.plane; height = c.in_ok-height.height })
+          x y z plane height complete),
+      record { x = x; y = y; z = z; plane = plane; height = height; complete = complete },
+    )

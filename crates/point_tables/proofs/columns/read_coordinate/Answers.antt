@@ -12,9 +12,10 @@ returns-then-is_empty c = coordinate-none c.args.text.now (sym c.is_empty.ensure
 pub returns-in-Ok : goal.returns-in-Ok
 returns-in-Ok c =
     let given : is_empty c.args.text.now ≡ false = sym c.is_empty.ensures ∙ c.if-is_empty.false in
-    let fits : FitsSigned w64 c.in-Ok.value = search rules in
-    (ap first_broken (coordinate-given c.args.text.now given) ∙ c.in-Ok.ensures.0,
-      subst (λ value. IsCoordinateOf c.args.text.now (Some value)) (sym (to_z-of_z w64 c.in-Ok.value fits)) (coordinate-some c.args.text.now c.in-Ok.value given c.in-Ok.ensures.1))
+    let fits : FitsSigned w64 c.in-Ok.value = search rules in (
+      ap first_broken (coordinate-given c.args.text.now given) ∙ c.in-Ok.ensures.0,
+      subst (λ value. IsCoordinateOf c.args.text.now (Some value)) (sym (to_z-of_z w64 c.in-Ok.value fits)) (coordinate-some c.args.text.now c.in-Ok.value given c.in-Ok.ensures.1),
+    )
 
 pub returns-in-Err : goal.returns-in-Err
 returns-in-Err c =

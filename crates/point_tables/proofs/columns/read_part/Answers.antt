@@ -20,9 +20,10 @@ pub returns-in-Ok : goal.returns-in-Ok
 returns-in-Ok c =
     let given : is_empty c.args.text.now ≡ false = sym c.is_empty.ensures ∙ c.if-is_empty.false in
     let other : is_fixed c.args.text.now ≡ false = ap (bytes_eq c.args.text.now) (sym c.as_slice.ensures) ∙ sym c.eq.ensures ∙ c.if-eq.false in
-    let fits : FitsSigned w64 c.in-Ok.limit = search rules in
-    (ap first_broken (part-given c.args.text.now given other) ∙ c.in-Ok.ensures.0,
-      part-new c.args.text.now c.in-Ok.limit _ given other c.in-Ok.ensures.1 (ap unsigned_abs (to_z-of_z w64 c.in-Ok.limit fits)))
+    let fits : FitsSigned w64 c.in-Ok.limit = search rules in (
+      ap first_broken (part-given c.args.text.now given other) ∙ c.in-Ok.ensures.0,
+      part-new c.args.text.now c.in-Ok.limit _ given other c.in-Ok.ensures.1 (ap unsigned_abs (to_z-of_z w64 c.in-Ok.limit fits)),
+    )
 
 pub returns-in-Err : goal.returns-in-Err
 returns-in-Err c =

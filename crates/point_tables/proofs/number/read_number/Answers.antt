@@ -29,6 +29,7 @@ returns c =
     let fits : FitsSigned w64 c.in-Some.value = search rules in
     let low = le-tested c.args.least c.in-Some.value (simp (to_z-of_z, fits, c.ranges.least) at c.if-value-least.false) in
     let high = le-tested c.in-Some.value c.args.most (simp (to_z-of_z, fits, c.ranges.most) at c.if-most-value.false) in
-    let is : IsNumber c.args.places c.args.least c.args.most c.args.text.now c.in-Some.value = record { written = written; low = low; high = high } in
-    (number-within c.args.places c.args.least c.args.most c.in-Some.value c.args.text.now written low high,
-      subst (IsNumber c.args.places c.args.least c.args.most c.args.text.now) (sym (to_z-of_z w64 c.in-Some.value fits)) is)
+    let is : IsNumber c.args.places c.args.least c.args.most c.args.text.now c.in-Some.value = record { written = written; low = low; high = high } in (
+      number-within c.args.places c.args.least c.args.most c.in-Some.value c.args.text.now written low high,
+      subst (IsNumber c.args.places c.args.least c.args.most c.args.text.now) (sym (to_z-of_z w64 c.in-Some.value fits)) is,
+    )
