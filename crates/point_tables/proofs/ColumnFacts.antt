@@ -1,7 +1,8 @@
 -- What the columns of a record are read as, and which of their rules is broken first.
-use Rattle.std.proofs.Common.{◌≡◌, ◌≤◌, ◌<◌, ◌^◌, ℕ, zero, suc, ℤ, pos, neg_ℤ, Bool, true, false, List, [], ◌∷◌, ◌++◌, Option, Some, None, refl, sym, ap, arith, not, ◌&&◌, ◌||◌, ◌∙◌, length}
+use Rattle.std.proofs.Common.{◌≡◌, ◌≤◌, ◌<◌, ◌^◌, ℕ, zero, suc, ℤ, pos, neg_ℤ, Bool, true, false, List, [], ◌∷◌, ◌++◌, Option, Some, None, refl, sym, ap, arith, not, ◌&&◌, ◌||◌, ◌∙◌, length, subst}
 use Rattle.std.specs.Prelude.{◌<ℤ◌, ◌≤ℤ◌, is_none, is_some, IsSome, unsigned_abs, slice_get}
 use Rattle.std.specs.Option.{option_or}
+use Rattle.std.proofs.lemmas.Bool.{eqb-true}
 use Rattle.std.proofs.lemmas.Int.{ints}
 use Rattle.text_num.specs.Decimal.{decimal_of}
 use Rattle.table_rows.specs.Faults.{Rule, first_broken}
@@ -21,7 +22,7 @@ use Rattle.point_tables.specs.Read.{IsColumns, IsCoordinateOf, IsPartOf, has_mis
 pub coordinate-none : (text : List ℕ) → is_empty text ≡ true → (first_broken (coordinate_rules text) ≡ None) × IsCoordinateOf text None
 unfolding coordinate_rules first_broken coordinate_of decimal_of
 coordinate-none [] e = (refl, record { value = refl; bound = λ x f. cc f; empty = refl })
-coordinate-none (c ∷ text) e = cc e
+coordinate-none (c ∷ text) e = absurd (omega (arith, eqb-true (length (c ∷ text)) 0 e))
 
 pub coordinate-given : (text : List ℕ) → is_empty text ≡ false → coordinate_rules text ≡ number_rules 3 (neg_ℤ (pos (10 ^ 11))) (pos (10 ^ 11)) text
 unfolding coordinate_rules
@@ -67,9 +68,19 @@ part-new text value limit e f is same = record {
 
 -- ---- the columns one after the other
 
--- the text of a field, by both words for it
-pub text_at-is : (row : List (List ℕ)) (place : ℕ) (text : List ℕ) → slice_get row place ≡ Some text → text_at row place ≡ text
-text_at-is row place text e = rw e refl
+-- a fact on the text of a field
+pub at-field : (P : List ℕ → Type 0) (row : List (List ℕ)) (place : ℕ) (text : List ℕ) → slice_get row place ≡ Some text → P text → P (text_at row place)
+at-field P row place text e p =
+    let same : text_at row place ≡ text = rw e refl in
+    subst P (sym same) p
+
+pub keeps-coordinate : (row : List (List ℕ)) (place : ℕ) (text : List ℕ) → slice_get row place ≡ Some text → first_broken (coordinate_rules text) ≡ None
+    → first_broken (coordinate_rules (text_at row place)) ≡ None
+keeps-coordinate row place text e p = at-field (λ t. first_broken (coordinate_rules t) ≡ None) row place text e p
+
+pub keeps-part : (row : List (List ℕ)) (place : ℕ) (text : List ℕ) → slice_get row place ≡ Some text → first_broken (part_rules text) ≡ None
+    → first_broken (part_rules (text_at row place)) ≡ None
+keeps-part row place text e p = at-field (λ t. first_broken (part_rules t) ≡ None) row place text e p
 
 -- where no rule of a column is broken the first broken one is among those after it
 past : {K : Type 0} (front back : List (Rule K)) (found : Option K) → first_broken front ≡ None → first_broken back ≡ found → first_broken (front ++ back) ≡ found
@@ -120,7 +131,6 @@ missing-some row columns x y z plane height e =
   where
     by : (a b : Bool) → (a || b) ≡ true
         → first_broken (record { broken = a; kind = kind.Missing } ∷ record { broken = b; kind = kind.Missing } ∷ []) ≡ Some kind.Missing
-    unfolding first_broken
     by true b e = refl
     by false true e = refl
     by false false e = cc e
@@ -135,7 +145,6 @@ missing-none row columns x y z plane height e =
   where
     by : (a b : Bool) → (a || b) ≡ false
         → first_broken (record { broken = a; kind = kind.Missing } ∷ record { broken = b; kind = kind.Missing } ∷ []) ≡ None
-    unfolding first_broken
     by true b e = cc e
     by false true e = cc e
     by false false e = refl

@@ -1,6 +1,6 @@
 -- Which rule of a number is broken first.
 use Rattle.std.proofs.Common.{◌≡◌, ℕ, ℤ, Bool, true, false, List, Some, None, refl, arith}
-use Rattle.std.specs.Prelude.{◌<ℤ◌, ◌≤ℤ◌, int_le}
+use Rattle.std.specs.Prelude.{◌<ℤ◌, ◌≤ℤ◌, int_le, int_lt}
 use Rattle.std.proofs.lemmas.Int.{ints}
 use Rattle.text_num.specs.Decimal.{decimal_of}
 use Rattle.table_rows.specs.Faults.{first_broken}
@@ -12,6 +12,13 @@ le-kept a b h = grind (arith, ints)
 
 le-broken : (a b : ℤ) → b <ℤ a → int_le a b ≡ false
 le-broken a b h = grind (arith, ints)
+
+-- what a test of signed numbers says
+pub lt-tested : (a b : ℤ) → int_lt a b ≡ true → a <ℤ b
+lt-tested a b h = grind (arith, ints)
+
+pub le-tested : (a b : ℤ) → int_lt b a ≡ false → a ≤ℤ b
+le-tested a b h = grind (arith, ints)
 
 -- outside the grammar
 pub number-none : (places : ℕ) (least most : ℤ) (text : List ℕ) → decimal_of places text ≡ None

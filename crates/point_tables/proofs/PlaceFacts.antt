@@ -1,6 +1,6 @@
 -- The place of a name among names that differ.
 use Rattle.std.proofs.Common.{◌≡◌, ◌≢◌, ◌∙◌, ◌<◌, ◌≤◌, ℕ, zero, suc, Bool, true, false, List, [], ◌∷◌, Option, Some, None, length, map, refl, sym, ap, arith, get_or, position, Vec, Global, slice_get, cond}
-use Rattle.std.specs.Prelude.{is_some, nat_lt}
+use Rattle.std.specs.Prelude.{◌||◌, is_some, nat_lt}
 use Rattle.std.specs.List.{AllByRecursion, IsDistinct, list_any, position_or_len, prefix_len}
 use Rattle.std.specs.Str.{bytes_eq}
 use Rattle.std.proofs.lemmas.Bool.Decides.{nat_tests}
@@ -41,24 +41,32 @@ place-none name names e k at =
     cc (fails, ap (bytes_eq name) same, passes)
 
 -- whether a name is among others, by the place that was found
-pub among-none : (name : List ℕ) (names : List (List ℕ)) → place_of name names ≡ None → is_among name names ≡ false
+among-none : (name : List ℕ) (names : List (List ℕ)) → place_of name names ≡ None → is_among name names ≡ false
 unfolding place_of is_among
 among-none name names e = list_any_none (bytes_eq name) names (fails-all (bytes_eq name) names e)
+
+or_right : (a b : Bool) → b ≡ true → (a || b) ≡ true
+or_right true b e = refl
+or_right false b e = e
 
 any-at : (test : List ℕ → Bool) (names : List (List ℕ)) (k : ℕ) (x : List ℕ) → slice_get names k ≡ Some x → test x ≡ true → list_any test names ≡ true
 any-at test [] k x e p = cc e
 any-at test (y ∷ names) zero x e p =
     let same : y ≡ x = cc e in
     rw (same, p) refl
-any-at test (y ∷ names) (suc k) x e p = by (test y) (any-at test names k x e p)
-  where
-    by : (t : Bool) → list_any test names ≡ true → cond t true (list_any test names) ≡ true
-    by true f = refl
-    by false f = f
+any-at test (y ∷ names) (suc k) x e p = or_right (test y) (list_any test names) (any-at test names k x e p)
 
-pub among-some : (name : List ℕ) (names : List (List ℕ)) (k : ℕ) → place_of name names ≡ Some k → is_among name names ≡ true
+among-some : (name : List ℕ) (names : List (List ℕ)) (k : ℕ) → place_of name names ≡ Some k → is_among name names ≡ true
 unfolding is_among
 among-some name names k e = any-at (bytes_eq name) names k name (place-at name names k e) ((bytes_eq-Decides name name).1 refl)
+
+pub among-is : (name : List ℕ) (names : List (List ℕ)) → is_among name names ≡ is_some (place_of name names)
+among-is name names = by (place_of name names) (among-none name names) (among-some name names)
+  where
+    by : (found : Option ℕ) → (found ≡ None → is_among name names ≡ false) → ((k : ℕ) → found ≡ Some k → is_among name names ≡ true)
+        → is_among name names ≡ is_some found
+    by None none some = none refl
+    by (Some k) none some = some k refl
 
 -- ---- names that differ
 

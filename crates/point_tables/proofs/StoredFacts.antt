@@ -1,17 +1,18 @@
 -- Points stored under their names.
-use Rattle.std.proofs.Common.{◌≡◌, ◌∙◌, ◌+◌, ◌<◌, ◌≤◌, ℕ, Bool, true, false, List, [], ◌∷◌, ◌++◌, Option, Some, None, length, map, refl, sym, ap, ap₂, arith, Vec, Global, slice_get, cond, length-append}
-use Rattle.std.specs.Prelude.{All}
-use Rattle.std.specs.List.{list_any}
+use Rattle.std.proofs.Common.{◌≡◌, ◌∙◌, ◌+◌, ◌<◌, ◌≤◌, ℕ, Bool, true, false, List, [], ◌∷◌, ◌++◌, Option, Some, None, length, map, refl, sym, ap, ap₂, arith, Vec, Global, slice_get, cond, length-append, position, subst}
+use Rattle.std.specs.Prelude.{◌||◌, All}
+use Rattle.std.specs.List.{IsDistinct, list_any}
 use Rattle.std.specs.Map.{keys_of, lookup, values_of}
 use Rattle.std.specs.Str.{bytes_eq}
-use Rattle.std.proofs.lemmas.List.{map-append}
+use Rattle.std.proofs.lemmas.List.{length-map, map-append}
 use Rattle.std.proofs.lemmas.List.Elements.{All-get_or, All-push}
 use Rattle.std.proofs.lemmas.Option.{slice_get_within, get_or_from_slice_get}
 use Rattle.point_tables.specs.declared.record.PointRecord.{PointRecord}
 use Rattle.point_tables.specs.Accepted.{IsAccepted}
-use Rattle.point_tables.specs.Names.{is_among}
+use Rattle.point_tables.specs.Names.{is_among, place_of}
 use Rattle.point_tables.specs.PointTable.{names_of}
 use Rattle.point_tables.specs.Stored.{AreStored}
+use Rattle.point_tables.proofs.PlaceFacts.{distinct-keys, place-keys}
 
 -- what holds of each point holds of the one at a place
 pub all-at : {A : Type 0} (P : A → Type 0) (xs : List A) (k : ℕ) (x : A) → All P xs → slice_get xs k ≡ Some x → P x
@@ -23,12 +24,17 @@ all-at P xs k x all at =
 not-stored : (name : List ℕ) (entries : List (Vec ℕ Global × PointRecord)) → list_any (bytes_eq name) (map (λ (key : Vec ℕ Global). key.items) (keys_of entries)) ≡ false
     → lookup (λ (key : Vec ℕ Global). bytes_eq name key.items) entries ≡ None
 not-stored name [] e = refl
-not-stored name (entry ∷ entries) e = by (bytes_eq name entry.0.items) e
+not-stored name (entry ∷ entries) e = by (bytes_eq name entry.0.items) e (not-stored name entries)
   where
-    by : (t : Bool) → cond t true (list_any (bytes_eq name) (map (λ (key : Vec ℕ Global). key.items) (keys_of entries))) ≡ false
-        → cond t (Some entry.1) (lookup (λ (key : Vec ℕ Global). bytes_eq name key.items) entries) ≡ None
-    by true f = cc f
-    by false f = not-stored name entries f
+    others : Bool
+    others = list_any (bytes_eq name) (map (λ (key : Vec ℕ Global). key.items) (keys_of entries))
+
+    found : Option PointRecord
+    found = lookup (λ (key : Vec ℕ Global). bytes_eq name key.items) entries
+
+    by : (t : Bool) → (t || others) ≡ false → (others ≡ false → found ≡ None) → cond t (Some entry.1) found ≡ None
+    by true f more = cc f
+    by false f more = more f
 
 pub other-key : (name : List ℕ) (entries : List (Vec ℕ Global × PointRecord)) → AreStored entries → is_among name (names_of (values_of entries)) ≡ false
     → lookup (λ (key : Vec ℕ Global). bytes_eq name key.items) entries ≡ None
@@ -49,6 +55,19 @@ stored-push entries more key point stored few accepted same e = rw e record {
   accepted = rw (map-append (λ (x : Vec ℕ Global × PointRecord). x.1) entries ((key, point) ∷ [])) (All-push IsAccepted (values_of entries) point stored.accepted accepted);
 }
 
+-- as many points are stored as are seen
+pub few-stored : (entries : List (Vec ℕ Global × PointRecord)) (points : List PointRecord) → values_of entries ≡ points → length points < 1000 → length entries < 1000
+few-stored entries points e few = omega (arith, few, ap length e, length-map entries (λ (x : Vec ℕ Global × PointRecord). x.1))
+
 pub values-push : (entries more : List (Vec ℕ Global × PointRecord)) (key : Vec ℕ Global) (point : PointRecord) → more ≡ entries ++ (key, point) ∷ []
     → values_of more ≡ values_of entries ++ point ∷ []
 values-push entries more key point e = ap values_of e ∙ map-append (λ (x : Vec ℕ Global × PointRecord). x.1) entries ((key, point) ∷ [])
+
+-- a name is looked up among the keys as among the names of the points
+pub place-stored : (name : List ℕ) (entries : List (Vec ℕ Global × PointRecord)) → AreStored entries
+    → position (λ (key : Vec ℕ Global). bytes_eq name key.items) (keys_of entries) ≡ place_of name (names_of (values_of entries))
+place-stored name entries stored = place-keys name (keys_of entries) ∙ ap (place_of name) stored.named
+
+pub distinct-stored : (entries : List (Vec ℕ Global × PointRecord)) → AreStored entries
+    → IsDistinct (λ (x y : Vec ℕ Global). bytes_eq x.items y.items) (keys_of entries) → IsDistinct bytes_eq (names_of (values_of entries))
+distinct-stored entries stored apart = subst (IsDistinct bytes_eq) stored.named (distinct-keys (keys_of entries) apart)
