@@ -1,0 +1,2 @@
+pub mod StoredFacts
+pub mod RuleFacts

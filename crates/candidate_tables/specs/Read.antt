@@ -33,9 +33,9 @@ pub record IsForesight (points : List PointRecord) (kind : Kind) (text : List �
 
 -- the numbers are those of points
 pub record AreWithin (points : List PointRecord) (from to : ℕ) (to2 : Option ℕ) : Type 0 where
-  pub from : from < length points
-  pub to : to < length points
-  pub to2 : ForSome to2 (λ number. number < length points)
+  pub first : from < length points
+  pub second : to < length points
+  pub third : ForSome to2 (λ number. number < length points)
 
 -- the kind and the points of a record
 pub record IsEnds (points : List PointRecord) (row : List (List ℕ)) (ends : Ends) : Type 0 where

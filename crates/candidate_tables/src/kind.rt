@@ -85,20 +85,30 @@ impl Kind {
 }
 
 // The kind that a text names.
+#[tactic(auto, unfolding(crate::specs::Kinds::kind_of))]
 fn kind_of(text: &[u8]) -> Option<Kind>
     ensures { result ≡ kind_of text.now }
 {
-    match text {
-        b"distance" => Some(Kind::Distance),
-        b"direction" => Some(Kind::Direction),
-        b"angle" => Some(Kind::Angle),
-        b"level" => Some(Kind::Level),
-        b"vector" => Some(Kind::Vector),
-        _ => None,
+    if text == b"distance".as_slice() {
+        return Some(Kind::Distance);
     }
+    if text == b"direction".as_slice() {
+        return Some(Kind::Direction);
+    }
+    if text == b"angle".as_slice() {
+        return Some(Kind::Angle);
+    }
+    if text == b"level".as_slice() {
+        return Some(Kind::Level);
+    }
+    if text == b"vector".as_slice() {
+        return Some(Kind::Vector);
+    }
+    None
 }
 
 // The kind of a record.
+#[tactic(auto, unfolding(table_rows::specs::Faults::first_broken, crate::specs::CandidateTable::kind_rules))]
 pub(crate) fn read_kind(text: &[u8]) -> Result<Kind, FaultKind>
     ensures { Reads (kind_rules text.now) (IsKindOf text.now) result }
 {

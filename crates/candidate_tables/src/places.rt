@@ -12,6 +12,7 @@ use point_tables::{FaultKind, Points};
 use table_rows::TableRow;
 
 // The first rule that is broken on the fields that a kind has not.
+#[tactic(auto, unfolding(table_rows::specs::Faults::first_broken, crate::specs::CandidateTable::extra_rules))]
 fn broken_extra(kind: Kind, row: &TableRow) -> Option<FaultKind>
     requires { length row.now ≡ 8 }
     ensures { result ≡ first_broken (extra_rules kind row.now) }
@@ -77,6 +78,7 @@ impl Ends {
     }
 
     // The first rule that is broken on the points that are named and on their parts.
+    #[tactic(auto, unfolding(table_rows::specs::Faults::first_broken, crate::specs::CandidateTable::part_rules))]
     fn broken_part(&self, points: &Points) -> Option<FaultKind>
         requires { AreWithin points.now self.now.from self.now.to self.now.to2 }
         ensures { result ≡ first_broken (part_rules points.now self.now.kind (named self.now.from self.now.to self.now.to2)) }
