@@ -100,10 +100,12 @@ impl Ends {
         requires { AreWithin points.now self.now.from self.now.to self.now.to2 }
         ensures { result ≡ first_broken (lines_rules points.now self.now.kind self.now.from self.now.to self.now.to2) }
     {
-        let broken = broken_line(self.kind, points, self.from, self.to);
-        match (broken, self.to2) {
-            (None, Some(to2)) => broken_line(self.kind, points, self.from, to2),
-            _ => broken,
+        if let Some(broken) = broken_line(self.kind, points, self.from, self.to) {
+            return Some(broken);
+        }
+        match self.to2 {
+            None => None,
+            Some(to2) => broken_line(self.kind, points, self.from, to2),
         }
     }
 
