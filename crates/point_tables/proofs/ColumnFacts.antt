@@ -1,7 +1,6 @@
 -- What the columns of a record are read as, and which of their rules is broken first.
-use Rattle.std.proofs.Common.{◌≡◌, ◌≤◌, ◌<◌, ◌^◌, ℕ, zero, suc, ℤ, pos, neg_ℤ, Bool, true, false, List, [], ◌∷◌, ◌++◌, Option, Some, None, refl, sym, ap, arith, not, ◌&&◌, ◌||◌, ◌∙◌, length, subst}
-use Rattle.std.specs.Prelude.{◌<ℤ◌, ◌≤ℤ◌, is_none, is_some, IsSome, unsigned_abs, slice_get}
-use Rattle.std.specs.Option.{option_or}
+use Rattle.std.proofs.Common.{◌≡◌, ◌≤◌, ◌^◌, ℕ, ℤ, pos, neg_ℤ, Bool, true, false, List, [], ◌∷◌, ◌++◌, Option, Some, None, refl, sym, ap, arith, not, ◌&&◌, ◌||◌, ◌∙◌, length, subst}
+use Rattle.std.specs.Prelude.{◌≤ℤ◌, is_none, unsigned_abs, slice_get}
 use Rattle.std.proofs.lemmas.Bool.{eqb-true}
 use Rattle.std.proofs.lemmas.Int.{ints}
 use Rattle.text_num.specs.Decimal.{decimal_of}
@@ -10,12 +9,11 @@ use Rattle.table_rows.proofs.FaultFacts.{first_broken-left, first_broken-right}
 use Rattle.point_tables.specs.declared.columns.Columns.{Columns}
 use Rattle.point_tables.specs.declared.fault.FaultKind.{FaultKind}
 use Rattle.point_tables.specs.declared.fault.FaultKind.TheVariants as kind
-use Rattle.point_tables.specs.declared.part.Part.{Part}
 use Rattle.point_tables.specs.declared.part.Part.TheVariants as part
 use Rattle.point_tables.specs.Accepted.{is_absent}
 use Rattle.point_tables.specs.Columns.{IsNumber, is_empty, number_rules, text_at}
 use Rattle.point_tables.specs.PointTable.{column_rules, coordinate_of, coordinate_rules, is_fixed, missing_rules, part_of, part_rules}
-use Rattle.point_tables.specs.Read.{IsColumns, IsCoordinateOf, IsPartOf, has_missing}
+use Rattle.point_tables.specs.Read.{IsCoordinateOf, IsPartOf, has_missing}
 
 -- ---- a coordinate
 

@@ -1,5 +1,5 @@
 -- Which rule of a number is broken first.
-use Rattle.std.proofs.Common.{◌≡◌, ℕ, ℤ, Bool, true, false, List, Some, None, refl, arith}
+use Rattle.std.proofs.Common.{◌≡◌, ℕ, ℤ, true, false, List, Some, None, refl, arith}
 use Rattle.std.specs.Prelude.{◌<ℤ◌, ◌≤ℤ◌, int_le, int_lt}
 use Rattle.std.proofs.lemmas.Int.{ints}
 use Rattle.text_num.specs.Decimal.{decimal_of}

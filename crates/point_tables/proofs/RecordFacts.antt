@@ -1,6 +1,6 @@
 -- Which rule of a record is broken first, and the point that a record gives.
-use Rattle.std.proofs.Common.{◌≡◌, ◌∙◌, ◌+◌, ℕ, Bool, true, false, List, [], ◌∷◌, ◌++◌, Option, Some, None, length, map, refl, sym, ap, not, ◌&&◌, ◌||◌, ◌≤◌, arith, drop}
-use Rattle.std.specs.Prelude.{Err, is_none, is_some, IsSome, if◌then◌else◌, nat_lt}
+use Rattle.std.proofs.Common.{◌≡◌, ◌∙◌, ◌+◌, ℕ, Bool, true, false, List, [], ◌∷◌, Option, Some, None, length, map, refl, sym, ap, not, ◌&&◌, ◌||◌, ◌≤◌, arith, drop}
+use Rattle.std.specs.Prelude.{Err, is_none, IsSome, if◌then◌else◌, nat_lt}
 use Rattle.std.proofs.lemmas.Bool.Decides.{nat_tests}
 use Rattle.std.proofs.lemmas.List.{length-map}
 use Rattle.table_rows.specs.Faults.{Rule, first_broken}
@@ -11,13 +11,12 @@ use Rattle.point_tables.specs.declared.fault.FaultKind.TheVariants as kind
 use Rattle.point_tables.specs.declared.fault.TableAnswer.{TableAnswer}
 use Rattle.point_tables.specs.declared.fault.TableAnswer.TheVariants as answer
 use Rattle.point_tables.specs.declared.fault.TableName.TheVariants as table
-use Rattle.point_tables.specs.declared.part.Part.{Part}
 use Rattle.point_tables.specs.declared.record.PointRecord.{PointRecord}
 use Rattle.point_tables.specs.Accepted.{IsAccepted, is_absent}
 use Rattle.point_tables.specs.Columns.{Answers, name_rules, record_rules}
 use Rattle.point_tables.specs.Names.{is_among, is_name}
 use Rattle.point_tables.specs.PointTable.{column_rules, name_at, names_of, point_of, points_table, rules_after}
-use Rattle.point_tables.specs.Read.{Adds, IsColumns, IsNewName, has_missing}
+use Rattle.point_tables.specs.Read.{Adds, IsColumns, IsNewName}
 
 -- ---- the rules of a name
 

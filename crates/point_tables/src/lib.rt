@@ -3,6 +3,7 @@
 
 mod columns;
 mod fault;
+mod laws;
 mod name;
 mod number;
 mod part;
@@ -12,6 +13,7 @@ mod record;
 mod row;
 
 pub use fault::{FaultKind, TableAnswer, TableFault, TableName};
+pub use laws::first_point_fault_is_least;
 pub use name::{Name, name_text};
 pub use number::read_number;
 pub use part::Part;
@@ -19,3 +21,6 @@ pub use points::Points;
 pub use read::read_points;
 pub use record::PointRecord;
 pub use row::broken_record;
+
+#[cfg(test)]
+mod tests;

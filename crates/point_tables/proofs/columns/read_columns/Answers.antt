@@ -1,7 +1,6 @@
-use Rattle.std.proofs.Common.{◌≡◌, ◌∙◌, ℕ, List, Some, None, ap, sym, rules, slice_get, subst, true, false}
+use Rattle.std.proofs.Common.{◌≡◌, ◌∙◌, Some, None, sym}
 use Rattle.std.proofs.lemmas.Result.{err_from_is_err_and}
 use Rattle.table_rows.specs.Faults.{first_broken}
-use Rattle.point_tables.specs.Columns.{text_at}
 use Rattle.point_tables.specs.PointTable.{coordinate_rules, part_rules}
 use Rattle.point_tables.specs.Read.{IsCoordinateOf, IsPartOf}
 use Rattle.point_tables.proofs.ColumnFacts.{at-field, broken-height, broken-missing, broken-plane, broken-x, broken-y, broken-z, keeps-coordinate, keeps-part, missing-none, missing-some}

@@ -1,5 +1,5 @@
-use Rattle.std.proofs.Common.{◌≡◌, ◌∙◌, Some, refl, sym, ap, arith, ℤ, FitsSigned, w64, to_z, of_z, subst, rules}
-use Rattle.std.proofs.lemmas.Int.{ints, to_z-of_z}
+use Rattle.std.proofs.Common.{◌≡◌, ◌∙◌, Some, sym, FitsSigned, w64, subst, rules}
+use Rattle.std.proofs.lemmas.Int.{to_z-of_z}
 use Rattle.text_num.specs.Decimal.{decimal_of}
 use Rattle.point_tables.specs.Columns.{IsNumber}
 use Rattle.point_tables.proofs.NumberFacts.{le-tested, lt-tested, number-above, number-below, number-none, number-within}

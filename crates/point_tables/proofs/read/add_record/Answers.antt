@@ -1,10 +1,10 @@
-use Rattle.std.proofs.Common.{◌≡◌, ◌∙◌, ◌+◌, ◌<◌, ℕ, List, Some, None, length, refl, sym, ap, arith, ◌++◌, ◌∷◌, []}
+use Rattle.std.proofs.Common.{◌≡◌, ◌∙◌, ◌+◌, Some, None, length, refl, sym, ap, arith, ◌++◌, ◌∷◌, []}
 use Rattle.table_rows.specs.Faults.{first_broken}
 use Rattle.point_tables.specs.declared.record.PointRecord.{PointRecord}
-use Rattle.point_tables.specs.Columns.{name_rules, record_rules}
+use Rattle.point_tables.specs.Columns.{name_rules}
 use Rattle.point_tables.specs.PointTable.{name_at, names_of}
 use Rattle.point_tables.proofs.ColumnFacts.{at-field}
-use Rattle.point_tables.proofs.RecordFacts.{accepted, broken-columns, broken-name, broken-record, read-point, record-few}
+use Rattle.point_tables.proofs.RecordFacts.{broken-columns, broken-name, broken-record, read-point, record-few}
 use Rattle.point_tables.proofs.read.add_record.Goals as goal
 
 pub returns-in-Some : goal.returns-in-Some

@@ -1,8 +1,8 @@
-use Rattle.std.proofs.Common.{◌≡◌, ◌+◌, ◌∙◌, sym, ap, refl, arith, ℕ, List, [], ◌∷◌, ◌++◌, Ok, Some, None, true, false, length, map}
+use Rattle.std.proofs.Common.{◌≡◌, ◌+◌, ◌∙◌, sym, ap, refl, List, [], ◌∷◌, ◌++◌, Ok, true, false, length, map}
 use Rattle.std.proofs.lemmas.List.{length-map, map-append}
 use Rattle.std.proofs.lemmas.Result.{err_from_is_err_and}
 use Rattle.table_rows.specs.Faults.{first_broken}
-use Rattle.table_rows.proofs.FaultFacts.{CleanSoFar, clean-next, clean-start, first_fault-found, first_fault-header, first_fault-none}
+use Rattle.table_rows.proofs.FaultFacts.{clean-next, clean-start, first_fault-found, first_fault-header, first_fault-none}
 use Rattle.table_rows.proofs.HeaderFacts.{under-rest}
 use Rattle.point_tables.specs.declared.record.PointRecord.{PointRecord}
 use Rattle.point_tables.specs.PointTable.{names_of, point_of, points_fault, points_of, points_table, rules_after}
