@@ -1,0 +1,3 @@
+pub mod Limit
+pub mod Certificate
+pub mod LeftOver
