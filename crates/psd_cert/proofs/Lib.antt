@@ -1,4 +1,5 @@
 pub mod Decided
+pub mod ScaleLaws
 pub mod Products
 pub mod Entries
 pub mod LeftOverLaws

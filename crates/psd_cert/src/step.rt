@@ -1,4 +1,4 @@
-ghost use Rattle.std.specs.Prelude.{◌≡◌, ℕ, ◌+◌, ◌-◌, ◌<◌, ◌≤◌, ◌^◌, ◌↔◌, ℤ, pos, ◌-ℤ◌, ◌*ℤ◌, ◌≤ℤ◌, ◌<ℤ◌, List, length, suc, unsigned_abs, IsTrue, MatchOption};
+ghost use Rattle.std.specs.Prelude.{◌≡◌, ℕ, ◌+◌, ◌-◌, ◌<◌, ◌≤◌, ◌^◌, ◌↔◌, ℤ, pos, ◌-ℤ◌, ◌*ℤ◌, ◌≤ℤ◌, ◌<ℤ◌, List, length, suc, unsigned_abs, IsTrue, MatchOption, All};
 ghost use Rattle.whole_algebra.specs.Sums.{int_sum};
 ghost use Rattle.whole_algebra.specs.Matrices.{at};
 ghost use Rattle.whole_algebra.specs.Chains.{beside};
@@ -37,14 +37,21 @@ pub(crate) fn scale_of(first: &[i128]) -> Option<i128>
     requires { 0 < length first.now }
     ensures { MatchOption result ((s : ℤ) → IsScale first.now s → ⊥) (λ s. IsScale first.now s) }
 {
-    if first[0] > 0 {
-        return Some(first[0]);
-    }
-    if first.iter().all(|z| *z == 0) {
+    let a = first[0];
+    if a > 0 {
+        Some(a)
+    } else if is_zero_row(first) {
         Some(1)
     } else {
         None
     }
+}
+
+// Whether all numbers of a row are 0.
+fn is_zero_row(row: &[i128]) -> bool
+    ensures { IsTrue result ↔ All (λ z. z ≡ pos 0) row.now }
+{
+    row.iter().all(|z| *z == 0)
 }
 
 // Whether the diagonal entry of row `i` of what is left over is at least the sum of the sizes of the
