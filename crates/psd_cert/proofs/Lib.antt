@@ -4,3 +4,4 @@ pub mod Products
 pub mod Entries
 pub mod LeftOverLaws
 pub mod RowTests
+pub mod CertificateLaws

@@ -3,7 +3,9 @@
 #![tactic(auto)]
 
 mod limit;
+mod square_cert;
 mod step;
 
 pub use limit::fits;
+pub use square_cert::{SquareCert, holds};
 pub use step::step_holds;

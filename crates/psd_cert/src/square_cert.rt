@@ -1,0 +1,85 @@
+ghost use Rattle.std.specs.Prelude.{◌≡◌, ◌+◌, ◌-◌, ◌≤◌, ◌↔◌, ℤ, pos, ◌≤ℤ◌, List, [], length, get_or, All, IsTrue};
+ghost use Rattle.whole_algebra.specs.Matrices.{quad};
+ghost use Rattle.whole_algebra.specs.Certificates.{CertificateHolds};
+ghost use Rattle.lent_parts.specs.Triangle.{IsTri};
+ghost use Rattle.psd_cert.specs.Limit.{Fits};
+ghost use Rattle.psd_cert.specs.Certificate.{IsCertificate};
+
+use crate::step_holds;
+use lent_parts::Tri;
+use std::marker::Model;
+
+/// A certificate that a quadratic form is nowhere negative: claimed remainders of the sizes `n - 1`
+/// down to 0, with entries of at most `2^61` in size. Contracts see it as their list.
+#[derive(Debug, Drop)]
+pub struct SquareCert {
+    remainders: Vec<Tri>,
+}
+
+impl Model for SquareCert {
+    ghost use Rattle.std.specs.Prelude.{List, ℤ};
+    ghost use Rattle.psd_cert.specs.Certificate.{IsKept};
+
+    ghost Value = { List (List (List ℤ)) };
+
+    ghost view = { λ cert. cert.remainders.items };
+
+    ghost invariant = { λ cert. IsKept cert.remainders.items };
+}
+
+impl SquareCert {
+    /// The certificate with these remainders, whose sizes go down by one to 0.
+    pub fn new(remainders: Vec<Tri>) -> SquareCert
+        requires sizes { IsCertificate (length remainders.items) remainders.items }
+        requires fits { All Fits remainders.items }
+        ensures { result ≡ remainders.items }
+    {
+        SquareCert { remainders }
+    }
+
+    /// The remainder of step `t`, counted from 1.
+    pub fn remainder(&self, t: u32) -> &Tri
+        requires low { 1 ≤ t }
+        requires high { t ≤ length self.now }
+        ensures value { result.now ≡ get_or self.now (t - 1) [] }
+        ensures shape { IsTri (length self.now - t) result.now }
+        ensures fits { Fits result.now }
+    {
+        &self.remainders[t as usize - 1]
+    }
+
+    // All remainders.
+    fn remainders(&self) -> &[Tri]
+        ensures value { result.now ≡ self.now }
+        ensures sizes { IsCertificate (length self.now) self.now }
+        ensures fits { All Fits self.now }
+    {
+        self.remainders.as_slice()
+    }
+}
+
+/// Whether each step of the certificate holds, from `first` on. If so, the form of `first` is
+/// negative on no list of whole numbers.
+pub fn holds(first: &Tri, cert: &SquareCert) -> bool
+    requires shape { IsTri (length first.now) first.now }
+    requires size { length cert.now ≡ length first.now }
+    requires fits { Fits first.now }
+    ensures exact { IsTrue result ↔ CertificateHolds cert.now first.now }
+    ensures nowhere_negative { IsTrue result → (x : List ℤ) → pos 0 ≤ℤ quad first.now x }
+{
+    holds_from(first, cert.remainders())
+}
+
+// Whether each step to these remainders holds.
+fn holds_from(current: &Tri, remainders: &[Tri]) -> bool
+    requires shape { IsTri (length remainders.now) current.now }
+    requires sizes { IsCertificate (length remainders.now) remainders.now }
+    requires fits { Fits current.now }
+    requires remainders_fit { All Fits remainders.now }
+    ensures { IsTrue result ↔ CertificateHolds remainders.now current.now }
+{
+    match remainders {
+        [] => true,
+        [remainder, rest @ ..] => step_holds(current, remainder) && holds_from(remainder, rest),
+    }
+}
