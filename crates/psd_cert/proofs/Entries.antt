@@ -37,7 +37,7 @@ triangle-plus_matrix (suc n) (p ∷ m) (q ∷ r) t u = (length-plus_lists p q (s
 pub triangle-minus_matrix : (n : ℕ) (m r : List (List ℤ)) → IsTriangle n m → IsTriangle n r → IsTriangle n (minus_matrix m r)
 triangle-minus_matrix n m r t u = triangle-plus_matrix n m (entries neg_ℤ r) t (triangle-entries neg_ℤ n r u)
 
-length-beside : (row : List ℤ) (n : ℕ) → length row ≡ suc n → length (beside row) ≡ n
+pub length-beside : (row : List ℤ) (n : ℕ) → length row ≡ suc n → length (beside row) ≡ n
 length-beside [] n e = absurd (omega arith)
 length-beside (a ∷ b) n e = omega arith
 

@@ -143,7 +143,7 @@ unfolding left_sizes
 row_parts s m r i = at-off_sums (entries size_of (left_over s m r)) i
 
 -- ---- the whole step
-nothing_past : (xs : List ℤ) (i : ℕ) → length xs ≤ i → at xs i ≡ pos 0
+pub nothing_past : (xs : List ℤ) (i : ℕ) → length xs ≤ i → at xs i ≡ pos 0
 nothing_past [] i h = refl
 nothing_past (x ∷ xs) zero h = absurd (omega arith)
 nothing_past (x ∷ xs) (suc i) h = nothing_past xs i (omega arith)
@@ -161,7 +161,7 @@ dominant_from_rows n m t h i =
     both_zero p q e f = omega (arith, ints)
 
 -- beside a zero row nothing is taken off
-no_change : (n : ℕ) (b : List ℤ) (m : List (List ℤ)) → length b ≡ n → IsTriangle n m → list_all is_zero b ≡ true → schur (pos 1) b m ≡ m
+pub no_change : (n : ℕ) (b : List ℤ) (m : List (List ℤ)) → length b ≡ n → IsTriangle n m → list_all is_zero b ≡ true → schur (pos 1) b m ≡ m
 no_change n b m e t z =
     triangle_by_places n (schur (pos 1) b m) m (triangle-schur (pos 1) n b m e t) t
     (λ i k. at-row_at-schur (pos 1) b m i k

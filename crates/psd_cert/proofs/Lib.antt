@@ -5,3 +5,7 @@ pub mod Entries
 pub mod LeftOverLaws
 pub mod RowTests
 pub mod CertificateLaws
+pub mod FormBounds
+pub mod DividedLaws
+pub mod ChainSoFar
+pub mod LowerEntries

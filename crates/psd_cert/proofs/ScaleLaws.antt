@@ -8,12 +8,12 @@ use Rattle.whole_algebra.specs.Matrices.{at}
 use Rattle.whole_algebra.proofs.ChainLaws.{is_zero-true, and_left, and_right}
 use Rattle.psd_cert.specs.LeftOver.{IsScale}
 
-zero_is : (z : ℤ) → z ≡ pos 0 → is_zero z ≡ true
+pub zero_is : (z : ℤ) → z ≡ pos 0 → is_zero z ≡ true
 zero_is (pos zero) e = refl
 zero_is (pos (suc n)) e = absurd (omega (arith, ints))
 zero_is (negsuc n) e = absurd (omega (arith, ints))
 
-both : (s t : Bool) → s ≡ true → t ≡ true → s && t ≡ true
+pub both : (s t : Bool) → s ≡ true → t ≡ true → s && t ≡ true
 both true t e f = f
 both false t e f = e
 

@@ -3,6 +3,8 @@
 #![tactic(auto)]
 
 mod limit;
+mod lower;
+mod product;
 mod square_cert;
 mod step;
 

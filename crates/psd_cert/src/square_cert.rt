@@ -1,12 +1,17 @@
-ghost use Rattle.std.specs.Prelude.{◌≡◌, ◌+◌, ◌-◌, ◌≤◌, ◌↔◌, ℤ, pos, ◌≤ℤ◌, List, [], length, get_or, All, IsTrue};
+ghost use Rattle.std.specs.Prelude.{◌≡◌, ◌+◌, ◌-◌, ◌≤◌, ◌↔◌, ℤ, pos, ◌≤ℤ◌, List, [], length, get_or, All, IsTrue, IsFalse, IfOk, MatchOption, ForSome};
 ghost use Rattle.whole_algebra.specs.Matrices.{quad};
-ghost use Rattle.whole_algebra.specs.Certificates.{CertificateHolds};
+ghost use Rattle.whole_algebra.specs.Chains.{stops, lower_chain};
+ghost use Rattle.whole_algebra.specs.Certificates.{CertificateHolds, lower_remainders};
 ghost use Rattle.lent_parts.specs.Triangle.{IsTri};
 ghost use Rattle.psd_cert.specs.Limit.{Fits};
 ghost use Rattle.psd_cert.specs.Certificate.{IsCertificate};
+ghost use Rattle.psd_cert.specs.Lower.{last_matrix as last_of};
 
-use crate::step_holds;
+use crate::lower::lower_step;
+use crate::{fits, step_holds};
+use geo_base::NoMemory;
 use lent_parts::Tri;
+use std::alloc::Global;
 use std::marker::Model;
 
 /// A certificate that a quadratic form is nowhere negative: claimed remainders of the sizes `n - 1`
@@ -28,6 +33,31 @@ impl Model for SquareCert {
 }
 
 impl SquareCert {
+    /// The remainders of the lower chain from `first`, a certificate that holds; None exactly where
+    /// that chain stops.
+    pub fn make(alloc: Global, first: &Tri) -> Result<Option<SquareCert>, NoMemory>
+        requires shape { IsTri (length first.now) first.now }
+        requires fits { Fits first.now }
+        ensures remainders { IfOk result (λ answer. MatchOption answer (IsTrue (stops (lower_chain first.now)))
+            (λ cert. IsFalse (stops (lower_chain first.now)) × (cert ≡ lower_remainders (length first.now) first.now))) }
+        ensures holds { IfOk result (λ answer. ForSome answer (λ cert.
+            (length cert ≡ length first.now) × CertificateHolds cert first.now)) }
+    {
+        let mut remainders = Vec::new(alloc);
+        for _step in 0..first.size() {
+            match lower_step(alloc, last_matrix(first, &remainders))? {
+                Some(left) => {
+                    if !fits(&left) {
+                        return Ok(None);
+                    }
+                    remainders.push(left)?;
+                }
+                None => return Ok(None),
+            }
+        }
+        Ok(Some(SquareCert { remainders }))
+    }
+
     /// The certificate with these remainders, whose sizes go down by one to 0.
     pub fn new(remainders: Vec<Tri>) -> SquareCert
         requires sizes { IsCertificate (length remainders.items) remainders.items }
@@ -81,5 +111,15 @@ fn holds_from(current: &Tri, remainders: &[Tri]) -> bool
     match remainders {
         [] => true,
         [remainder, rest @ ..] => step_holds(current, remainder) && holds_from(remainder, rest),
+    }
+}
+
+// The last of the remainders, or `first` where there is none.
+fn last_matrix<'a>(first: &'a Tri, remainders: &'a [Tri]) -> &'a Tri
+    ensures { result.now ≡ last_of first.now remainders.now }
+{
+    match remainders {
+        [.., last] => last,
+        [] => first,
     }
 }

@@ -8,6 +8,7 @@ ghost use Rattle.psd_cert.specs.Certificate.{StepFrom};
 ghost use Rattle.psd_cert.specs.Limit.{Fits};
 ghost use Rattle.psd_cert.specs.LeftOver.{left_over, left_sizes, IsRowDominant, IsScale, IsStep};
 
+use crate::product::product;
 use lent_parts::Tri;
 
 /// Whether the step from a matrix to a remainder holds. With the first row `a, b` of the current
@@ -146,14 +147,4 @@ fn left_of_entry(s: i128, c: i128, r: i128, p: i128, q: i128) -> i128
     ensures size { unsigned_abs result ≤ 2 ^ 125 }
 {
     product(s, c - r) - product(p, q)
-}
-
-// The product of two numbers of at most `2^62` in size.
-fn product(p: i128, q: i128) -> i128
-    requires p { unsigned_abs p ≤ 2 ^ 62 }
-    requires q { unsigned_abs q ≤ 2 ^ 62 }
-    ensures value { result ≡ p *ℤ q }
-    ensures size { unsigned_abs result ≤ 2 ^ 124 }
-{
-    p * q
 }
