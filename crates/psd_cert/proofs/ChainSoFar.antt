@@ -148,3 +148,20 @@ begun_whole first rs t b e =
       size = e;
       holds = subst (λ q. CertificateHolds q first) (sym same) (lower_certificate (length first) first t go);
     }
+
+-- the last remainder, as the code finds it
+pub last_is : (first : List (List ℤ)) (rs : List (List (List ℤ))) (x : List (List ℤ)) → 1 ≤ length rs → x ≡ get_or rs (length rs - 1) x → x ≡ last_matrix first rs
+last_is first [] x lt e = absurd (omega arith)
+last_is first (r ∷ []) x lt e = e
+last_is first (r ∷ (q ∷ rs)) x lt e =
+    last_is r (q ∷ rs) x (omega arith) (e ∙ ap (λ j. get_or (r ∷ (q ∷ rs)) j x) (one_less (length rs)))
+  where
+    one_less : (n : ℕ) → suc (suc n) - 1 ≡ suc (suc n - 1)
+    one_less n = omega arith
+
+pub begun_shape : (n : ℕ) (first : List (List ℤ)) (rs : List (List (List ℤ))) (m : List (List ℤ)) → IsBegun n first rs → m ≡ last_matrix first rs
+    → IsTri (length m) m × (length m ≡ n - length rs) × Fits m
+begun_shape n first rs m b e =
+    let t : IsTri (n - length rs) m = subst (IsTri (n - length rs)) (sym e) b.shape in
+    let l = length-IsTri (n - length rs) m t in
+    (subst (λ j. IsTri j m) (sym l) t, l, subst Fits (sym e) b.fits)

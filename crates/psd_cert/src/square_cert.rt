@@ -1,4 +1,5 @@
-ghost use Rattle.std.specs.Prelude.{◌≡◌, ◌+◌, ◌-◌, ◌≤◌, ◌↔◌, ℤ, pos, ◌≤ℤ◌, List, [], length, get_or, All, IsTrue, IsFalse, IfOk, MatchOption, ForSome};
+ghost use Rattle.std.specs.Prelude.{◌≡◌, ◌+◌, ◌-◌, ◌≤◌, ◌↔◌, ℤ, pos, ◌≤ℤ◌, List, [], length, get_or, All, IsTrue, IsFalse, IfOk, MatchOption};
+ghost use Rattle.std.specs.Option.{ForSome};
 ghost use Rattle.whole_algebra.specs.Matrices.{quad};
 ghost use Rattle.whole_algebra.specs.Chains.{stops, lower_chain};
 ghost use Rattle.whole_algebra.specs.Certificates.{CertificateHolds, lower_remainders};

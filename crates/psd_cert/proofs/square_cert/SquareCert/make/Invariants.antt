@@ -2,5 +2,5 @@ use Rattle.std.proofs.Common.{◌≡◌, length}
 use Rattle.psd_cert.specs.Lower.{IsBegun}
 use Rattle.psd_cert.proofs.square_cert.SquareCert.make.Given as goal
 
-abbrev pub invariant-loop-_step : goal.invariant-loop-_step
-invariant-loop-_step l = IsBegun (length l.first) l.first l.remainders.items × (length l.remainders.items ≡ l._step)
+abbrev pub invariant-loop-step : goal.invariant-loop-step
+invariant-loop-step l = IsBegun (length l.first) l.first l.remainders.items × (length l.remainders.items ≡ l._step)
