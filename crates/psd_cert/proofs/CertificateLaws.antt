@@ -4,7 +4,7 @@ use Rattle.std.specs.Prelude.{All}
 use Rattle.lent_parts.specs.Triangle.{IsTri}
 use Rattle.lent_parts.proofs.Triangles.{length-IsTri}
 use Rattle.psd_cert.specs.Limit.{Fits}
-use Rattle.psd_cert.specs.Certificate.{IsCertificate, IsKept}
+use Rattle.psd_cert.specs.Certificate.{IsCertificate}
 
 -- a list is its first element and the rest, as a slice's pattern gives them
 pub slice_parts : {X : Type 0} (xs : List X) (x : X) → 1 ≤ length xs → x ≡ get_or xs 0 x → xs ≡ x ∷ take (length xs - 1) (drop 1 xs)

@@ -1,8 +1,8 @@
 -- The lower chain as a loop makes it: what each step adds to the remainders so far.
-use Rattle.std.proofs.Common.{◌≡◌, ℕ, zero, suc, ◌+◌, ◌-◌, ◌^◌, ◌<◌, ◌≤◌, Bool, true, false, ◌||◌, List, [], ◌∷◌, ◌++◌, map, length, length-append, append_assoc, get_or, refl, sym, ◌∙◌, ap, ap₂, subst, arith, ℤ, pos, ◌≤ℤ◌, IsTrue, IsFalse}
+use Rattle.std.proofs.Common.{◌≡◌, ℕ, zero, suc, ◌+◌, ◌-◌, ◌^◌, ◌<◌, ◌≤◌, Bool, true, false, ◌||◌, List, [], ◌∷◌, ◌++◌, length, length-append, append_assoc, get_or, refl, sym, ◌∙◌, ap, subst, arith, ℤ, pos, ◌≤ℤ◌}
 use Rattle.std.specs.Prelude.{All}
 use Rattle.whole_algebra.specs.Matrices.{at, diagonal, lower_over}
-use Rattle.whole_algebra.specs.Chains.{step_of, is_stop, next, chain_rows, chain_steps, stops, lower_chain}
+use Rattle.whole_algebra.specs.Chains.{step_of, is_stop, next, chain_steps, stops, lower_chain}
 use Rattle.whole_algebra.specs.Certificates.{CertificateHolds, lower_remainders}
 use Rattle.whole_algebra.proofs.Refutation.{false_is_not_true}
 use Rattle.whole_algebra.proofs.LowerCertificate.{triangle-next_lower, lower_certificate}

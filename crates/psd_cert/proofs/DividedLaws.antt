@@ -6,19 +6,19 @@ use Rattle.std.specs.List.{list_all}
 use Rattle.std.proofs.lemmas.Int.{ints}
 use Rattle.whole_algebra.specs.Sums.{int_sum}
 use Rattle.whole_algebra.specs.Rounding.{is_zero, floor_over, gap_over}
-use Rattle.whole_algebra.specs.Matrices.{at, entries, schur, diagonal, off_sums, slacks, lower_over, IsTriangle}
-use Rattle.whole_algebra.specs.Chains.{Step, free, pivot, stop, size_limit, is_too_large, step_of, beside, left_after, next, is_stop, stops}
-use Rattle.whole_algebra.specs.Grid.{row_at, above, entry}
+use Rattle.whole_algebra.specs.Matrices.{at, entries, schur, diagonal, slacks, lower_over, IsTriangle}
+use Rattle.whole_algebra.specs.Chains.{size_limit, is_too_large, step_of, beside, left_after, is_stop}
+use Rattle.whole_algebra.specs.Grid.{row_at, above}
 use Rattle.whole_algebra.proofs.Order.{square_nonneg, mul_nonneg}
-use Rattle.whole_algebra.proofs.Rounding.{floor_of_zero, gap_of_zero, gap_range, floor_at_most, floor_unique, remainder_range}
-use Rattle.whole_algebra.proofs.Shapes.{triangle-schur, triangle-lower_over, at-diagonal-entries}
+use Rattle.whole_algebra.proofs.Rounding.{gap_of_zero, gap_range, floor_at_most, floor_unique, remainder_range}
+use Rattle.whole_algebra.proofs.Shapes.{triangle-schur, triangle-lower_over}
 use Rattle.whole_algebra.proofs.Places.{at-beside, at-diagonal, at-row_at-entries, at-off_sums, lower_over-right, lower_over-diagonal, triangle_by_places}
 use Rattle.whole_algebra.proofs.PivotStep.{lower_step-right, lower_step-diagonal, slack_of_step}
 use Rattle.whole_algebra.proofs.ChainLaws.{step_cases, is_zero-true, and_left, and_right, positive}
 use Rattle.whole_algebra.proofs.Refutation.{false_is_not_true}
-use Rattle.whole_algebra.proofs.Normal.{ring, x0, x1, lit, opposite_of, ◌⊕◌, ◌⊖◌, ◌⊗◌}
+use Rattle.whole_algebra.proofs.Normal.{ring, x0, lit, ◌⊖◌, ◌⊗◌}
 use Rattle.lent_parts.specs.Triangle.{IsTri, tri_row}
-use Rattle.psd_cert.specs.Limit.{RowFits, Fits}
+use Rattle.psd_cert.specs.Limit.{Fits}
 use Rattle.psd_cert.specs.LeftOver.{IsScale}
 use Rattle.psd_cert.specs.Lower.{divided, gaps_of, IsDivisor, Leaves}
 use Rattle.psd_cert.proofs.Entries.{entry_fits, length-beside}

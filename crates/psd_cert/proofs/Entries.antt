@@ -1,8 +1,8 @@
 -- Entries of matrices within the limit, and of what a step leaves over.
-use Rattle.std.proofs.Common.{◌≡◌, ℕ, zero, suc, ◌+◌, ◌-◌, ◌^◌, ◌<◌, ◌≤◌, List, [], ◌∷◌, map, length, refl, sym, ◌∙◌, ap, ap₂, subst, arith, inl, inr, ℤ, pos, ◌+ℤ◌, ◌-ℤ◌, ◌*ℤ◌, neg_ℤ, ◌<ℤ◌, ◌≤ℤ◌, unsigned_abs}
+use Rattle.std.proofs.Common.{◌≡◌, ℕ, zero, suc, ◌+◌, ◌^◌, ◌≤◌, List, [], ◌∷◌, length, refl, sym, ◌∙◌, ap, ap₂, subst, arith, inl, inr, ℤ, pos, ◌-ℤ◌, ◌*ℤ◌, neg_ℤ, ◌<ℤ◌, unsigned_abs}
 use Rattle.std.proofs.lemmas.Int.{ints}
 use Rattle.whole_algebra.specs.Rounding.{size_of}
-use Rattle.whole_algebra.specs.Matrices.{at, entries, plus_lists, plus_matrix, minus_matrix, schur, IsTriangle}
+use Rattle.whole_algebra.specs.Matrices.{at, entries, plus_matrix, minus_matrix, IsTriangle}
 use Rattle.whole_algebra.specs.Chains.{beside}
 use Rattle.whole_algebra.specs.Grid.{row_at}
 use Rattle.whole_algebra.proofs.Shapes.{triangle-schur, triangle-entries, length-plus_lists}

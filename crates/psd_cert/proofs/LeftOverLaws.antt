@@ -1,5 +1,5 @@
 -- The sums of a dominant matrix, as loops take them, and when a step holds.
-use Rattle.std.proofs.Common.{◌≡◌, ℕ, zero, suc, ◌+◌, ◌-◌, ◌<◌, ◌≤◌, true, List, [], ◌∷◌, map, length, take, refl, sym, ◌∙◌, ap, ap₂, subst, arith, inl, inr, ℤ, pos, ◌+ℤ◌, ◌-ℤ◌, ◌*ℤ◌, neg_ℤ, ◌≤ℤ◌, ◌<ℤ◌, unsigned_abs}
+use Rattle.std.proofs.Common.{◌≡◌, ℕ, zero, suc, ◌+◌, ◌-◌, ◌<◌, ◌≤◌, true, List, [], ◌∷◌, map, length, take, refl, sym, ◌∙◌, ap, subst, arith, inl, inr, ℤ, pos, ◌+ℤ◌, ◌-ℤ◌, ◌*ℤ◌, ◌≤ℤ◌, ◌<ℤ◌, unsigned_abs}
 use Rattle.std.specs.List.{list_all}
 use Rattle.std.proofs.lemmas.Int.{ints}
 use Rattle.std.proofs.lemmas.Bool.{cases_lt}
@@ -7,10 +7,10 @@ use Rattle.whole_algebra.specs.Sums.{int_sum}
 use Rattle.whole_algebra.specs.Rounding.{is_zero, size_of}
 use Rattle.whole_algebra.specs.Matrices.{at, entries, minus_matrix, schur, diagonal, off_sums, IsTriangle}
 use Rattle.whole_algebra.specs.Chains.{beside}
-use Rattle.whole_algebra.specs.Certificates.{IsDominant, StepHolds}
-use Rattle.whole_algebra.specs.Grid.{row_at, above, entry}
-use Rattle.whole_algebra.proofs.Order.{le_refl, le_trans}
-use Rattle.whole_algebra.proofs.Shapes.{triangle-schur, triangle-entries, length-diagonal, length-off_sums, length-map_lem}
+use Rattle.whole_algebra.specs.Certificates.{IsDominant}
+use Rattle.whole_algebra.specs.Grid.{row_at, above}
+use Rattle.whole_algebra.proofs.Order.{le_refl}
+use Rattle.whole_algebra.proofs.Shapes.{triangle-schur, triangle-entries, length-diagonal, length-off_sums}
 use Rattle.whole_algebra.proofs.Places.{at-row_at-schur, at-beside, at-diagonal, at-off_sums, int_sum-take_more, triangle_by_places, row_at-entries}
 use Rattle.whole_algebra.proofs.ChainLaws.{is_zero-true, and_left, and_right}
 use Rattle.whole_algebra.proofs.Normal.{ring, x0, x1, lit, ◌⊖◌, ◌⊗◌}

@@ -1,14 +1,13 @@
 -- The tests of a row, as the loops of the code make them: each takes sizes off the room that is left.
-use Rattle.std.proofs.Common.{◌≡◌, ℕ, suc, ◌+◌, ◌-◌, ◌^◌, ◌<◌, ◌≤◌, Bool, true, false, List, take, sym, ◌∙◌, ap, ap₂, subst, arith, ℤ, pos, ◌+ℤ◌, ◌-ℤ◌, ◌≤ℤ◌, ◌<ℤ◌, unsigned_abs, IsTrue, ◌↔◌, int_lt, refl}
+use Rattle.std.proofs.Common.{◌≡◌, ℕ, suc, ◌+◌, ◌-◌, ◌^◌, ◌<◌, ◌≤◌, true, false, List, take, sym, ◌∙◌, ap, subst, arith, ℤ, pos, ◌+ℤ◌, ◌-ℤ◌, ◌≤ℤ◌, ◌<ℤ◌, unsigned_abs, int_lt}
 use Rattle.std.proofs.lemmas.Int.{ints}
 use Rattle.whole_algebra.specs.Sums.{int_sum}
 use Rattle.whole_algebra.specs.Matrices.{at}
 use Rattle.whole_algebra.specs.Chains.{beside}
 use Rattle.whole_algebra.specs.Grid.{row_at, above}
 use Rattle.lent_parts.specs.Triangle.{IsTri}
-use Rattle.psd_cert.specs.LeftOver.{left_over, left_sizes, IsRowDominant}
-use Rattle.psd_cert.proofs.Products.{kept, read_back}
-use Rattle.psd_cert.proofs.LeftOverLaws.{above_more, above_at_most, beside_more, beside_at_most, beside_whole, row_is_dominant, column_too_large, diagonal_too_small}
+use Rattle.psd_cert.specs.LeftOver.{left_over, left_sizes}
+use Rattle.psd_cert.proofs.LeftOverLaws.{above_more, above_at_most, beside_more, beside_at_most, beside_whole}
 
 -- what a loop knows of the size that it takes off
 pub size_read : (z z' size : ℤ) → z' ≡ z → size ≡ pos (unsigned_abs z') → size ≡ pos (unsigned_abs z)

@@ -1,5 +1,5 @@
 -- The scale of a step from a first row.
-use Rattle.std.proofs.Common.{◌≡◌, ℕ, zero, suc, ◌<◌, Bool, true, false, ◌&&◌, List, [], ◌∷◌, length, refl, arith, inl, inr, ℤ, pos, negsuc, ◌<ℤ◌, int_lt, IsTrue}
+use Rattle.std.proofs.Common.{◌≡◌, zero, suc, ◌<◌, Bool, true, false, ◌&&◌, List, [], ◌∷◌, length, refl, arith, inl, inr, ℤ, pos, negsuc, ◌<ℤ◌, int_lt}
 use Rattle.std.specs.Prelude.{All}
 use Rattle.std.specs.List.{list_all}
 use Rattle.std.proofs.lemmas.Int.{ints}

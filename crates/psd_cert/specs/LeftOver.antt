@@ -1,5 +1,5 @@
 -- What a step of a certificate leaves over: the matrix that has to be dominant. This project's own.
-use Rattle.std.specs.Prelude.{◌≡◌, ℕ, suc, ◌≤◌, ◌^◌, ◌⊎◌, List, [], ◌∷◌, length, ℤ, pos, ◌≤ℤ◌, ◌<ℤ◌, IsTrue, unsigned_abs}
+use Rattle.std.specs.Prelude.{◌≡◌, ℕ, suc, ◌≤◌, ◌⊎◌, List, [], ◌∷◌, length, ℤ, pos, ◌≤ℤ◌, ◌<ℤ◌, IsTrue}
 use Rattle.std.specs.List.{list_all}
 use Rattle.lent_parts.specs.Triangle.{IsTri}
 use Rattle.whole_algebra.specs.Rounding.{is_zero, size_of}

@@ -7,6 +7,8 @@ mod lower;
 mod product;
 mod square_cert;
 mod step;
+#[cfg(test)]
+mod tests;
 
 pub use limit::fits;
 pub use square_cert::{SquareCert, holds};

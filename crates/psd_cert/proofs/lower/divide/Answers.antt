@@ -1,5 +1,4 @@
-use Rattle.std.proofs.Common.{◌≡◌, suc, ◌≤◌, ◌^◌, ◌+◌, ◌-◌, length, subst, sym, ap, arith, FitsSigned}
-use Rattle.std.specs.Int.{w128}
+use Rattle.std.proofs.Common.{◌≡◌, suc, ◌-◌, length, ap, arith}
 use Rattle.std.proofs.lemmas.Int.{to_z-of_z}
 use Rattle.lent_parts.specs.Triangle.{IsTri, tri_row}
 use Rattle.lent_parts.proofs.Triangles.{length-tri_row, length-IsTri}

@@ -1,4 +1,4 @@
-use Rattle.std.proofs.Common.{◌≡◌, suc, ◌≤◌, ◌^◌, ◌+◌, ◌-◌, length, get_or, pos, ◌-ℤ◌, ap, arith, FitsSigned}
+use Rattle.std.proofs.Common.{◌≡◌, ◌+◌, length, ◌-ℤ◌, ap, arith, FitsSigned}
 use Rattle.std.specs.Int.{w128}
 use Rattle.std.proofs.lemmas.Int.{ints, to_z-of_z}
 use Rattle.lent_parts.specs.Triangle.{tri_row}

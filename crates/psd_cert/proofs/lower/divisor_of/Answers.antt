@@ -1,11 +1,11 @@
-use Rattle.std.proofs.Common.{arith, subst, sym, ◌∙◌, FitsSigned, ◌*ℤ◌, ◌≤ℤ◌}
+use Rattle.std.proofs.Common.{arith, subst, FitsSigned, ◌*ℤ◌, ◌≤ℤ◌}
 use Rattle.std.specs.Prelude.{All}
 use Rattle.std.specs.Int.{w128}
 use Rattle.std.proofs.lemmas.Int.{to_z-of_z}
 use Rattle.whole_algebra.specs.Chains.{size_limit}
 use Rattle.psd_cert.proofs.Entries.{scale_fits}
 use Rattle.psd_cert.proofs.Products.{in_range}
-use Rattle.psd_cert.proofs.DividedLaws.{small_divides, large_stops, no_scale_stops}
+use Rattle.psd_cert.proofs.DividedLaws.{small_divides, no_scale_stops}
 use Rattle.psd_cert.proofs.LowerEntries.{rest_is_beside}
 use Rattle.psd_cert.proofs.lower.divisor_of.Goals as goal
 

@@ -1,7 +1,6 @@
-use Rattle.std.proofs.Common.{◌≡◌, ◌≤◌, ◌^◌, get_or, pos, ◌+ℤ◌, ◌*ℤ◌, neg_ℤ, ◌∙◌, sym, ap, ap₂, arith, refl, to_z, FitsSigned, unsigned_abs}
+use Rattle.std.proofs.Common.{get_or, pos, ◌+ℤ◌, arith, refl, to_z, FitsSigned}
 use Rattle.std.specs.Int.{w128}
 use Rattle.std.proofs.lemmas.Int.{ints, to_z-of_z}
-use Rattle.whole_algebra.specs.Rounding.{gap_over}
 use Rattle.psd_cert.proofs.Products.{in_range}
 use Rattle.psd_cert.proofs.LowerEntries.{gaps_step}
 use Rattle.psd_cert.proofs.lower.gaps.Goals as goal

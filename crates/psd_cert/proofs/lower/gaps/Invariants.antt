@@ -1,4 +1,4 @@
-use Rattle.std.proofs.Common.{◌≡◌, ◌≤◌, take, map, pos, neg_ℤ, ◌*ℤ◌, ◌≤ℤ◌}
+use Rattle.std.proofs.Common.{◌≡◌, take, map, pos, neg_ℤ, ◌*ℤ◌, ◌≤ℤ◌}
 use Rattle.whole_algebra.specs.Sums.{int_sum}
 use Rattle.whole_algebra.specs.Rounding.{gap_over}
 use Rattle.psd_cert.proofs.lower.gaps.Given as goal

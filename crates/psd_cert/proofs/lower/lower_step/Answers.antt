@@ -1,4 +1,4 @@
-use Rattle.std.proofs.Common.{◌≡◌, suc, length, ◌-◌, ◌∙◌, sym, subst, arith, FitsSigned}
+use Rattle.std.proofs.Common.{suc, length, ◌-◌, arith, FitsSigned}
 use Rattle.std.specs.Int.{w128}
 use Rattle.std.proofs.lemmas.Int.{to_z-of_z}
 use Rattle.lent_parts.specs.Triangle.{IsTri, tri_row}

@@ -1,4 +1,4 @@
-use Rattle.std.proofs.Common.{◌≡◌, ◌≤◌, ◌^◌, ◌+ℤ◌, ◌*ℤ◌, ◌∙◌, ap, arith, refl, FitsSigned, unsigned_abs}
+use Rattle.std.proofs.Common.{◌+ℤ◌, ◌∙◌, ap, arith, FitsSigned}
 use Rattle.std.specs.Int.{w128}
 use Rattle.std.proofs.lemmas.Int.{ints, to_z-of_z}
 use Rattle.whole_algebra.specs.Rounding.{floor_over}

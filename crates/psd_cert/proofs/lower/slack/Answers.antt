@@ -1,4 +1,4 @@
-use Rattle.std.proofs.Common.{◌≡◌, suc, ◌≤◌, ◌^◌, ◌+◌, get_or, map, pos, neg_ℤ, ◌-ℤ◌, ◌*ℤ◌, ◌∙◌, ap, arith, FitsSigned}
+use Rattle.std.proofs.Common.{◌≡◌, suc, ◌+◌, get_or, map, pos, neg_ℤ, ◌-ℤ◌, ◌*ℤ◌, ◌∙◌, ap, arith, FitsSigned}
 use Rattle.std.specs.Int.{w128}
 use Rattle.std.proofs.lemmas.Int.{ints, to_z-of_z}
 use Rattle.whole_algebra.specs.Sums.{int_sum}

@@ -1,4 +1,4 @@
-use Rattle.std.proofs.Common.{◌≡◌, ℕ, ◌<◌, ◌-◌, suc, length}
+use Rattle.std.proofs.Common.{◌≡◌, ℕ, ◌<◌}
 use Rattle.whole_algebra.specs.Matrices.{at}
 use Rattle.whole_algebra.specs.Grid.{row_at}
 use Rattle.psd_cert.specs.Lower.{divided}

@@ -1,4 +1,4 @@
-use Rattle.std.proofs.Common.{◌≡◌, ◌∷◌, ◌-◌, length, take, drop, arith}
+use Rattle.std.proofs.Common.{◌-◌, length, take, drop, arith}
 use Rattle.psd_cert.proofs.CertificateLaws.{slice_parts, first_of, rest_is_shorter}
 use Rattle.psd_cert.proofs.square_cert.+holds_from.Goals as goal
 

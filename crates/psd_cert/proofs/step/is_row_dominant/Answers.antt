@@ -1,4 +1,4 @@
-use Rattle.std.proofs.Common.{◌≡◌, ◌≤◌, ◌^◌, ◌∙◌, sym, arith, refl, ℤ, FitsSigned, IsTrue, false}
+use Rattle.std.proofs.Common.{arith, FitsSigned}
 use Rattle.std.specs.Int.{w128}
 use Rattle.std.proofs.lemmas.Int.{ints, to_z-of_z}
 use Rattle.psd_cert.proofs.Decided.{decided_false, decided_by}

@@ -1,4 +1,4 @@
-use Rattle.std.proofs.Common.{◌≡◌, ◌∙◌, sym, subst, ap₂, ◌≤◌, ◌^◌, arith, ◌-ℤ◌, ◌*ℤ◌, unsigned_abs}
+use Rattle.std.proofs.Common.{◌∙◌, sym, subst, ◌≤◌, ◌^◌, unsigned_abs}
 use Rattle.psd_cert.proofs.Products.{difference_back, difference_size, products_kept}
 use Rattle.psd_cert.proofs.step.left_of_entry.Goals as goal
 

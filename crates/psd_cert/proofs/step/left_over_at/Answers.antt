@@ -1,4 +1,4 @@
-use Rattle.std.proofs.Common.{◌≡◌, ◌∙◌, sym, subst, ap, ap₂, ◌≤◌, ◌<◌, ◌^◌, ◌+◌, suc, length, arith, ◌-ℤ◌, ◌*ℤ◌, unsigned_abs}
+use Rattle.std.proofs.Common.{◌≡◌, ◌∙◌, sym, subst, ap, ◌≤◌, ◌^◌, ◌+◌, suc, length, arith, unsigned_abs}
 use Rattle.lent_parts.proofs.Triangles.{length-IsTri, length-tri_row}
 use Rattle.lent_parts.specs.Triangle.{tri_row}
 use Rattle.psd_cert.proofs.Products.{read_back}

@@ -1,4 +1,4 @@
-use Rattle.std.proofs.Common.{◌≡◌, ◌≤◌, ◌^◌, ◌-ℤ◌, ◌∙◌, sym, subst, arith, refl, pos, ◌≤ℤ◌, FitsSigned, to_z, unsigned_abs}
+use Rattle.std.proofs.Common.{◌-ℤ◌, arith, FitsSigned, to_z}
 use Rattle.std.specs.Int.{w128}
 use Rattle.std.proofs.lemmas.Int.{to_z-of_z}
 use Rattle.psd_cert.proofs.Products.{in_range}

@@ -1,4 +1,4 @@
-use Rattle.std.proofs.Common.{◌≡◌, suc, length, ◌≤◌, ◌^◌, ◌-◌, ◌-ℤ◌, ◌∙◌, sym, ap, subst, arith, refl, pos, ◌≤ℤ◌, ◌<ℤ◌, ℤ, FitsSigned, to_z, unsigned_abs, IsTrue, false, true}
+use Rattle.std.proofs.Common.{length, ◌-ℤ◌, arith, ◌≤ℤ◌, ◌<ℤ◌, ℤ, FitsSigned, to_z}
 use Rattle.std.specs.Int.{w128}
 use Rattle.std.proofs.lemmas.Int.{ints, to_z-of_z}
 use Rattle.psd_cert.proofs.Products.{in_range}

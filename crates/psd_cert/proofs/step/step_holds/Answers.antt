@@ -1,8 +1,7 @@
-use Rattle.std.proofs.Common.{◌≡◌, length, suc, arith, refl, sym, subst, ◌∙◌, FitsSigned, IsTrue}
+use Rattle.std.proofs.Common.{length, arith, sym, ◌∙◌, FitsSigned}
 use Rattle.std.specs.Int.{w128}
 use Rattle.std.proofs.lemmas.Int.{to_z-of_z}
 use Rattle.whole_algebra.proofs.Refutation.{false_is_not_true}
-use Rattle.psd_cert.specs.LeftOver.{IsScale}
 use Rattle.psd_cert.proofs.Decided.{decided_true, decided_false}
 use Rattle.psd_cert.proofs.Products.{in_range}
 use Rattle.psd_cert.proofs.Entries.{scale_fits, fits_at}

@@ -1,7 +1,7 @@
-use Rattle.std.proofs.Common.{◌≡◌, ◌++◌, ◌∷◌, [], length, length-append, refl, sym, ◌∙◌, ap, subst, arith}
+use Rattle.std.proofs.Common.{◌≡◌, ◌∷◌, [], length, length-append, sym, ◌∙◌, ap, subst, arith}
 use Rattle.whole_algebra.specs.Certificates.{CertificateHolds}
 use Rattle.whole_algebra.proofs.Refutation.{false_is_not_true}
-use Rattle.psd_cert.specs.Lower.{StopsHere, Leaves, last_matrix, IsBegun}
+use Rattle.psd_cert.specs.Lower.{StopsHere, Leaves, last_matrix}
 use Rattle.psd_cert.proofs.ChainSoFar.{begun_shape, begun_more, begun_stops, begun_unfit, begun_whole}
 use Rattle.psd_cert.proofs.square_cert.SquareCert.make.Goals as goal
 
