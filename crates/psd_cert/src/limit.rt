@@ -4,7 +4,7 @@ ghost use Rattle.psd_cert.specs.Limit.{RowFits, Fits};
 use lent_parts::Tri;
 
 /// The greatest size of an entry, `2^61`.
-const LIMIT: u128 = 0x2000_0000_0000_0000;
+pub(crate) const LIMIT: u128 = 0x2000_0000_0000_0000;
 
 /// Whether all entries are at most `2^61` in size.
 pub fn fits(first: &Tri) -> bool

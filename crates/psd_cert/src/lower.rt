@@ -8,14 +8,12 @@ ghost use Rattle.lent_parts.specs.Triangle.{IsTri, tri_row};
 ghost use Rattle.psd_cert.specs.Limit.{RowFits, Fits};
 ghost use Rattle.psd_cert.specs.Lower.{divided, gaps_of, IsDivisor, IsDivision, StopsHere, Leaves};
 
+use crate::limit::LIMIT;
 use crate::product::product;
 use crate::step::scale_of;
 use geo_base::{NoMemory, floor_div};
 use lent_parts::Tri;
 use std::alloc::Global;
-
-/// The greatest size of an entry, `2^61`.
-const LIMIT: i128 = 0x2000_0000_0000_0000;
 
 // The matrix that the first step of the lower chain leaves: None where that step stops.
 pub(crate) fn lower_step(alloc: Global, current: &Tri) -> Result<Option<Tri>, NoMemory>
@@ -56,7 +54,7 @@ fn are_small(s: i128, row: &[i128]) -> bool
     requires fits { RowFits row.now }
     ensures { IsTrue result ↔ All (λ c. (c *ℤ c) ≤ℤ (s *ℤ size_limit)) row.now }
 {
-    let most = product(s, LIMIT);
+    let most = product(s, LIMIT as i128);
     for c in row {
         if product(*c, *c) > most {
             return false;
