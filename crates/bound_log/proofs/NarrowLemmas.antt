@@ -1,15 +1,15 @@
-use Rattle.std.proofs.Common.{get_or, ◌≡◌, ◌<◌, ◌≤◌, ◌^◌, ℕ, ℤ, pos, neg_ℤ, ◌+ℤ◌, ◌*ℤ◌, ◌-ℤ◌, ◌≤ℤ◌, ◌<ℤ◌, Bool, true, false, List, [], ◌∷◌, length, arith, refl, ap, ap₂, sym, ◌∙◌, subst, ◌⊎◌, inl, inr}
+use Rattle.std.proofs.Common.{get_or, ◌≡◌, ℤ, pos, neg_ℤ, ◌+ℤ◌, ◌*ℤ◌, ◌-ℤ◌, ◌≤ℤ◌, Bool, true, false, List, [], ◌∷◌, arith, refl, ap₂, ◌∙◌, subst, inl, inr}
 use Rattle.std.specs.Prelude.{All, int_le, if◌then◌else◌}
 use Rattle.std.proofs.lemmas.Int.{ints}
 use Rattle.std.proofs.lemmas.List.Elements.{All-head, All-tail}
 use Rattle.whole_algebra.specs.Sums.{int_sum_by}
 use Rattle.whole_algebra.proofs.Normal.{ring, x0, x1, x2, x3, lit, ◌⊕◌, ◌⊗◌}
-use Rattle.whole_algebra.proofs.Order.{mul_le_mul, square_nonneg, le_trans}
+use Rattle.whole_algebra.proofs.Order.{mul_le_mul, square_nonneg}
 use Rattle.geo_model.specs.Candidate.{CandidateOf, candidate_energy}
 use Rattle.geo_model.specs.Energy.{energy}
-use Rattle.geo_model.specs.Limit.{SquareOf, LimitOf, load, IsInForce}
+use Rattle.geo_model.specs.Limit.{SquareOf, LimitOf, load}
 use Rattle.geo_model.specs.Meeting.{MeetsLimit, MeetsLimits}
-use Rattle.geo_model.specs.Network.{NetworkOf, IsNetwork}
+use Rattle.geo_model.specs.Network.{NetworkOf}
 use Rattle.geo_model.specs.Row.{Displaced, Entries, RowOf, form_squared, row_energy}
 use Rattle.geo_model.specs.Verdicts.{IsCertifiedBy}
 use Rattle.geo_model.specs.declared.verdict.Verdict.TheVariants.{Met, Refuted}

@@ -1,23 +1,21 @@
-use Rattle.std.proofs.Common.{◌≡◌, ◌<◌, ◌≤◌, ℕ, zero, suc, min, ℤ, pos, ◌*ℤ◌, ◌-ℤ◌, ◌≤ℤ◌, ◌<ℤ◌, Bool, true, false, List, [], ◌∷◌, length, replicate, arith, refl, ap, sym, ◌∙◌, Some, None, subst, ◌⊎◌, inl, inr}
-use Rattle.std.specs.Prelude.{slice_get, slice_set, All, Option, int_le, if◌then◌else◌}
+use Rattle.std.proofs.Common.{◌≡◌, ◌<◌, ℕ, zero, suc, ℤ, pos, ◌*ℤ◌, ◌-ℤ◌, ◌≤ℤ◌, ◌<ℤ◌, Bool, true, false, List, [], ◌∷◌, length, replicate, arith, refl, ap, sym, Some, subst, ◌⊎◌, inl, inr}
+use Rattle.std.specs.Prelude.{slice_get, All, int_le, if◌then◌else◌}
 use Rattle.std.proofs.lemmas.Int.{ints}
 use Rattle.std.proofs.lemmas.Option.{get_or_from_slice_get, slice_get_within}
-use Rattle.geo_model.specs.Candidate.{CandidateOf, IsCandidate}
 use Rattle.geo_model.specs.Energy.{energy, cost_of, IsWithin}
 use Rattle.geo_model.specs.Limit.{LimitOf, load, IsInForce}
 use Rattle.geo_model.specs.Meeting.{MeetsLimits, MeetsLimit, Breaks}
 use Rattle.geo_model.specs.Network.{NetworkOf, IsNetwork, IsLimit}
 use Rattle.geo_model.specs.declared.plan.Node.{Node}
-use Rattle.geo_model.specs.declared.verdict.Verdict.{Verdict}
 use Rattle.geo_model.specs.declared.verdict.Verdict.TheVariants.{Met, Refuted}
 use Rattle.geo_model.proofs.EnergyLemmas.{MeetsLimit-grows}
 use Rattle.geo_model.proofs.PlanLemmas.{cost_of-grows, IsWithin-with, IsWithin-without, IsWithin-none, IsWithin-all, IsWithin-length}
 use Rattle.bound_log.specs.declared.bound.Bound.{Bound}
 use Rattle.bound_log.specs.declared.bound.Bound.TheVariants.{NoPlan, AtLeast}
 use Rattle.bound_log.specs.Bound.{lesser, IsAtMost}
-use Rattle.bound_log.specs.LogTree.{root_of, with_chosen, without_chosen, IsOpenAt, IsRefutedBy, IsAllowed, leaf_bound, bound_at, IsLog, HasBound}
+use Rattle.bound_log.specs.LogTree.{root_of, with_chosen, without_chosen, IsAllowed, bound_at, HasBound}
 use Rattle.bound_log.specs.Sound.{IsLowerBound}
-use Rattle.bound_log.specs.Tree.{Leaf, cost, pivot, Tree, fork, tip}
+use Rattle.bound_log.specs.Tree.{cost, pivot, Tree, fork, tip}
 use Rattle.bound_log.specs.VerdictOf.{verdict_of, form_at_one, ones}
 
 -- Why the bound of a log is a lower bound.

@@ -1,6 +1,6 @@
 use Rattle.std.specs.Prelude.{ℕ, ◌-◌, ◌^◌, min, Bool, true, false, List, count_by}
 use Rattle.geo_model.specs.declared.answer.Counts.{Counts}
-use Rattle.bound_log.specs.Tree.{LineOf, split, leaf, Leaf, cost, pivot}
+use Rattle.bound_log.specs.Tree.{LineOf, split, leaf, cost, pivot}
 
 -- How many lines of each kind a log has. A count that has reached 2^64 - 1 stays there.
 

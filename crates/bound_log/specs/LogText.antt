@@ -1,6 +1,6 @@
 use Rattle.std.specs.Prelude.{ℕ, List, [], ◌∷◌, ◌++◌, codes, flat_map}
 use Rattle.std.specs.Fmt.{decimal}
-use Rattle.bound_log.specs.Tree.{LineOf, split, leaf, Leaf, cost, pivot, Tree, tree_lines}
+use Rattle.bound_log.specs.Tree.{LineOf, split, leaf, cost, pivot, Tree, tree_lines}
 
 -- The bytes of a log. This project's own.
 

@@ -1,4 +1,4 @@
-use Rattle.std.specs.Prelude.{◌≡◌, ℕ, ◌<◌, Bool, true, false, List, length, replicate, Some, slice_get, slice_set}
+use Rattle.std.specs.Prelude.{◌≡◌, ℕ, ◌<◌, true, false, List, length, replicate, Some, slice_get, slice_set}
 use Rattle.geo_model.specs.Energy.{cost_of}
 use Rattle.geo_model.specs.Limit.{LimitOf, IsInForce}
 use Rattle.geo_model.specs.Network.{NetworkOf}

@@ -1,8 +1,8 @@
-use Rattle.std.specs.Prelude.{◌≡◌, ◌⊎◌, ◌^◌, pos, negsuc, neg_ℤ, List, [], ◌∷◌, length, All, Any, IsNone, Bool}
-use Rattle.geo_model.specs.Limit.{SquareOf, LimitOf}
+use Rattle.std.specs.Prelude.{◌≡◌, ◌⊎◌, ◌^◌, pos, neg_ℤ, List, [], ◌∷◌, length, All, IsNone, Bool}
+use Rattle.geo_model.specs.Limit.{SquareOf}
 use Rattle.geo_model.specs.Network.{NetworkOf, IsNetwork}
 use Rattle.geo_model.specs.Meeting.{MeetsLimits}
-use Rattle.geo_model.specs.Row.{Entries, RowOf}
+use Rattle.geo_model.specs.Row.{Entries}
 use Rattle.geo_model.specs.Verdicts.{IsCertifiedBy}
 use Rattle.bound_log.specs.VerdictOf.{verdict_of}
 

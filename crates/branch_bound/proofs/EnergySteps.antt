@@ -1,8 +1,8 @@
-use Rattle.std.proofs.Common.{◌≡◌, ◌<◌, ◌≤◌, ◌*◌, ℕ, zero, suc, ◌+◌, ℤ, pos, ◌+ℤ◌, ◌*ℤ◌, ◌≤ℤ◌, if◌then◌else◌, Bool, true, false, List, [], ◌∷◌, length, take, get_or, arith, refl, ap, ap₂, sym, ◌∙◌, Some, add-one}
-use Rattle.std.specs.Prelude.{slice_get, sum_by, All}
+use Rattle.std.proofs.Common.{◌≡◌, ◌<◌, ◌*◌, ℕ, zero, suc, ◌+◌, ℤ, pos, ◌+ℤ◌, ◌*ℤ◌, if◌then◌else◌, Bool, List, [], ◌∷◌, length, take, get_or, arith, refl, ap, ap₂, sym, ◌∙◌, Some, add-one}
+use Rattle.std.specs.Prelude.{slice_get, All}
 use Rattle.std.proofs.lemmas.Int.{ints}
 use Rattle.whole_algebra.specs.Sums.{int_sum_by}
-use Rattle.whole_algebra.proofs.Ring.{add_assoc, add_comm, add_zero, zero_add}
+use Rattle.whole_algebra.proofs.Ring.{add_assoc, add_comm}
 use Rattle.std.proofs.lemmas.List.Elements.{All-head, All-tail}
 use Rattle.geo_model.specs.Row.{Displaced, form_squared}
 use Rattle.geo_model.specs.Limit.{SquareOf, load}

@@ -1,7 +1,8 @@
-use Rattle.std.proofs.Common.{◌≡◌, ◌<◌, ◌≤◌, ℕ, zero, suc, Bool, true, false, List, [], ◌∷◌, ◌++◌, length, set, refl, sym, ap, ap₂, ◌∙◌, subst, arith, append_assoc, Some, Option, if◌then◌else◌, ◌+◌, min, ◌-◌, ◌^◌}
-use Rattle.std.specs.Prelude.{slice_get, slice_set, flat_map}
+use Rattle.std.proofs.lemmas.Bool.{false≢true}
+use Rattle.std.proofs.Common.{replicate, ◌≡◌, ℕ, zero, suc, Bool, true, false, List, [], ◌∷◌, ◌++◌, length, set, refl, sym, ap, ap₂, ◌∙◌, subst, arith, Some, Option, if◌then◌else◌, ◌+◌, min, ◌-◌, ◌^◌}
+use Rattle.std.specs.Prelude.{slice_get, slice_set}
 use Rattle.std.proofs.lemmas.List.Concat.{flat_map-append}
-use Rattle.std.proofs.lemmas.List.{length-set, append-nil}
+use Rattle.std.proofs.lemmas.List.{length-set, length-replicate, append-nil}
 use Rattle.shelf_io.specs.Files.{Files, IsHeld}
 use Rattle.geo_model.specs.Energy.{IsWithin}
 use Rattle.geo_model.specs.Network.{NetworkOf}
@@ -12,8 +13,8 @@ use Rattle.bound_log.specs.declared.bound.Bound.{Bound}
 use Rattle.bound_log.specs.declared.bound.Bound.TheVariants.{NoPlan, AtLeast}
 use Rattle.bound_log.specs.Counted.{is_split, is_cost, is_pivot}
 use Rattle.bound_log.specs.LogText.{line_text, lines_text}
-use Rattle.bound_log.specs.LogTree.{IsOpenAt, IsAllowed, with_chosen, without_chosen, bound_at}
-use Rattle.bound_log.specs.Tree.{LineOf, split, leaf, Leaf, cost, pivot, Tree, fork, tip, tree_lines}
+use Rattle.bound_log.specs.LogTree.{root_of, IsOpenAt, with_chosen, without_chosen, bound_at}
+use Rattle.bound_log.specs.Tree.{LineOf, split, leaf, Leaf, cost, Tree, fork, tip, tree_lines}
 use Rattle.branch_bound.specs.declared.line.Line.{Line}
 use Rattle.branch_bound.specs.declared.search_fault.SearchFault.{SearchFault}
 use Rattle.branch_bound.specs.declared.search_fault.SearchFault.TheVariants as fault
@@ -38,7 +39,8 @@ pub BreaksOff-nothing : (network : NetworkOf) (node : Node) (name : List ℕ) (s
 BreaksOff-nothing network node name state told = record {
   tree = tip cost;
   allowed = tt;
-  broken = Breaks-nothing name (lines_text (tree_lines (tip cost))) state told }
+  broken = Breaks-nothing name (lines_text (tree_lines (tip cost))) state told;
+}
 
 -- the text of one line
 one_line : (found : Line) (end : Leaf) → line_of found ≡ leaf end → line_text (line_of found) ++ [] ≡ lines_text (tree_lines (tip end))
@@ -52,14 +54,16 @@ Explores-leaf network node name best best_now counts counts_now before now found
   added = subst (λ text. Adds name text before now) (sym (append-nil (line_text (line_of found))) ∙ one_line found end.end end.spelled) added;
   counted = counted ∙ ap (λ l. counts_with counts (l ∷ [])) end.spelled;
   best = end.best;
-  kept = end.kept }
+  kept = end.kept;
+}
 
 -- a leaf was begun
 pub BreaksOff-leaf : (network : NetworkOf) (node : Node) (name : List ℕ) (best best_now : Option (List Bool)) (why : SearchFault) (before now : ShelfState) (found : Line) → IsLeafAt network node best best_now found → Breaks name (line_text (line_of found)) why before now → BreaksOff network node name why before now
 BreaksOff-leaf network node name best best_now why before now found end broken = record {
   tree = tip end.end;
   allowed = end.allowed;
-  broken = subst (λ text. Breaks name text why before now) (sym (append-nil (line_text (line_of found))) ∙ one_line found end.end end.spelled) broken }
+  broken = subst (λ text. Breaks name text why before now) (sym (append-nil (line_text (line_of found))) ∙ one_line found end.end end.spelled) broken;
+}
 
 -- the lines of a split
 split_text : (candidate : ℕ) (with_it without_it : Tree) → lines_text (tree_lines (fork candidate with_it without_it)) ≡ line_text (split candidate) ++ (lines_text (tree_lines with_it) ++ lines_text (tree_lines without_it))
@@ -70,7 +74,8 @@ pub BreaksOff-split : (network : NetworkOf) (node : Node) (name : List ℕ) (can
 BreaksOff-split network node name candidate why before now is_open broken = record {
   tree = fork candidate (tip cost) (tip cost);
   allowed = (is_open, tt, tt);
-  broken = Breaks-longer name (line_text (split candidate)) (lines_text (tree_lines (tip cost) ++ tree_lines (tip cost))) why before now broken }
+  broken = Breaks-longer name (line_text (split candidate)) (lines_text (tree_lines (tip cost) ++ tree_lines (tip cost))) why before now broken;
+}
 
 -- the first child was begun
 pub BreaksOff-first : (network : NetworkOf) (node : Node) (name : List ℕ) (candidate : ℕ) (why : SearchFault) (before middle now : ShelfState) → IsOpenAt network node candidate → Adds name (line_text (split candidate)) before middle → BreaksOff network (with_chosen node candidate) name why middle now → BreaksOff network node name why before now
@@ -78,8 +83,9 @@ BreaksOff-first network node name candidate why before middle now is_open added 
   tree = fork candidate first.tree (tip cost);
   allowed = (is_open, first.allowed, tt);
   broken = subst (λ text. Breaks name text why before now) (sym (split_text candidate first.tree (tip cost)))
-    (Breaks-after name (line_text (split candidate)) (lines_text (tree_lines first.tree) ++ lines_text (tree_lines (tip cost))) why before middle now added
-      (Breaks-longer name (lines_text (tree_lines first.tree)) (lines_text (tree_lines (tip cost))) why middle now first.broken)) }
+      (Breaks-after name (line_text (split candidate)) (lines_text (tree_lines first.tree) ++ lines_text (tree_lines (tip cost))) why before middle now added
+      (Breaks-longer name (lines_text (tree_lines first.tree)) (lines_text (tree_lines (tip cost))) why middle now first.broken));
+}
 
 -- the second child was begun
 pub BreaksOff-second : (network : NetworkOf) (node : Node) (name : List ℕ) (candidate : ℕ) (why : SearchFault) (best best_now : Option (List Bool)) (counts counts_now : Counts) (before middle later now : ShelfState) → IsOpenAt network node candidate → Adds name (line_text (split candidate)) before middle → Explores network (with_chosen node candidate) name best best_now counts counts_now middle later → BreaksOff network (without_chosen node candidate) name why later now → BreaksOff network node name why before now
@@ -87,8 +93,9 @@ BreaksOff-second network node name candidate why best best_now counts counts_now
   tree = fork candidate first.tree second.tree;
   allowed = (is_open, first.allowed, second.allowed);
   broken = subst (λ text. Breaks name text why before now) (sym (split_text candidate first.tree second.tree))
-    (Breaks-after name (line_text (split candidate)) (lines_text (tree_lines first.tree) ++ lines_text (tree_lines second.tree)) why before middle now added
-      (Breaks-after name (lines_text (tree_lines first.tree)) (lines_text (tree_lines second.tree)) why middle later now first.added second.broken)) }
+      (Breaks-after name (line_text (split candidate)) (lines_text (tree_lines first.tree) ++ lines_text (tree_lines second.tree)) why before middle now added
+      (Breaks-after name (lines_text (tree_lines first.tree)) (lines_text (tree_lines second.tree)) why middle later now first.added second.broken));
+}
 
 lesser_assoc : (a b c : Bound) → lesser (lesser a b) c ≡ lesser a (lesser b c)
 lesser_assoc NoPlan b c = refl
@@ -102,15 +109,16 @@ Explores-split network node name candidate best middle_best best_now counts coun
   tree = fork candidate first.tree second.tree;
   allowed = (is_open, first.allowed, second.allowed);
   added = subst (λ text. Adds name text before now) (sym (split_text candidate first.tree second.tree))
-    (Adds-then name (line_text (split candidate)) (lines_text (tree_lines first.tree) ++ lines_text (tree_lines second.tree)) before middle now added
+      (Adds-then name (line_text (split candidate)) (lines_text (tree_lines first.tree) ++ lines_text (tree_lines second.tree)) before middle now added
       (Adds-then name (lines_text (tree_lines first.tree)) (lines_text (tree_lines second.tree)) middle later now first.added second.added));
   counted = second.counted
-    ∙ ap (λ c. counts_with c (tree_lines second.tree)) (first.counted ∙ ap (λ c. counts_with c (tree_lines first.tree)) counted)
-    ∙ counts_with-append (counts_with counts (split candidate ∷ [])) (tree_lines first.tree) (tree_lines second.tree);
+      ∙ ap (λ c. counts_with c (tree_lines second.tree)) (first.counted ∙ ap (λ c. counts_with c (tree_lines first.tree)) counted)
+      ∙ counts_with-append (counts_with counts (split candidate ∷ [])) (tree_lines first.tree) (tree_lines second.tree);
   best = second.best
-    ∙ ap (λ b. lesser b (bound_at network (without_chosen node candidate) second.tree)) first.best
-    ∙ lesser_assoc (best_bound network best) (bound_at network (with_chosen node candidate) first.tree) (bound_at network (without_chosen node candidate) second.tree);
-  kept = second.kept }
+      ∙ ap (λ b. lesser b (bound_at network (without_chosen node candidate) second.tree)) first.best
+      ∙ lesser_assoc (best_bound network best) (bound_at network (with_chosen node candidate) first.tree) (bound_at network (without_chosen node candidate) second.tree);
+  kept = second.kept;
+}
 
 within_with : (inside upper : List Bool) (i : ℕ) → IsWithin inside upper → slice_get upper i ≡ Some true → IsWithin (slice_set inside i true) upper
 within_with [] upper i within has = within
@@ -132,13 +140,15 @@ pub IsNode-with : (network : NetworkOf) (node : Node) (candidate : ℕ) → IsNo
 IsNode-with network node candidate is is_open = record {
   inside_long = length-set node.inside candidate true ∙ is.inside_long;
   upper_long = is.upper_long;
-  within = within_with node.inside node.upper candidate is.within is_open.in_upper }
+  within = within_with node.inside node.upper candidate is.within is_open.in_upper;
+}
 
 pub IsNode-without : (network : NetworkOf) (node : Node) (candidate : ℕ) → IsNode network node → IsOpenAt network node candidate → IsNode network (without_chosen node candidate)
 IsNode-without network node candidate is is_open = record {
   inside_long = is.inside_long;
   upper_long = length-set node.upper candidate false ∙ is.upper_long;
-  within = within_without node.inside node.upper candidate is.within is_open.not_inside }
+  within = within_without node.inside node.upper candidate is.within is_open.not_inside;
+}
 
 -- an entry that is set and then set back
 pub set_back : (plan : List Bool) (i : ℕ) (b other : Bool) → slice_get plan i ≡ Some b → slice_set (slice_set plan i other) i b ≡ plan
@@ -154,15 +164,15 @@ child_with node candidate inside set = ap (λ (plan : List Bool). record { insid
 pub child_without : (network : NetworkOf) (node middle : Node) (candidate : ℕ) (inside upper : List Bool) → IsOpenAt network node candidate → middle ≡ with_chosen node candidate → inside ≡ slice_set middle.inside candidate false → upper ≡ slice_set middle.upper candidate false → (record { inside = inside; upper = upper }) ≡ without_chosen node candidate
 child_without network node middle candidate inside upper is_open same set_inside set_upper =
     ap₂ (λ (a b : List Bool). record { inside = a; upper = b })
-      (set_inside ∙ ap (λ (n : Node). slice_set n.inside candidate false) same ∙ set_back node.inside candidate false true is_open.not_inside)
-      (set_upper ∙ ap (λ (n : Node). slice_set n.upper candidate false) same)
+    (set_inside ∙ ap (λ (n : Node). slice_set n.inside candidate false) same ∙ set_back node.inside candidate false true is_open.not_inside)
+    (set_upper ∙ ap (λ (n : Node). slice_set n.upper candidate false) same)
 
 -- and with the candidate back in the upper plan it is the node again
 pub node_back : (network : NetworkOf) (node later : Node) (candidate : ℕ) (upper : List Bool) → IsOpenAt network node candidate → later ≡ without_chosen node candidate → upper ≡ slice_set later.upper candidate true → (record { inside = later.inside; upper = upper }) ≡ node
 node_back network node later candidate upper is_open same set_upper =
     ap₂ (λ (a b : List Bool). record { inside = a; upper = b })
-      (ap (λ (n : Node). n.inside) same)
-      (set_upper ∙ ap (λ (n : Node). slice_set n.upper candidate true) same ∙ set_back node.upper candidate true false is_open.in_upper)
+    (ap (λ (n : Node). n.inside) same)
+    (set_upper ∙ ap (λ (n : Node). slice_set n.upper candidate true) same ∙ set_back node.upper candidate true false is_open.in_upper)
 
 -- what is known of the best plan stays known of an equal one
 pub IsKept-same : (network : NetworkOf) (before now : Option (List Bool)) → now ≡ before → IsKept network before → IsKept network now
@@ -177,4 +187,16 @@ BreaksOff-same network node same_node name why before now same broken = subst (�
 pub Explores-same : (network : NetworkOf) (node same_node : Node) (name : List ℕ) (old_best best best_now : Option (List Bool)) (counts counts_now : Counts) (before now : ShelfState) → same_node ≡ node → old_best ≡ best → Explores network same_node name old_best best_now counts counts_now before now → Explores network node name best best_now counts counts_now before now
 Explores-same network node same_node name old_best best best_now counts counts_now before now same same_best explored =
     subst (λ b. Explores network node name b best_now counts counts_now before now) same_best
-      (subst (λ n. Explores network n name old_best best_now counts counts_now before now) same explored)
+    (subst (λ n. Explores network n name old_best best_now counts counts_now before now) same explored)
+
+none_within_all : (n : ℕ) → IsWithin (replicate n false) (replicate n true)
+none_within_all zero = tt
+none_within_all (suc n) = (λ h. absurd (false≢true h), none_within_all n)
+
+-- the node of all plans is a node
+pub IsNode-root : (network : NetworkOf) → IsNode network (root_of network)
+IsNode-root network = record {
+  inside_long = length-replicate (length network.candidates) false;
+  upper_long = length-replicate (length network.candidates) true;
+  within = none_within_all (length network.candidates);
+}

@@ -3,3 +3,4 @@ pub mod PieceLemmas
 pub mod NodeLemmas
 pub mod OpenCount
 pub mod ExploreLemmas
+pub mod SearchLemmas

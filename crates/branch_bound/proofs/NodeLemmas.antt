@@ -1,4 +1,4 @@
-use Rattle.std.proofs.Common.{get_or, subst, pos, ◌≡◌, ◌<◌, ◌≤◌, ℕ, zero, suc, ◌+◌, Bool, true, false, List, [], ◌∷◌, length, arith, refl, ap, ap₂, sym, ◌∙◌, Some}
+use Rattle.std.proofs.Common.{get_or, subst, pos, ◌≡◌, ◌<◌, ℕ, zero, suc, Bool, true, false, List, [], ◌∷◌, length, arith, refl, ap, sym, Some}
 use Rattle.std.specs.Prelude.{slice_get, All, ◌≢◌, int_le, if◌then◌else◌}
 use Rattle.std.proofs.lemmas.Bool.{false≢true}
 use Rattle.geo_model.specs.Energy.{IsWithin}
@@ -36,4 +36,4 @@ not_refuted false other = absurd (other refl)
 pub settled : (network : NetworkOf) (inside upper : List Bool) → inside ≡ upper → All (λ limit. IsInForce limit inside → verdict_of network upper limit ≢ Refuted) network.limits → IsCertifiedBy (verdict_of network) network inside
 settled network inside upper same none = λ k d within owned.
     subst (λ (plan : List Bool). verdict_of network plan (get_or network.limits k d) ≡ Met) (sym same)
-      (not_refuted (int_le (pos 0) (form_at_one network upper (get_or network.limits k d))) (none k d within owned))
+    (not_refuted (int_le (pos 0) (form_at_one network upper (get_or network.limits k d))) (none k d within owned))

@@ -1,7 +1,7 @@
-use Rattle.std.proofs.Common.{◌≡◌, ◌≤◌, ℕ, List, [], ◌∷◌, ◌++◌, Some, None, refl, sym, ap, ◌∙◌, arith, append_assoc, subst}
+use Rattle.std.proofs.Common.{◌≡◌, ◌≤◌, ℕ, List, [], ◌++◌, Some, None, refl, sym, ap, ◌∙◌, arith, append_assoc, subst}
 use Rattle.std.specs.Prelude.{Option}
 use Rattle.shelf_io.specs.Files.{Files, IsHeld, with_piece}
-use Rattle.shelf_io.specs.Faults.{LastFault, Rose, KeepsFaults, write_of}
+use Rattle.shelf_io.specs.Faults.{Rose}
 use Rattle.shelf_io.proofs.FileLaws.{with_piece-nothing, with_piece-with_piece}
 use Rattle.branch_bound.specs.Explored.{ShelfState, Adds, Breaks}
 use Rattle.branch_bound.specs.declared.search_fault.SearchFault.{SearchFault}
@@ -23,14 +23,16 @@ Breaks-nothing name text state told = record {
   written = none_added state.held name told;
   later = omega arith;
   failed = λ why. absurd (cc);
-  no_memory = λ why. record { same_count = refl; same_last = refl } }
+  no_memory = λ why. record { same_count = refl; same_last = refl };
+}
 
 -- two pieces, one after the other, are their text
 pub Adds-then : (name first second : List ℕ) (before middle now : ShelfState) → Adds name first before middle → Adds name second middle now → Adds name (first ++ second) before now
 Adds-then name first second before middle now one two = record {
   written = two.written ∙ ap (λ held. with_piece held name second) one.written ∙ with_piece-with_piece before.held name first second;
   started = two.started;
-  quiet = record { same_count = two.quiet.same_count ∙ one.quiet.same_count; same_last = two.quiet.same_last ∙ one.quiet.same_last } }
+  quiet = record { same_count = two.quiet.same_count ∙ one.quiet.same_count; same_last = two.quiet.same_last ∙ one.quiet.same_last };
+}
 
 -- a piece, and then a beginning of another, are a beginning of their text
 pub Breaks-after : (name first second : List ℕ) (why : SearchFault) (before middle now : ShelfState) → Adds name first before middle → Breaks name second why middle now → Breaks name (first ++ second) why before now
@@ -42,7 +44,8 @@ Breaks-after name first second why before middle now one two = record {
   later = subst (λ n. n ≤ now.faults) one.quiet.same_count two.later;
   failed = λ is. let rose = two.failed is in (subst (λ n. Rose n now.faults) one.quiet.same_count rose.0, rose.1);
   no_memory = λ is. let quiet = two.no_memory is in
-    record { same_count = quiet.same_count ∙ one.quiet.same_count; same_last = quiet.same_last ∙ one.quiet.same_last } }
+      record { same_count = quiet.same_count ∙ one.quiet.same_count; same_last = quiet.same_last ∙ one.quiet.same_last };
+}
 
 -- a beginning of a text is one of a longer text
 pub Breaks-longer : (name first second : List ℕ) (why : SearchFault) (before now : ShelfState) → Breaks name first why before now → Breaks name (first ++ second) why before now
@@ -53,4 +56,5 @@ Breaks-longer name first second why before now one = record {
   written = one.written;
   later = one.later;
   failed = one.failed;
-  no_memory = one.no_memory }
+  no_memory = one.no_memory;
+}

@@ -1,4 +1,4 @@
-use Rattle.std.specs.Prelude.{◌≡◌, ◌≢◌, ℕ, ◌+◌, ◌-◌, ◌^◌, ◌≤◌, min, if◌then◌else◌, Bool, true, false, List, [], ◌∷◌, ◌++◌, length, Option, Some, None}
+use Rattle.std.specs.Prelude.{◌≡◌, ℕ, ◌+◌, ◌-◌, ◌^◌, ◌≤◌, min, if◌then◌else◌, Bool, List, [], ◌∷◌, ◌++◌, length, Option, Some, None}
 use Rattle.std.specs.Option.{ForSome}
 use Rattle.shelf_io.specs.Files.{Files, with_piece}
 use Rattle.shelf_io.specs.Faults.{LastFault, Rose, KeepsFaults, write_of}
@@ -10,7 +10,7 @@ use Rattle.bound_log.specs.declared.bound.Bound.{Bound}
 use Rattle.bound_log.specs.declared.bound.Bound.TheVariants.{NoPlan, AtLeast}
 use Rattle.bound_log.specs.Bound.{lesser}
 use Rattle.bound_log.specs.Counted.{is_split, is_cost, is_pivot}
-use Rattle.bound_log.specs.LogText.{line_text, lines_text}
+use Rattle.bound_log.specs.LogText.{lines_text}
 use Rattle.bound_log.specs.LogTree.{IsAllowed, IsAllowedLine, leaf_bound, bound_at}
 use Rattle.bound_log.specs.Tree.{LineOf, split, leaf, Leaf, cost, pivot, Tree, tree_lines}
 use Rattle.branch_bound.specs.declared.line.Line.{Line}
@@ -66,7 +66,8 @@ counts_with before lines = record {
   costs = counted_on before.costs is_cost lines;
   pivots = counted_on before.pivots is_pivot lines;
   cuts = before.cuts;
-  duals = before.duals }
+  duals = before.duals;
+}
 
 -- a node of the network: its plans have an entry for each candidate, and the inner one lies in the upper one
 pub record IsNode (network : NetworkOf) (node : Node) : Type 0 where

@@ -9,5 +9,6 @@ abbrev pub fault_of : WriteAnswer → SearchFault
 fault_of write.Failed = fault.WriteFault
 fault_of write.NoMemory = fault.NoMemory
 
+-- a fault is the one that this answer makes
 abbrev pub IsFaultOf : WriteAnswer → SearchFault → Type 0
 IsFaultOf answer made = made ≡ fault_of answer

@@ -1,4 +1,4 @@
-use Rattle.std.specs.Prelude.{◌≡◌, ◌≢◌, ◌⊎◌, ℕ, ◌<◌, ℤ, pos, ◌≤ℤ◌, Bool, List, ◌++◌, length, Option, Some, None, slice_get, All, take}
+use Rattle.std.specs.Prelude.{◌≡◌, ◌≢◌, ℕ, ◌<◌, ℤ, pos, ◌≤ℤ◌, Bool, List, length, Option, Some, None, slice_get}
 use Rattle.geo_model.specs.Energy.{cost_of}
 use Rattle.geo_model.specs.Limit.{LimitOf, IsInForce}
 use Rattle.geo_model.specs.Network.{NetworkOf}
@@ -11,7 +11,6 @@ use Rattle.geo_model.specs.declared.verdict.Verdict.TheVariants.{Open}
 use Rattle.bound_log.specs.declared.bound.Bound.{Bound}
 use Rattle.bound_log.specs.declared.bound.Bound.TheVariants.{NoPlan, AtLeast}
 use Rattle.bound_log.specs.Counted.{counts_of}
-
 use Rattle.bound_log.specs.LogTree.{root_of, IsAllowed, bound_at}
 use Rattle.bound_log.specs.Tree.{Tree, tree_lines}
 use Rattle.bound_log.specs.VerdictOf.{verdict_of}

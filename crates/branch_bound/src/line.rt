@@ -3,12 +3,11 @@ ghost use Rattle.std.specs.Prelude.{◌≡◌, ◌+◌, ◌-◌, ◌^◌, [], �
 ghost use Rattle.bound_log.specs.LogText.{line_text};
 ghost use Rattle.branch_bound.specs.Explored.{state_of, Adds, Breaks, line_of, counts_with};
 
+use crate::search_fault::SearchFault;
 use bound_log::{put_cost, put_pivot, put_split};
 use geo_base::NoMemory;
 use geo_model::Counts;
 use shelf_io::{Shelf, WriteAnswer};
-
-use crate::search_fault::SearchFault;
 
 /// A line of a log: a split on a candidate, a leaf of the chosen candidates' price, or a leaf that
 /// a limit refutes.

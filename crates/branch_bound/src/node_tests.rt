@@ -13,13 +13,11 @@ ghost use Rattle.bound_log.specs.Narrow.{IsNarrow};
 ghost use Rattle.bound_log.specs.VerdictOf.{verdict_of};
 ghost use Rattle.branch_bound.specs.Explored.{IsNode, IsKept, IsLeafAt, best_bound};
 
-use std::alloc::Global;
-
-use geo_base::NoMemory;
-use geo_model::{Limit, Network, Node, Plan, Verdict, cost};
-
 use crate::energy::verdict;
 use crate::line::Line;
+use geo_base::NoMemory;
+use geo_model::{Limit, Network, Node, Plan, Verdict, cost};
+use std::alloc::Global;
 
 /// Whether a limit is in force for a plan: it has no owner, or its owner is chosen.
 fn is_in_force(limit: &Limit, plan: &Plan) -> bool

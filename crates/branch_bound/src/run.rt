@@ -7,16 +7,14 @@ ghost use Rattle.branch_bound.specs.Explored.{state_of, IsNode, IsKept, Adds, Br
 ghost use Rattle.branch_bound.specs.Logged.{Searches, BreaksLog};
 ghost use Rattle.branch_bound.specs.Searched.{IsDecided, answer_of, no_counts};
 
-use std::alloc::Global;
-
+use crate::line::{Line, write_line, write_piece};
+use crate::node_tests::{leaf_at, open_candidate};
+use crate::search_fault::SearchFault;
 use bound_log::put_head;
 use geo_base::NoMemory;
 use geo_model::{Answer, Counts, Network, Node, Plan, SearchDone};
 use shelf_io::Shelf;
-
-use crate::line::{Line, write_line, write_piece};
-use crate::node_tests::{leaf_at, open_candidate};
-use crate::search_fault::SearchFault;
+use std::alloc::Global;
 
 /// What a search has found so far: the best plan, the lines counted, and room for the next one.
 #[derive(Drop)]
@@ -86,8 +84,13 @@ fn explore<H: Shelf>(
         Err(_) => return Err(SearchFault::NoMemory),
     };
     if let Some(line) = leaf {
-        if let Err(why) = write_line(shelf, name, &mut progress.buffer, &mut progress.counts, line)
-        {
+        if let Err(why) = write_line(
+            shelf,
+            name,
+            &mut progress.buffer,
+            &mut progress.counts,
+            line,
+        ) {
             return Err(why);
         }
         return Ok(());
@@ -97,7 +100,13 @@ fn explore<H: Shelf>(
         None => unreachable!(),
     };
     let line = Line::Split(candidate);
-    if let Err(why) = write_line(shelf, name, &mut progress.buffer, &mut progress.counts, line) {
+    if let Err(why) = write_line(
+        shelf,
+        name,
+        &mut progress.buffer,
+        &mut progress.counts,
+        line,
+    ) {
         return Err(why);
     }
     node.inside.set(candidate, true);
@@ -125,11 +134,7 @@ fn root_node(alloc: Global, network: &Network) -> Result<Node, NoMemory>
 }
 
 /// Writes the first line of a log. `buffer` is room for its bytes.
-fn begin_log<H: Shelf>(
-    shelf: &mut H,
-    name: &str,
-    buffer: &mut Vec<u8>,
-) -> Result<(), SearchFault>
+fn begin_log<H: Shelf>(shelf: &mut H, name: &str, buffer: &mut Vec<u8>) -> Result<(), SearchFault>
     requires { H.started shelf.old ≡ Some name.now }
     ensures added { OnOk result (Adds name.now head_text
         (state_of H.held H.faults H.last_fault H.started shelf.old)

@@ -1,7 +1,6 @@
-use std::alloc::{AllocError, AllocFailed};
-
 use geo_base::NoMemory;
 use shelf_io::WriteAnswer;
+use std::alloc::{AllocError, AllocFailed};
 
 /// Why a search ended without an answer: a write of the log failed, or memory ran out.
 #[derive(Clone, Copy, Debug, PartialEq, Eq)]

@@ -18,3 +18,6 @@ pub use network::{Component, Network, Unknown, cost};
 pub use plan::{Node, Plan};
 pub use row::Row;
 pub use verdict::Verdict;
+
+#[cfg(test)]
+mod tests;

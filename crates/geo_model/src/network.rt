@@ -56,6 +56,7 @@ impl Network {
         }
     }
 
+    /// The unknowns, each by its number from 0: at most 64.
     pub fn unknowns(&self) -> &[Unknown]
         ensures value { result.now ≡ self.now.unknowns }
         ensures bounds { IsNetwork self.now }
@@ -63,6 +64,7 @@ impl Network {
         self.unknowns.as_slice()
     }
 
+    /// The candidates, each by its number from 0: at most 256.
     pub fn candidates(&self) -> &[Candidate]
         ensures value { result.now ≡ self.now.candidates }
         ensures bounds { IsNetwork self.now }
@@ -70,6 +72,7 @@ impl Network {
         self.candidates.as_slice()
     }
 
+    /// The limits, each by its number from 0: at most 20000.
     pub fn limits(&self) -> &[Limit]
         ensures value { result.now ≡ self.now.limits }
         ensures bounds { IsNetwork self.now }
@@ -78,7 +81,8 @@ impl Network {
     }
 }
 
-/// The price of a plan: the sum of the prices of its candidates.
+/// The price of a plan: the sum of the prices of its candidates. The plan has an entry for each
+/// candidate of the network.
 pub fn cost(network: &Network, plan: &Plan) -> u64
     requires { length plan.now ≡ length network.now.candidates }
     ensures { result ≡ cost_of network.now.candidates plan.now }

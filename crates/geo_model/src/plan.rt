@@ -18,7 +18,7 @@ impl Model for Plan {
 }
 
 impl Plan {
-    /// The plan that chooses none of `m` candidates.
+    /// The plan that chooses none of `m` candidates. Refused for want of memory alone.
     pub fn empty(alloc: Global, m: u32) -> Result<Plan, NoMemory>
         ensures { IfOk result (λ plan. plan ≡ replicate m false) }
     {
@@ -26,7 +26,7 @@ impl Plan {
         Ok(Plan { chosen })
     }
 
-    /// The plan that chooses all of `m` candidates.
+    /// The plan that chooses all of `m` candidates. Refused for want of memory alone.
     pub fn full(alloc: Global, m: u32) -> Result<Plan, NoMemory>
         ensures { IfOk result (λ plan. plan ≡ replicate m true) }
     {
@@ -34,6 +34,7 @@ impl Plan {
         Ok(Plan { chosen })
     }
 
+    /// The same plan once more. Refused for want of memory alone.
     pub fn copy(&self, alloc: Global) -> Result<Plan, NoMemory>
         ensures { IfOk result (λ plan. plan ≡ self.now) }
     {

@@ -38,6 +38,7 @@ impl Row {
         self.entries.as_slice()
     }
 
+    /// The weight, from 1 to 1000000.
     pub fn weight(&self) -> i64
         ensures { result ≡ self.now.weight }
     {

@@ -32,8 +32,8 @@ impl Model for Tri {
 }
 
 impl Tri {
-    /// The matrix of `n` rows with all entries 0.
     #[tactic(auto, using(crate::proofs::Triangles::more_zeros, crate::proofs::Triangles::made_of_zeros))]
+    /// The matrix of `n` rows with all entries 0.
     pub fn new(alloc: Global, n: u32) -> Result<Tri, NoMemory>
         requires { n ≤ 64 }
         ensures zeros { IfOk result (λ tri. tri ≡ zero_tri n) }

@@ -1,6 +1,5 @@
-use Rattle.std.proofs.Common.{◌≡◌, ◌+◌, ◌*◌, ℕ, ℤ, pos, ◌+ℤ◌, ◌≤ℤ◌, take, arith}
+use Rattle.std.proofs.Common.{arith}
 use Rattle.std.proofs.lemmas.Int.{ints}
-use Rattle.whole_algebra.specs.Sums.{int_sum_by}
 use Rattle.geo_model.specs.Row.{RowOf, row_energy}
 use Rattle.bound_log.specs.VerdictOf.{ones}
 use Rattle.branch_bound.proofs.EnergySteps.{int_sum_by-take}

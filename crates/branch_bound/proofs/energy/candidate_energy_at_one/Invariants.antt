@@ -1,4 +1,4 @@
-use Rattle.std.proofs.Common.{◌≡◌, ◌*◌, ℕ, ℤ, pos, ◌≤ℤ◌, take}
+use Rattle.std.proofs.Common.{◌≡◌, ◌*◌, pos, ◌≤ℤ◌, take}
 use Rattle.whole_algebra.specs.Sums.{int_sum_by}
 use Rattle.geo_model.specs.Row.{row_energy}
 use Rattle.bound_log.specs.VerdictOf.{ones}

@@ -1,4 +1,4 @@
-use Rattle.std.proofs.Common.{◌≡◌, ◌*◌, ℕ, ℤ, pos, ◌≤ℤ◌, take}
+use Rattle.std.proofs.Common.{◌≡◌, ◌*◌, pos, ◌≤ℤ◌, take}
 use Rattle.geo_model.specs.Energy.{energy}
 use Rattle.bound_log.specs.VerdictOf.{ones}
 use Rattle.branch_bound.proofs.energy.energy_at_one.Given as goal

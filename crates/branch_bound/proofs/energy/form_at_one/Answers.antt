@@ -18,7 +18,7 @@ returns c =
     let fits_energy : FitsSigned w128 c.energy_at_one.result = search rules in
     let product = simp to_z-of_z at c.scaled_energy.ensures.value in
     let whole : c.scaled_energy.result ≡ c.args.limit.now.alpha *ℤ energy c.args.network.now.candidates c.args.plan.now ones =
-        product ∙ ap₂ (λ s t. s *ℤ t) alpha c.energy_at_one.ensures.value in
+    product ∙ ap₂ (λ s t. s *ℤ t) alpha c.energy_at_one.ensures.value in
     let product_of : ℤ = c.args.limit.now.alpha *ℤ energy c.args.network.now.candidates c.args.plan.now ones in
     let few : length c.as_slice.result.now < 18446744073709551616 = search rules in
     let heights = load-heights c.args.limit.now.squares c.requires.heights in

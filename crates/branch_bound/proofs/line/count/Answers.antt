@@ -1,5 +1,4 @@
 use Rattle.std.proofs.Common.{ap}
-use Rattle.geo_model.specs.declared.answer.Counts.{Counts}
 use Rattle.branch_bound.proofs.line.count.Goals as goal
 
 pub returns-in-Split : goal.returns-in-Split

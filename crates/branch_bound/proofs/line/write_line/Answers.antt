@@ -1,4 +1,3 @@
-use Rattle.std.proofs.Common.{◌≡◌}
 use Rattle.bound_log.specs.LogText.{line_text}
 use Rattle.branch_bound.specs.Explored.{state_of, line_of}
 use Rattle.branch_bound.proofs.PieceLemmas.{Breaks-nothing}

@@ -10,7 +10,8 @@ returns-in-Err-Failed-clause-refused g c = record {
   written = c.in-Err-Failed.ensures.refused.1;
   later = c.append.ensures.cause.later;
   failed = λ why. c.append.ensures.cause.failed (c.in-Err-Failed.is ∙ ap Err c.in-Err-Failed.field-0-is);
-  no_memory = λ why. absurd (cc) }
+  no_memory = λ why. absurd (cc);
+}
 
 pub returns-in-Err-NoMemory-clause-refused : goal.returns-in-Err-NoMemory-clause-refused
 returns-in-Err-NoMemory-clause-refused g c = record {
@@ -20,4 +21,5 @@ returns-in-Err-NoMemory-clause-refused g c = record {
   written = c.in-Err-NoMemory.ensures.refused.1;
   later = c.append.ensures.cause.later;
   failed = λ why. absurd (cc);
-  no_memory = λ why. c.append.ensures.cause.no_memory (c.in-Err-NoMemory.is ∙ ap Err c.in-Err-NoMemory.field-0-is) }
+  no_memory = λ why. c.append.ensures.cause.no_memory (c.in-Err-NoMemory.is ∙ ap Err c.in-Err-NoMemory.field-0-is);
+}

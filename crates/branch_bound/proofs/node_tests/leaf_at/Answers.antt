@@ -11,7 +11,8 @@ returns-in-Some-clause-leaf c = record {
   spelled = refl;
   allowed = c.in-Some.ensures.found;
   best = sym (lesser-no_plan (best_bound c.args.network.now c.args.best.now));
-  kept = c.requires.kept }
+  kept = c.requires.kept;
+}
 
 pub returns-then-not-is_certified-clause-none : goal.returns-then-not-is_certified-clause-none
 returns-then-not-is_certified-clause-none c =

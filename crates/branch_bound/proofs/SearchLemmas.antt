@@ -1,0 +1,84 @@
+use Rattle.std.proofs.Common.{true, false, ◌≡◌, ℕ, Bool, List, [], ◌∷◌, refl, sym, ap, ap₂, cond, zero-add, ◌∙◌, subst, Some, None, Option, min, ◌+◌, ◌-◌, ◌^◌, ◌≤◌, arith, if◌then◌else◌}
+use Rattle.std.specs.Prelude.{count_by}
+use Rattle.std.proofs.lemmas.List.Sums.{sum_by-cons}
+use Rattle.shelf_io.specs.Files.{Files, IsHeld}
+use Rattle.geo_model.specs.Network.{NetworkOf}
+use Rattle.geo_model.specs.declared.answer.Counts.{Counts}
+use Rattle.geo_model.specs.declared.answer.SearchDone.{SearchDone}
+use Rattle.geo_model.specs.declared.plan.Node.{Node}
+use Rattle.bound_log.specs.declared.bound.Bound.{Bound}
+use Rattle.bound_log.specs.Bound.{lesser}
+use Rattle.bound_log.specs.Counted.{counted, counts_of, is_split, is_cost, is_pivot}
+use Rattle.bound_log.specs.LogText.{head_text, lines_text, log_text}
+use Rattle.bound_log.specs.LogTree.{root_of, IsAllowed, bound_at}
+use Rattle.bound_log.specs.Tree.{LineOf, tip, cost, tree_lines}
+use Rattle.branch_bound.specs.declared.search_fault.SearchFault.{SearchFault}
+use Rattle.branch_bound.specs.declared.search_fault.SearchFault.TheVariants as fault
+use Rattle.branch_bound.specs.Explored.{ShelfState, Adds, Breaks, Explores, BreaksOff, IsKept, best_bound, counted_on, counts_with}
+use Rattle.branch_bound.specs.Logged.{Searches, BreaksLog}
+use Rattle.branch_bound.specs.Searched.{IsAnswer, answer_of, no_counts}
+use Rattle.branch_bound.proofs.PieceLemmas.{Breaks-nothing, Adds-then, Breaks-after, Breaks-longer}
+
+-- How the head and the exploration of the root make a search.
+
+-- memory ran out before anything was written
+pub BreaksLog-nothing : (network : NetworkOf) (name : List ℕ) (state : ShelfState) → ((files : Files) → state.held ≡ Some files → IsHeld files name) → BreaksLog network name fault.NoMemory state state
+BreaksLog-nothing network name state told = record { tree = tip cost; allowed = tt; broken = Breaks-nothing name (log_text (tip cost)) state told }
+
+-- the head was begun
+pub BreaksLog-head : (network : NetworkOf) (name : List ℕ) (why : SearchFault) (before now : ShelfState) → Breaks name head_text why before now → BreaksLog network name why before now
+BreaksLog-head network name why before now broken = record { tree = tip cost; allowed = tt; broken = Breaks-longer name head_text (lines_text (tree_lines (tip cost))) why before now broken }
+
+-- the tree was begun
+pub BreaksLog-tree : (network : NetworkOf) (node : Node) (name : List ℕ) (why : SearchFault) (before middle now : ShelfState) → node ≡ root_of network → Adds name head_text before middle → BreaksOff network node name why middle now → BreaksLog network name why before now
+BreaksLog-tree network node name why before middle now root added broken =
+    let at_root : BreaksOff network (root_of network) name why middle now = subst (λ n. BreaksOff network n name why middle now) root broken in
+    record { tree = at_root.tree; allowed = at_root.allowed; broken = Breaks-after name head_text (lines_text (tree_lines at_root.tree)) why before middle now added at_root.broken }
+
+-- the answer that the best plan makes fits its bound
+answer_fits : (network : NetworkOf) (bound : Bound) (best : Option (List Bool)) → IsKept network best → best_bound network best ≡ bound → IsAnswer network bound (answer_of best)
+answer_fits network bound None kept is = sym is
+answer_fits network bound (Some plan) kept is = record { certified = kept plan refl; price = sym is }
+
+-- the last value of a counter
+abbrev last_count : ℕ
+last_count = 2 ^ 64 - 1
+
+step_small : (b : Bool) (before : ℕ) → before ≤ last_count → (if b then min (before + 1) last_count else before) ≤ last_count
+step_small true before small = omega arith
+step_small false before small = small
+
+step_counted : (b : Bool) (before rest total : ℕ) → before ≤ last_count → total ≡ cond b 1 0 + rest → min ((if b then min (before + 1) last_count else before) + rest) last_count ≡ min (before + total) last_count
+step_counted true before rest total small is = omega arith
+step_counted false before rest total small is = omega arith
+
+-- counting one after another is counting
+counted_on-is : (before : ℕ) (test : LineOf → Bool) (lines : List LineOf) → before ≤ last_count → counted_on before test lines ≡ min (before + count_by test lines) last_count
+counted_on-is before test [] small = omega arith
+counted_on-is before test (line ∷ lines) small =
+    counted_on-is (if test line then min (before + 1) last_count else before) test lines (step_small (test line) before small)
+    ∙ step_counted (test line) before (count_by test lines) (count_by test (line ∷ lines)) small (sum_by-cons (λ l. cond (test l) 1 0) line lines)
+
+counted_on-zero : (test : LineOf → Bool) (lines : List LineOf) → counted_on 0 test lines ≡ counted test lines
+counted_on-zero test lines = counted_on-is 0 test lines (omega arith) ∙ ap (λ n. min n last_count) (zero-add (count_by test lines))
+
+counts_with-none : (lines : List LineOf) → counts_with no_counts lines ≡ counts_of lines
+counts_with-none lines =
+    ap (λ n. record { splits = n; costs = counted_on 0 is_cost lines; pivots = counted_on 0 is_pivot lines; cuts = 0; duals = 0 }) (counted_on-zero is_split lines)
+    ∙ ap (λ n. record { splits = counted is_split lines; costs = n; pivots = counted_on 0 is_pivot lines; cuts = 0; duals = 0 }) (counted_on-zero is_cost lines)
+    ∙ ap (λ n. record { splits = counted is_split lines; costs = counted is_cost lines; pivots = n; cuts = 0; duals = 0 }) (counted_on-zero is_pivot lines)
+
+-- the search is done
+pub Searches-done : (network : NetworkOf) (node : Node) (name : List ℕ) (best best_now : Option (List Bool)) (counts counts_now : Counts) (done : SearchDone) (before middle now : ShelfState) → node ≡ root_of network → best ≡ None → counts ≡ no_counts → Adds name head_text before middle → Explores network node name best best_now counts counts_now middle now → done.answer ≡ answer_of best_now → done.counts ≡ counts_now → Searches network name done before now
+Searches-done network node name best best_now counts counts_now done before middle now root nothing none_counted added explored answered counted_all =
+    record {
+      tree = explored.tree;
+      searched = record {
+        allowed = subst (λ n. IsAllowed network n explored.tree) root explored.allowed;
+        counted = counted_all ∙ explored.counted ∙ ap (λ c. counts_with c (tree_lines explored.tree)) none_counted ∙ counts_with-none (tree_lines explored.tree);
+        answered = subst (λ a. IsAnswer network (bound_at network (root_of network) explored.tree) a) (sym answered)
+            (answer_fits network (bound_at network (root_of network) explored.tree) best_now explored.kept
+            (explored.best ∙ ap₂ (λ b n. lesser (best_bound network b) (bound_at network n explored.tree)) nothing root));
+      };
+      added = Adds-then name head_text (lines_text (tree_lines explored.tree)) before middle now added explored.added;
+    }

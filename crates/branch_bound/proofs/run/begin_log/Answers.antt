@@ -1,0 +1,9 @@
+use Rattle.bound_log.specs.LogText.{head_text}
+use Rattle.branch_bound.specs.Explored.{state_of}
+use Rattle.branch_bound.proofs.PieceLemmas.{Breaks-nothing}
+use Rattle.branch_bound.proofs.run.begin_log.Goals as goal
+
+pub returns-then-is_err-clause-refused : goal.returns-then-is_err-clause-refused
+returns-then-is_err-clause-refused g c =
+    Breaks-nothing c.args.name.now head_text (state_of g.H.Shelf.held g.H.Shelf.faults g.H.Shelf.last_fault g.H.Shelf.started c.args.shelf.now)
+    (λ files held. g.met.H.Shelf.started_is_held c.args.shelf.now files c.args.name.now held c.requires)

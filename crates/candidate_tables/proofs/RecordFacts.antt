@@ -1,0 +1,100 @@
+-- Which rule of a record is broken first, and the candidate that a record gives.
+use Rattle.std.proofs.Common.{◌≡◌, ◌∙◌, ◌+◌, ℕ, List, [], ◌∷◌, ◌++◌, Option, Some, None, length, map, refl, sym, ap, subst}
+use Rattle.std.specs.Prelude.{Err}
+use Rattle.std.proofs.lemmas.List.{length-map}
+use Rattle.table_rows.specs.Faults.{Rule, first_broken}
+use Rattle.table_rows.proofs.FaultFacts.{first_broken-left, first_broken-right}
+use Rattle.point_tables.specs.declared.fault.FaultKind.{FaultKind}
+use Rattle.point_tables.specs.declared.fault.TableAnswer.{TableAnswer}
+use Rattle.point_tables.specs.declared.fault.TableAnswer.TheVariants as answer
+use Rattle.point_tables.specs.declared.fault.TableName.TheVariants as table
+use Rattle.point_tables.specs.declared.record.PointRecord.{PointRecord}
+use Rattle.point_tables.specs.Columns.{Answers, name_rules, record_rules}
+use Rattle.candidate_tables.specs.declared.ends.Ends.{Ends}
+use Rattle.candidate_tables.specs.declared.figures.Figures.{Figures}
+use Rattle.candidate_tables.specs.declared.kind.Kind.{Kind}
+use Rattle.candidate_tables.specs.declared.record.CandidateRecord.{CandidateRecord}
+use Rattle.candidate_tables.specs.CandidateTable.{candidate_of, candidates_table, column_rules, end_rules, figure_rules, height_deviation_of, kind_at, name_at, names_of, place_rules, rules_after}
+use Rattle.candidate_tables.specs.Read.{Adds, AreColumns, AreFigures, IsEnds}
+
+-- ---- the columns after the name, one part after the other
+
+-- the rules on what a record names, by what was read
+same-places : (points : List PointRecord) (row : List (List ℕ)) (ends : Ends) → IsEnds points row ends
+    → place_rules points row ends.kind ends.from ends.to ends.to2
+        ≡ place_rules points row (candidate_of points row).kind (candidate_of points row).from (candidate_of points row).to (candidate_of points row).to2
+unfolding candidate_of
+same-places points row ends is = rw (is.kind, is.from, is.to, is.to2) refl
+
+same-figures : (points : List PointRecord) (row : List (List ℕ)) (ends : Ends) → IsEnds points row ends → figure_rules ends.kind row ≡ figure_rules (candidate_of points row).kind row
+unfolding candidate_of
+same-figures points row ends is = ap (λ (kind : Kind). figure_rules kind row) is.kind
+
+module _ (points : List PointRecord) (row : List (List ℕ)) where
+  pub columns-ends : (broken : FaultKind) → first_broken (end_rules points row) ≡ Some broken → first_broken (column_rules points row (candidate_of points row)) ≡ Some broken
+  columns-ends broken e = first_broken-left _ _ broken e
+
+  pub columns-places : (ends : Ends) (broken : FaultKind) → IsEnds points row ends → first_broken (end_rules points row) ≡ None
+      → first_broken (place_rules points row ends.kind ends.from ends.to ends.to2) ≡ Some broken → first_broken (column_rules points row (candidate_of points row)) ≡ Some broken
+  columns-places ends broken is e f =
+      first_broken-right _ _ e ∙ first_broken-left _ _ broken (sym (ap first_broken (same-places points row ends is)) ∙ f)
+
+  pub columns-figures : (ends : Ends) (found : Option FaultKind) → IsEnds points row ends → first_broken (end_rules points row) ≡ None
+      → first_broken (place_rules points row ends.kind ends.from ends.to ends.to2) ≡ None → first_broken (figure_rules ends.kind row) ≡ found
+      → first_broken (column_rules points row (candidate_of points row)) ≡ found
+  columns-figures ends found is e f g =
+      first_broken-right _ _ e ∙ first_broken-right _ _ (sym (ap first_broken (same-places points row ends is)) ∙ f)
+      ∙ sym (ap first_broken (same-figures points row ends is)) ∙ g
+
+-- the columns as they were read
+pub columns-read : (points : List PointRecord) (row : List (List ℕ)) (ends : Ends) (figures : Figures) → IsEnds points row ends → AreFigures ends.kind row figures
+    → AreColumns points row (ends, figures)
+columns-read points row ends figures is are = record {
+  ends = is;
+  figures = subst (λ kind. AreFigures kind row figures) is.kind are;
+}
+
+-- ---- the rules of a record, one part after the other
+
+module _ (points : List PointRecord) (number : ℕ) (row names : List (List ℕ)) where
+  pub broken-record : (broken : FaultKind) → first_broken (record_rules 257 8 number row) ≡ Some broken → first_broken (rules_after points number row names) ≡ Some broken
+  unfolding rules_after
+  broken-record broken e = first_broken-left _ _ broken e
+
+  pub broken-name : (broken : FaultKind) → first_broken (record_rules 257 8 number row) ≡ None → first_broken (name_rules (name_at row) names) ≡ Some broken
+      → first_broken (rules_after points number row names) ≡ Some broken
+  unfolding rules_after
+  broken-name broken e f = first_broken-right _ _ e ∙ first_broken-left _ _ broken f
+
+  pub broken-columns : (found : Option FaultKind) → first_broken (record_rules 257 8 number row) ≡ None → first_broken (name_rules (name_at row) names) ≡ None
+      → first_broken (column_rules points row (candidate_of points row)) ≡ found → first_broken (rules_after points number row names) ≡ found
+  unfolding rules_after
+  broken-columns found e f g = first_broken-right _ _ e ∙ first_broken-right _ _ f ∙ g
+
+-- the names of candidates are those of their records
+pub names-read : (points : List PointRecord) (rows : List (List (List ℕ))) → names_of (map (candidate_of points) rows) ≡ map name_at rows
+unfolding candidate_of
+names-read points [] = refl
+names-read points (row ∷ rows) = ap (λ (names : List (List ℕ)). name_at row ∷ names) (names-read points rows)
+
+-- the rules by the candidates that were read are those by the records that were seen
+pub rules-read : (points : List PointRecord) (candidates : List CandidateRecord) (seen : List (List (List ℕ))) (row : List (List ℕ)) → candidates ≡ map (candidate_of points) seen
+    → rules_after points (length candidates + 2) row (names_of candidates) ≡ (candidates_table points).rules (length seen + 2) row seen
+rules-read points candidates seen row e = rw (e, length-map seen (candidate_of points), names-read points seen) refl
+
+-- ---- the candidate
+
+pub read-candidate : (points : List PointRecord) (row : List (List ℕ)) (name : List ℕ) (ends : Ends) (figures : Figures) → name ≡ name_at row → AreColumns points row (ends, figures)
+    → record { name = name; kind = ends.kind; from = ends.from; to = ends.to; to2 = ends.to2; sd = figures.sd; sdh = figures.sdh; price = figures.price } ≡ candidate_of points row
+unfolding candidate_of
+read-candidate points row name ends figures same are =
+    rw (same, are.ends.kind, are.ends.from, are.ends.to, are.ends.to2, are.figures.sd, are.figures.sdh, are.figures.price) refl
+
+-- ---- what a record that was not added answers
+
+pub answers-err : (fault : Option (ℕ × FaultKind)) (read before after : List CandidateRecord) (number : ℕ) (rules : List (Rule FaultKind)) (candidate : CandidateRecord) (refused : TableAnswer)
+    → Adds number rules candidate before after (Err refused) → ((kind : FaultKind) → first_broken rules ≡ Some kind → fault ≡ Some (number, kind))
+    → Answers {V = List CandidateRecord} table.Candidates fault read (Err refused)
+answers-err fault read before after number rules candidate (answer.Fault found) adds first =
+    (first found.kind adds.0 ∙ ap (λ (n : ℕ). Some (n, found.kind)) (sym adds.1), adds.2)
+answers-err fault read before after number rules candidate answer.NoMemory adds first = tt

@@ -1,0 +1,16 @@
+use Rattle.std.proofs.Common.{◌≡◌, ◌∙◌, ap, sym, rules, FitsSigned, w64}
+use Rattle.std.specs.Prelude.{unsigned_abs}
+use Rattle.std.proofs.lemmas.Int.{to_z-of_z}
+use Rattle.table_rows.specs.Faults.{first_broken}
+use Rattle.candidate_tables.proofs.RuleFacts.{price-is, price-read}
+use Rattle.candidate_tables.proofs.figures.read_price.Goals as goal
+
+pub returns-in-Ok : goal.returns-in-Ok
+returns-in-Ok c =
+    let fits : FitsSigned w64 c.in-Ok.value = search rules in (
+      ap first_broken (price-is c.args.text.now) ∙ c.in-Ok.ensures.0,
+      price-read c.args.text.now c.in-Ok.value _ c.in-Ok.ensures.1 (ap unsigned_abs (to_z-of_z w64 c.in-Ok.value fits)),
+    )
+
+pub returns-in-Err : goal.returns-in-Err
+returns-in-Err c = ap first_broken (price-is c.args.text.now) ∙ c.in-Err.ensures

@@ -1,0 +1,57 @@
+-- What holds of the candidates of every accepted table. This project's own.
+use Rattle.std.specs.Prelude.{ℕ, ◌≡◌, ◌≢◌, ◌≤◌, ◌^◌, List, length, All, Bool, true, false, Option, Some, is_some, slice_get}
+use Rattle.std.specs.List.{IsDistinct}
+use Rattle.std.specs.Option.{ForSome}
+use Rattle.std.specs.Str.{bytes_eq}
+use Rattle.point_tables.specs.declared.record.PointRecord.{PointRecord}
+use Rattle.point_tables.specs.Accepted.{is_absent}
+use Rattle.point_tables.specs.Names.{is_name}
+use Rattle.candidate_tables.specs.declared.kind.Kind.{Kind}
+use Rattle.candidate_tables.specs.declared.record.CandidateRecord.{CandidateRecord}
+use Rattle.candidate_tables.specs.CandidateTable.{names_of}
+use Rattle.candidate_tables.specs.Kinds.{has_line, is_angle, is_vector, least_square, needs_height, needs_plane}
+use Rattle.candidate_tables.specs.Lines.{length_squared}
+
+-- the number is that of a point, which has the parts that the kind needs
+pub record IsEnd (points : List PointRecord) (kind : Kind) (place : ℕ) : Type 0 where
+  pub point : PointRecord
+  pub is : slice_get points place ≡ Some point
+  pub plane : needs_plane kind ≡ true → is_absent point.plane ≡ false
+  pub height : needs_height kind ≡ true → is_absent point.height ≡ false
+
+-- the line between two points is within the bounds of the kind, if it has any
+pub record IsLine (points : List PointRecord) (kind : Kind) (from to : ℕ) : Type 0 where
+  pub least : has_line kind ≡ true → least_square kind ≤ length_squared points from to
+  pub most : has_line kind ≡ true → length_squared points from to ≤ 10 ^ 16
+
+-- a foresight is a point other than the vertex and the backsight, on a line from the vertex within the bounds
+pub record IsForesightOf (points : List PointRecord) (kind : Kind) (from to foresight : ℕ) : Type 0 where
+  pub end : IsEnd points kind foresight
+  pub other_from : from ≢ foresight
+  pub other_to : to ≢ foresight
+  pub line : IsLine points kind from foresight
+
+-- a standard deviation is from 0.10 to 100.00
+abbrev pub IsBetween : ℕ → Type 0
+IsBetween hundredths = (10 ≤ hundredths) × (hundredths ≤ 10000)
+
+-- the points that are named differ and have the parts that the kind needs, the lines and the figures are within their
+-- bounds, and to2 and sdh are given exactly where the kind has them
+pub record IsCandidateRecord (points : List PointRecord) (candidate : CandidateRecord) : Type 0 where
+  pub name : is_name candidate.name ≡ true
+  pub from : IsEnd points candidate.kind candidate.from
+  pub to : IsEnd points candidate.kind candidate.to
+  pub other : candidate.from ≢ candidate.to
+  pub line : IsLine points candidate.kind candidate.from candidate.to
+  pub has_to2 : is_some candidate.to2 ≡ is_angle candidate.kind
+  pub to2 : ForSome candidate.to2 (IsForesightOf points candidate.kind candidate.from candidate.to)
+  pub sd : IsBetween candidate.sd
+  pub has_sdh : is_some candidate.sdh ≡ is_vector candidate.kind
+  pub sdh : ForSome candidate.sdh IsBetween
+  pub price : candidate.price ≤ 10 ^ 9
+
+-- at most 256 candidates, each of which is one against these points, with names that differ
+pub record AreCandidates (points : List PointRecord) (candidates : List CandidateRecord) : Type 0 where
+  pub few : length candidates ≤ 256
+  pub apart : IsDistinct bytes_eq (names_of candidates)
+  pub each : All (IsCandidateRecord points) candidates

@@ -1,0 +1,170 @@
+-- The candidates table against the points: its rules, its first fault and the candidates that it stands for. This project's own.
+use Rattle.std.specs.Prelude.{ℕ, pos, ◌^◌, List, [], ◌∷◌, ◌++◌, not, ◌&&◌, if◌then◌else◌, codes, drop, map, nat_lt, Option, Some, None, is_none, unsigned_abs, unwrap_or}
+use Rattle.std.specs.List.{list_any}
+use Rattle.std.specs.Option.{option_map_or}
+use Rattle.text_num.specs.Decimal.{decimal_of}
+use Rattle.table_rows.specs.Faults.{Rule, TableRules, first_fault}
+use Rattle.table_rows.specs.Rows.{table_rows}
+use Rattle.point_tables.specs.declared.fault.FaultKind.{FaultKind}
+use Rattle.point_tables.specs.declared.fault.FaultKind.TheVariants as fault
+use Rattle.point_tables.specs.declared.record.PointRecord.{PointRecord}
+use Rattle.point_tables.specs.Columns.{is_empty, name_rules, number_rules, record_rules, rule, text_at}
+use Rattle.point_tables.specs.Names.{is_among}
+use Rattle.point_tables.specs.PointTable as points_table
+use Rattle.candidate_tables.specs.declared.kind.Kind.{Kind}
+use Rattle.candidate_tables.specs.declared.kind.Kind.TheVariants as kind
+use Rattle.candidate_tables.specs.declared.record.CandidateRecord.{CandidateRecord}
+use Rattle.candidate_tables.specs.Kinds.{has_line, is_angle, is_vector, kind_of, least_square, needs_height, needs_plane}
+use Rattle.candidate_tables.specs.Lines.{length_squared}
+use Rattle.candidate_tables.specs.Places.{has_repeat, lacks_height, lacks_plane, named, place_in}
+
+-- the header row
+abbrev pub candidate_header : List (List ℕ)
+candidate_header =
+    codes "name" ∷ codes "kind" ∷ codes "from" ∷ codes "to" ∷ codes "to2" ∷ codes "sd" ∷ codes "sdh" ∷ codes "price" ∷ []
+
+-- the name that a record gives
+abbrev pub name_at : List (List ℕ) → List ℕ
+name_at row = text_at row 0
+
+-- ---- a record read by field
+
+-- the kind of a record, and a distance where its text names none of the kinds
+unfoldable pub kind_at : List (List ℕ) → Kind
+kind_at row = unwrap_or (kind_of (text_at row 1)) kind.Distance
+
+-- the number of the foresight, which an angle alone has
+unfoldable pub foresight_in : List PointRecord → Kind → List ℕ → Option ℕ
+foresight_in points kind text = if is_angle kind then Some (place_in points text) else None
+
+-- a standard deviation in hundredths, and 0 outside the grammar
+unfoldable pub deviation_of : List ℕ → ℕ
+deviation_of text = option_map_or unsigned_abs (decimal_of 2 text) 0
+
+-- the standard deviation of the height, which a vector alone has
+unfoldable pub height_deviation_of : Kind → List ℕ → Option ℕ
+height_deviation_of kind text = if is_vector kind then Some (deviation_of text) else None
+
+-- a price, and 0 outside the grammar
+unfoldable pub price_of : List ℕ → ℕ
+price_of text = option_map_or unsigned_abs (decimal_of 0 text) 0
+
+-- a record read by field, against the points
+unfoldable pub candidate_of : List PointRecord → List (List ℕ) → CandidateRecord
+candidate_of points row = record {
+  name = name_at row;
+  kind = kind_at row;
+  from = place_in points (text_at row 2);
+  to = place_in points (text_at row 3);
+  to2 = foresight_in points (kind_at row) (text_at row 4);
+  sd = deviation_of (text_at row 5);
+  sdh = height_deviation_of (kind_at row) (text_at row 6);
+  price = price_of (text_at row 7);
+}
+
+-- ---- the rules, in their order
+
+-- the kind is one of the five
+unfoldable pub kind_rules : List ℕ → List (Rule FaultKind)
+kind_rules text = rule (is_none (kind_of text)) fault.Kind ∷ []
+
+-- a point has this name
+unfoldable pub point_rules : List PointRecord → List ℕ → List (Rule FaultKind)
+point_rules points text = rule (not (is_among text (points_table.names_of points))) fault.NoPoint ∷ []
+
+-- a point has the name of an angle's foresight
+unfoldable pub foresight_rules : List PointRecord → Kind → List ℕ → List (Rule FaultKind)
+foresight_rules points kind text = if is_angle kind then point_rules points text else []
+
+-- the kind, and then the points that are named: from, to, and for an angle to2
+unfoldable pub end_rules : List PointRecord → List (List ℕ) → List (Rule FaultKind)
+end_rules points row =
+    kind_rules (text_at row 1)
+    ++ (point_rules points (text_at row 2)
+    ++ (point_rules points (text_at row 3)
+    ++ foresight_rules points (kind_at row) (text_at row 4)))
+
+-- to2 is empty but for an angle, and sdh but for a vector
+unfoldable pub extra_rules : Kind → List (List ℕ) → List (Rule FaultKind)
+extra_rules kind row =
+    rule (not (is_angle kind) && not (is_empty (text_at row 4))) fault.Extra
+    ∷ rule (not (is_vector kind) && not (is_empty (text_at row 6))) fault.Extra
+    ∷ []
+
+-- the points that are named differ, and have the parts that the kind needs
+unfoldable pub part_rules : List PointRecord → Kind → List ℕ → List (Rule FaultKind)
+part_rules points kind places =
+    rule (has_repeat places) fault.SamePoint
+    ∷ rule (needs_plane kind && list_any (lacks_plane points) places) fault.NoPlane
+    ∷ rule (needs_height kind && list_any (lacks_height points) places) fault.NoHeight
+    ∷ []
+
+-- a line by the square of its length in mm^2: it isn't too short for the kind, nor longer than 100 km
+unfoldable pub length_rules : Kind → ℕ → List (Rule FaultKind)
+length_rules kind square =
+    rule (has_line kind && nat_lt square (least_square kind)) fault.Near
+    ∷ rule (has_line kind && nat_lt (10 ^ 16) square) fault.Far
+    ∷ []
+
+-- the line between two points
+abbrev pub line_rules : List PointRecord → Kind → ℕ → ℕ → List (Rule FaultKind)
+line_rules points kind from to = length_rules kind (length_squared points from to)
+
+-- the line to the second point, and then the line to the foresight
+unfoldable pub lines_rules : List PointRecord → Kind → ℕ → ℕ → Option ℕ → List (Rule FaultKind)
+lines_rules points kind from to to2 = line_rules points kind from to ++ option_map_or (line_rules points kind from) to2 []
+
+-- the rules on what a record of this kind names: the fields it has not, the points and their parts, the lines
+unfoldable pub place_rules : List PointRecord → List (List ℕ) → Kind → ℕ → ℕ → Option ℕ → List (Rule FaultKind)
+place_rules points row kind from to to2 =
+    extra_rules kind row ++ (part_rules points kind (named from to to2) ++ lines_rules points kind from to to2)
+
+-- a standard deviation has 2 places and is from 0.10 to 100.00
+unfoldable pub deviation_rules : List ℕ → List (Rule FaultKind)
+deviation_rules text = number_rules 2 (pos 10) (pos 10000) text
+
+-- the standard deviation of a vector's height is one
+unfoldable pub height_rules : Kind → List ℕ → List (Rule FaultKind)
+height_rules kind text = if is_vector kind then deviation_rules text else []
+
+-- a price is a whole number from 0 to 1000000000
+unfoldable pub price_rules : List ℕ → List (Rule FaultKind)
+price_rules text = number_rules 0 (pos 0) (pos (10 ^ 9)) text
+
+-- sd, for a vector sdh, and price
+unfoldable pub figure_rules : Kind → List (List ℕ) → List (Rule FaultKind)
+figure_rules kind row = deviation_rules (text_at row 5) ++ (height_rules kind (text_at row 6) ++ price_rules (text_at row 7))
+
+-- the rules on the columns after the name of a record that reads as this candidate
+abbrev pub column_rules : List PointRecord → List (List ℕ) → CandidateRecord → List (Rule FaultKind)
+column_rules points row candidate =
+    end_rules points row
+    ++ (place_rules points row candidate.kind candidate.from candidate.to candidate.to2
+    ++ figure_rules candidate.kind row)
+
+-- the rules of a record by its number and the names of the earlier records
+unfoldable pub rules_after : List PointRecord → ℕ → List (List ℕ) → List (List ℕ) → List (Rule FaultKind)
+rules_after points number row names =
+    record_rules 257 8 number row ++ (name_rules (name_at row) names ++ column_rules points row (candidate_of points row))
+
+-- ---- the table
+
+-- what a candidates table asks: its header row, and in their order the rules of each further record
+abbrev pub candidates_table : List PointRecord → TableRules FaultKind
+candidates_table points = record {
+  header = candidate_header;
+  header_kind = fault.Header;
+  rules = λ number row earlier. rules_after points number row (map name_at earlier);
+}
+
+-- the first fault of a candidates table: the number of its record, counted from 1, and its kind
+unfoldable pub candidates_fault : List PointRecord → List ℕ → Option (ℕ × FaultKind)
+candidates_fault points bytes = first_fault (candidates_table points) bytes
+
+-- the candidates of a table: each record under the header row, read by field
+unfoldable pub candidates_of : List PointRecord → List ℕ → List CandidateRecord
+candidates_of points bytes = map (candidate_of points) (drop 1 (table_rows bytes))
+
+-- the names of candidates, in their order
+abbrev pub names_of : List CandidateRecord → List (List ℕ)
+names_of candidates = map (λ candidate. candidate.name) candidates

@@ -1,0 +1,7 @@
+pub mod Kinds
+pub mod Places
+pub mod Lines
+pub mod CandidateTable
+pub mod Accepted
+pub mod Stored
+pub mod Read

@@ -1,0 +1,47 @@
+-- The whole numbers that stand for the coefficients of distances and directions, and for weights. They come
+-- from the usual bearing equations of plane networks; the units and the rounding are this project's own.
+use Rattle.std.specs.Prelude.{ℕ, zero, suc, ◌+◌, ◌-◌, ◌*◌, ◌^◌, ◌<◌, ◌≤◌, nat_le, Bool, ℤ, pos, negsuc, neg_ℤ, ◌*ℤ◌, ◌≤ℤ◌, unsigned_abs, if◌then◌else◌}
+use Rattle.geo_base.specs.Division.{nearest_of}
+
+abbrev pub square : ℕ → ℕ
+square n = n * n
+
+-- the square of the length of a line with these parts, in square millimetres
+abbrev pub square_length : ℤ → ℤ → ℕ
+square_length dx dy = square (unsigned_abs dx) + square (unsigned_abs dy)
+
+-- (2 c - 1) ^ 2 * D is at most 4 * 10000 ^ 2 * part ^ 2: the ratio of part to the length, times 10000, is c - 1/2 or more
+abbrev pub Reaches : ℕ → ℕ → ℕ → Type 0
+Reaches part length_squared c = square (2 * c - 1) * length_squared ≤ 4 * square 10000 * square part
+
+-- c is 10000 times part over the length of the line, rounded to the nearest, with the sign of part
+pub record IsDistanceCoefficient (part : ℤ) (length_squared : ℕ) (c : ℤ) : Type 0 where
+  pub not_negative : pos 0 ≤ℤ part → pos 0 ≤ℤ c
+  pub not_positive : part ≤ℤ pos 0 → c ≤ℤ pos 0
+  pub reached : 0 < unsigned_abs c → Reaches (unsigned_abs part) length_squared (unsigned_abs c)
+  pub next_above : 4 * square 10000 * square (unsigned_abs part) < square (2 * unsigned_abs c + 1) * length_squared
+
+-- the test of `Reaches`
+abbrev pub reaches : ℕ → ℕ → ℕ → Bool
+reaches part length_squared c = nat_le (square (2 * c - 1) * length_squared) (4 * square 10000 * square part)
+
+-- the greatest number from 1 up to `most` that is reached, or 0
+unfoldable pub greatest_reached : ℕ → ℕ → ℕ → ℕ
+greatest_reached part length_squared zero = 0
+greatest_reached part length_squared (suc most) = if reaches part length_squared (suc most) then suc most else greatest_reached part length_squared most
+
+abbrev pub with_sign_of : ℤ → ℕ → ℤ
+with_sign_of (pos n) size = pos size
+with_sign_of (negsuc n) size = neg_ℤ (pos size)
+
+-- the coefficient of a distance for one part of its line
+unfoldable pub distance_coefficient : ℤ → ℤ → ℤ → ℤ
+distance_coefficient part dx dy = with_sign_of part (greatest_reached (unsigned_abs part) (square_length dx dy) 10000)
+
+-- the coefficient of a direction for one part of its line: 636620 cc are one radian
+unfoldable pub direction_coefficient : ℤ → ℤ → ℤ → ℤ
+direction_coefficient part dx dy = nearest_of (pos 6366200000 *ℤ part) (pos (square_length dx dy))
+
+-- the weight of an observation with a standard deviation of u hundredths
+unfoldable pub weight_for : ℕ → ℤ
+weight_for u = nearest_of (pos (10 ^ 8)) (pos (square u))

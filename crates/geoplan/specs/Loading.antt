@@ -1,0 +1,52 @@
+use Rattle.std.specs.Prelude.{◌≡◌, ℕ, ◌<◌, ◌≤◌, List, length, Option, Some, None}
+use Rattle.std.specs.Option.{ForSome}
+use Rattle.shelf_io.specs.Files.{Files, bytes_of}
+use Rattle.shelf_io.specs.Faults.{Rose, KeepsFaults, read_of}
+use Rattle.branch_bound.specs.Explored.{ShelfState}
+use Rattle.geoplan.specs.CommandOf.{CommandOf}
+use Rattle.geoplan.specs.Input.{most_bytes, input_of}
+use Rattle.geoplan.specs.Narrow.{NarrowOf}
+use Rattle.geoplan.specs.Standing.{IsGoodNetwork}
+use Rattle.geoplan.specs.declared.load.LoadFault.{LoadFault}
+use Rattle.geoplan.specs.declared.load.LoadFault.TheVariants as load
+use Rattle.geoplan.specs.declared.load.ReadFault.{ReadFault}
+use Rattle.geoplan.specs.declared.load.ReadFault.TheVariants as read
+use Rattle.geoplan.specs.declared.load.Table.{Table}
+use Rattle.geoplan.specs.declared.load.Table.TheVariants as table
+
+-- What reading the tables does. This project's own.
+
+-- the bytes that were read are those that the shelf holds, or it holds too many
+abbrev pub HasBytes : List ℕ → Option (List ℕ) → Option Files → Type 0
+HasBytes name None held = ForSome held (λ files. most_bytes < length (bytes_of files name))
+HasBytes name (Some bytes) held = (length bytes ≤ most_bytes) × ForSome held (λ files. bytes ≡ bytes_of files name)
+
+-- a table was read, and no fault was counted
+pub record ReadsTable (name : List ℕ) (bytes : Option (List ℕ)) (before now : ShelfState) : Type 0 where
+  pub has : HasBytes name bytes before.held
+  pub held : now.held ≡ before.held
+  pub quiet : KeepsFaults before.faults now.faults before.last_fault now.last_fault
+
+-- a table was not read: its read failed, or memory ran out
+pub record FailsRead (name : List ℕ) (why : ReadFault) (before now : ShelfState) : Type 0 where
+  pub held : now.held ≡ before.held
+  pub later : before.faults ≤ now.faults
+  pub failed : why ≡ read.Failed → Rose before.faults now.faults × (now.last_fault ≡ Some (read_of name))
+
+-- the name of a table
+abbrev pub name_of : CommandOf → Table → List ℕ
+name_of command table.Points = command.points
+name_of command table.Candidates = command.candidates
+
+-- the tables were read, and no fault was counted
+pub record Loads (command : CommandOf) (tables : Option NarrowOf) (before now : ShelfState) : Type 0 where
+  pub input : ForSome before.held (λ files. tables ≡ input_of command files)
+  pub good : ForSome tables IsGoodNetwork
+  pub held : now.held ≡ before.held
+  pub quiet : KeepsFaults before.faults now.faults before.last_fault now.last_fault
+
+-- the tables were not read: a read of one failed, or memory ran out
+pub record FailsLoad (command : CommandOf) (why : LoadFault) (before now : ShelfState) : Type 0 where
+  pub held : now.held ≡ before.held
+  pub later : before.faults ≤ now.faults
+  pub failed : (which : Table) → why ≡ load.Unread which → Rose before.faults now.faults × (now.last_fault ≡ Some (read_of (name_of command which)))

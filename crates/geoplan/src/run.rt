@@ -1,0 +1,51 @@
+//! A run of the program over any shelf and sink.
+ghost use Rattle.std.specs.Prelude.{◌≡◌};
+ghost use Rattle.branch_bound.specs.Explored.{state_of};
+ghost use Rattle.geoplan.specs.Printing.{sink_state_of, Prints, SaysWords, Runs};
+
+use crate::answer::{Outcome, answer};
+use crate::command::Command;
+use crate::report::words_refusal;
+use crate::status::Status;
+use crate::words::Words;
+use shelf_io::{Shelf, Sink, WriteAnswer};
+use std::alloc::Global;
+
+/// Prints the text of an outcome in one piece, if it has one, and answers the status to end with.
+fn print<O: Sink>(out: &mut O, outcome: Outcome) -> Status
+    ensures { Prints outcome.status outcome.text.items result
+        (sink_state_of O.written O.faults out.old) (sink_state_of O.written O.faults out.new) }
+{
+    if outcome.text.as_slice().is_empty() {
+        return outcome.status;
+    }
+    match out.put(outcome.text.as_slice()) {
+        Ok(()) => outcome.status,
+        Err(WriteAnswer::Failed) => outcome.status.after_failed_put(),
+        Err(WriteAnswer::NoMemory) => Status::NoMemory,
+    }
+}
+
+/// The outcome where the words aren't accepted.
+fn refuse_words(alloc: Global) -> Outcome
+    ensures { SaysWords result.status result.text.items }
+{
+    match words_refusal(alloc) {
+        Ok(text) => Outcome::of(Status::WordsRefused, text),
+        Err(_) => Outcome::silent(alloc, Status::NoMemory),
+    }
+}
+
+/// Runs a command line, and answers the status to end with.
+pub fn run<H: Shelf, O: Sink>(alloc: Global, words: &Words, shelf: &mut H, out: &mut O) -> Status
+    ensures { Runs words.now result
+        (state_of H.held H.faults H.last_fault H.started shelf.old)
+        (state_of H.held H.faults H.last_fault H.started shelf.new)
+        (sink_state_of O.written O.faults out.old) (sink_state_of O.written O.faults out.new) }
+{
+    let outcome = match Command::of(words) {
+        Some(command) => answer(alloc, &command, shelf),
+        None => refuse_words(alloc),
+    };
+    print(out, outcome)
+}

@@ -1,0 +1,44 @@
+//! The program `geoplan`: the top call over the files of the system and the standard output.
+#![tactic(auto)]
+
+use geoplan::{Words, geoplan};
+use shelf_io::{FileShelf, OutSink};
+use std::env;
+use std::io::ErrorKind;
+use std::process::ExitCode;
+
+/// The status where the system doesn't give the words of the command line, or gives too many.
+const NO_WORDS: u8 = 70;
+
+/// The status where there is no memory for them.
+const NO_MEMORY: u8 = 7;
+
+/// The most words of a command line.
+const MOST_WORDS: u32 = 2147483647;
+
+fn main(rt: HostRuntime) -> ExitCode {
+    let alloc = rt.alloc();
+    let args = match env::args(&rt) {
+        Ok(args) => args,
+        Err(refused) => {
+            let status = if refused.kind() == ErrorKind::OutOfMemory {
+                NO_MEMORY
+            } else {
+                NO_WORDS
+            };
+            return ExitCode::from(status);
+        }
+    };
+    let mut words = Words::new(alloc);
+    for arg in args {
+        if words.len() >= MOST_WORDS {
+            return ExitCode::from(NO_WORDS);
+        }
+        if words.add(arg.as_str()).is_err() {
+            return ExitCode::from(NO_MEMORY);
+        }
+    }
+    let mut shelf = FileShelf::new(&rt, alloc);
+    let mut out = OutSink::new(&rt);
+    ExitCode::from(geoplan(alloc, &words, &mut shelf, &mut out))
+}

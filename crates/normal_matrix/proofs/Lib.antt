@@ -1,0 +1,4 @@
+pub mod EnergyForm
+pub mod SumSteps
+pub mod RowSteps
+pub mod PlanSteps

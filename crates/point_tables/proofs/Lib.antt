@@ -1,0 +1,6 @@
+pub mod NameFacts
+pub mod NumberFacts
+pub mod ColumnFacts
+pub mod PlaceFacts
+pub mod StoredFacts
+pub mod RecordFacts

@@ -1,0 +1,6 @@
+pub mod Names
+pub mod Columns
+pub mod PointTable
+pub mod Accepted
+pub mod Stored
+pub mod Read

@@ -1,0 +1,54 @@
+-- What the columns of a record are read as, and what a record adds to the points before it.
+use Rattle.std.specs.Prelude.{ℕ, ℤ, ◌≡◌, List, [], ◌∷◌, ◌++◌, Bool, true, false, not, ◌&&◌, ◌||◌, Option, Some, None, is_none, Result, Ok, Err}
+use Rattle.table_rows.specs.Faults.{Rule, first_broken}
+use Rattle.point_tables.specs.declared.columns.Columns.{Columns}
+use Rattle.point_tables.specs.declared.fault.FaultKind.{FaultKind}
+use Rattle.point_tables.specs.declared.fault.TableAnswer.{TableAnswer}
+use Rattle.point_tables.specs.declared.fault.TableAnswer.TheVariants as answer
+use Rattle.point_tables.specs.declared.fault.TableName.TheVariants as table
+use Rattle.point_tables.specs.declared.part.Part.{Part}
+use Rattle.point_tables.specs.declared.record.PointRecord.{PointRecord}
+use Rattle.point_tables.specs.Accepted.{IsCoordinate, IsPart, is_absent}
+use Rattle.point_tables.specs.Columns.{is_empty, text_at}
+use Rattle.point_tables.specs.Names.{is_among, is_name}
+use Rattle.point_tables.specs.PointTable.{coordinate_of, part_of}
+
+-- a coordinate is that of a text, within its bounds, and there is none only where the text is empty
+pub record IsCoordinateOf (text : List ℕ) (given : Option ℤ) : Type 0 where
+  pub value : given ≡ coordinate_of text
+  pub bound : IsCoordinate given
+  pub empty : is_none given ≡ is_empty text
+
+-- a part is that of a text, its limit is within its bounds, and it is absent only where the text is empty
+pub record IsPartOf (text : List ℕ) (given : Part) : Type 0 where
+  pub value : given ≡ part_of text
+  pub bound : IsPart given
+  pub empty : is_absent given ≡ is_empty text
+
+-- whether a part lacks a coordinate that it needs
+abbrev pub has_missing : Columns → Bool
+has_missing columns =
+    (not (is_absent columns.plane) && (is_none columns.x || is_none columns.y)) || (not (is_absent columns.height) && is_none columns.z)
+
+-- the columns of a record, none of which is missing
+pub record IsColumns (row : List (List ℕ)) (columns : Columns) : Type 0 where
+  pub x : IsCoordinateOf (text_at row 1) columns.x
+  pub y : IsCoordinateOf (text_at row 2) columns.y
+  pub z : IsCoordinateOf (text_at row 3) columns.z
+  pub plane : IsPartOf (text_at row 4) columns.plane
+  pub height : IsPartOf (text_at row 5) columns.height
+  pub complete : has_missing columns ≡ false
+
+-- a name is this text, and no other point has it
+pub record IsNewName (text : List ℕ) (names : List (List ℕ)) (name : List ℕ) : Type 0 where
+  pub same : name ≡ text
+  pub is_one : is_name text ≡ true
+  pub other : is_among text names ≡ false
+
+-- the record of this number breaks none of its rules and its point is added, or the kind is that of the first rule that
+-- it breaks, or memory ran out
+abbrev pub Adds : ℕ → List (Rule FaultKind) → PointRecord → List PointRecord → List PointRecord → Result Unit TableAnswer → Type 0
+Adds number rules point before after (Ok done) = (first_broken rules ≡ None) × (after ≡ before ++ point ∷ [])
+Adds number rules point before after (Err (answer.Fault found)) =
+    (first_broken rules ≡ Some found.kind) × (found.number ≡ number) × (found.table ≡ table.Points)
+Adds number rules point before after (Err answer.NoMemory) = Unit {0}

@@ -1,0 +1,6 @@
+pub mod Appending
+pub mod Digits
+pub mod Grammar
+pub mod Reading
+pub mod WholeText
+pub mod Writing

@@ -1,0 +1,13 @@
+-- The text of a whole number: its decimal digits without a leading zero, after `-` where it is negative.
+-- It is the text that Rust writes for a number.
+use Rattle.std.specs.Prelude.{◌≡◌, ℕ, suc, ℤ, pos, negsuc, List, ◌∷◌, ◌⊎◌}
+use Rattle.std.specs.Int.{IsInRange}
+use Rattle.std.specs.Fmt.{decimal}
+
+unfoldable pub whole_text : ℤ → List ℕ
+whole_text (pos n) = decimal n
+whole_text (negsuc n) = 45 ∷ decimal (suc n)
+
+-- the byte is a digit or `-`
+abbrev pub IsDigitOrMinus : ℕ → Type 0
+IsDigitOrMinus c = IsInRange 48 57 c ⊎ (c ≡ 45)

@@ -1,0 +1,37 @@
+use crate::{put_decimal, put_whole, read_decimal};
+use std::test::Fail;
+
+#[test]
+fn known_numbers(rt: HostRuntime) {
+    assert_eq!(rt; read_decimal(b"-0.5", 1), Some(-5));
+    assert_eq!(rt; read_decimal(b"+12", 3), Some(12000));
+    assert_eq!(rt; read_decimal(b"007.250", 2), Some(725));
+    assert_eq!(rt; read_decimal(b"5.0", 0), Some(5));
+    assert_eq!(rt; read_decimal(b"5.1", 0), None);
+    assert_eq!(rt; read_decimal(b"7.", 3), None);
+    assert_eq!(rt; read_decimal(b".5", 3), None);
+    assert_eq!(rt; read_decimal(b"1e3", 3), None);
+    assert_eq!(rt; read_decimal(b"", 3), None);
+    assert_eq!(rt; read_decimal(b"-", 3), None);
+    assert_eq!(rt; read_decimal(b"999999999999.999", 3), Some(999999999999999));
+    assert_eq!(rt; read_decimal(b"1000000000000", 0), None);
+}
+
+#[test]
+fn known_texts(rt: HostRuntime) -> Result<(), Fail> {
+    let mut out = Vec::new(rt.alloc());
+    put_decimal(&mut out, -5, 1)?;
+    out.push(b' ')?;
+    put_decimal(&mut out, 12034, 3)?;
+    out.push(b' ')?;
+    put_decimal(&mut out, 7, 0)?;
+    out.push(b' ')?;
+    put_whole(&mut out, -170141183460469231731687303715884105728)?;
+    out.push(b' ')?;
+    put_whole(&mut out, 0)?;
+    assert_eq!(rt;
+        out.as_slice(),
+        b"-0.5 12.034 7 -170141183460469231731687303715884105728 0".as_slice()
+    );
+    Ok(())
+}
