@@ -1,0 +1,11 @@
+pub mod Decided
+pub mod ScaleLaws
+pub mod Products
+pub mod Entries
+pub mod LeftOverLaws
+pub mod RowTests
+pub mod CertificateLaws
+pub mod FormBounds
+pub mod DividedLaws
+pub mod ChainSoFar
+pub mod LowerEntries

@@ -1,0 +1,23 @@
+use Rattle.std.proofs.Common.{◌≡◌, suc, ◌+◌, get_or, map, pos, neg_ℤ, ◌-ℤ◌, ◌*ℤ◌, ◌∙◌, ap, arith, FitsSigned}
+use Rattle.std.specs.Int.{w128}
+use Rattle.std.proofs.lemmas.Int.{ints, to_z-of_z}
+use Rattle.whole_algebra.specs.Sums.{int_sum}
+use Rattle.whole_algebra.specs.Rounding.{gap_over}
+use Rattle.psd_cert.proofs.Products.{in_range}
+use Rattle.psd_cert.proofs.LowerEntries.{slack_is, rest_is_beside, rest_length}
+use Rattle.psd_cert.proofs.lower.slack.Goals as goal
+
+pub returns-clause-value : goal.returns-clause-value
+returns-clause-value c =
+    let p = get_or c.args.first.now (c.args.i + 1) (pos 0) in
+    let f : FitsSigned w128 p = in_range p (let w = c.requires.fits (c.args.i + 1) (pos 0) (omega (arith, c.requires.within)) in omega arith) in
+    let v = simp (to_z-of_z, f, c.ranges.s) at c.gaps.ensures.value in
+    let w = simp (to_z-of_z, f, c.ranges.s) at c.gap.ensures.value in
+    let g : FitsSigned w128 c.gaps.result = record { sfits = c.gaps.type_inv } in
+    let k : FitsSigned w128 c.gap.result = record { sfits = c.gap.type_inv } in
+    let h : FitsSigned w128 (c.gaps.result -ℤ c.gap.result) = in_range (c.gaps.result -ℤ c.gap.result)
+    (omega (arith, ints, c.gaps.ensures.low, c.gaps.ensures.high, c.gap.ensures.low, c.gap.ensures.high, rest_length c.args.first.now, c.requires.few)) in
+    let one_more : c.args.i + 1 ≡ suc c.args.i = omega arith in
+    simp (to_z-of_z, g, k, h)
+    (slack_is c.args.s c.args.first.now c.args.i c.gaps.result c.gap.result p (ap (λ j. get_or c.args.first.now j (pos 0)) one_more)
+    (v ∙ ap (λ b. int_sum (map (λ x. gap_over c.args.s (neg_ℤ (p *ℤ x))) b)) (rest_is_beside c.args.first.now)) w)

@@ -1,0 +1,4 @@
+pub mod Limit
+pub mod Certificate
+pub mod LeftOver
+pub mod Lower

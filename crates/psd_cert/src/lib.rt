@@ -1,0 +1,15 @@
+//! Certificates by dominance: smaller and smaller matrices that show a quadratic form to be nowhere
+//! negative.
+#![tactic(auto)]
+
+mod limit;
+mod lower;
+mod product;
+mod square_cert;
+mod step;
+#[cfg(test)]
+mod tests;
+
+pub use limit::fits;
+pub use square_cert::{SquareCert, holds};
+pub use step::step_holds;
