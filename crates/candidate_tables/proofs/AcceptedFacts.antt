@@ -83,10 +83,11 @@ named-apart from to None e =
 named-apart from to (Some foresight) e =
     let (first, rest) = or-false (eqb from to || (eqb from foresight || false)) ((eqb to foresight || false) || (false || false)) e in
     let (near, far) = or-false (eqb from to) (eqb from foresight || false) first in
-    let (second, last) = or-false (eqb to foresight || false) (false || false) rest in
-    (eqb-false from to near,
+    let (second, last) = or-false (eqb to foresight || false) (false || false) rest in (
+      eqb-false from to near,
       λ x f. let same : foresight ≡ x = cc f in
-        rw (← same) (eqb-false from foresight (or-false (eqb from foresight) false far).0, eqb-false to foresight (or-false (eqb to foresight) false second).0))
+          rw (← same) (eqb-false from foresight (or-false (eqb from foresight) false far).0, eqb-false to foresight (or-false (eqb to foresight) false second).0),
+    )
 
 -- ---- the points that are named
 
@@ -145,9 +146,10 @@ lines-of : (points : List PointRecord) (kind : Kind) (from to : ℕ) (to2 : Opti
     → IsLine points kind from to × ForSome to2 (IsLine points kind from)
 unfolding lines_rules
 lines-of points kind from to to2 e =
-    let (first, second) = both-kept _ _ e in
-    (line-of points kind from to first,
-      λ foresight is. line-of points kind from foresight (subst (λ (o : Option ℕ). first_broken (option_map_or (line_rules points kind from) o []) ≡ None) is second))
+    let (first, second) = both-kept _ _ e in (
+      line-of points kind from to first,
+      λ foresight is. line-of points kind from foresight (subst (λ (o : Option ℕ). first_broken (option_map_or (line_rules points kind from) o []) ≡ None) is second),
+    )
 
 -- the points that are named, where they and their parts break no rule
 record PartsKept (points : List PointRecord) (kind : Kind) (from to : ℕ) (to2 : Option ℕ) : Type 0 where

@@ -22,7 +22,7 @@ use Rattle.candidate_tables.specs.Read.{Adds, AreColumns, AreFigures, IsEnds}
 -- the rules on what a record names, by what was read
 same-places : (points : List PointRecord) (row : List (List ℕ)) (ends : Ends) → IsEnds points row ends
     → place_rules points row ends.kind ends.from ends.to ends.to2
-        ≡ place_rules points row (candidate_of points row).kind (candidate_of points row).from (candidate_of points row).to (candidate_of points row).to2
+    ≡ place_rules points row (candidate_of points row).kind (candidate_of points row).from (candidate_of points row).to (candidate_of points row).to2
 unfolding candidate_of
 same-places points row ends is = rw (is.kind, is.from, is.to, is.to2) refl
 
