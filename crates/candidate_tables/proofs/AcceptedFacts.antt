@@ -1,8 +1,8 @@
 -- What holds of a record that breaks no rule, and of the candidates of a table without a fault.
-use Rattle.std.proofs.Common.{◌≡◌, ◌≢◌, ◌∙◌, ◌+◌, ◌<◌, ◌≤◌, ◌^◌, ℕ, zero, suc, ℤ, pos, Bool, true, false, List, [], ◌∷◌, ◌++◌, Option, Some, None, length, map, refl, sym, ap, arith, not, ◌&&◌, ◌||◌, eqb, subst, length-append}
-use Rattle.std.specs.Prelude.{◌≤ℤ◌, All, if◌then◌else◌, int_le, is_none, is_some, nat_lt, option_map, slice_get, unsigned_abs, unwrap_or}
-use Rattle.std.specs.List.{AllByRecursion, IsDistinct, list_any}
-use Rattle.std.specs.Option.{ForSome, option_map_or, option_or, option_to_list}
+use Rattle.std.proofs.Common.{◌≡◌, ◌≢◌, ◌∙◌, ◌+◌, ◌≤◌, ◌^◌, ℕ, ℤ, pos, Bool, true, false, List, [], ◌∷◌, ◌++◌, Option, Some, None, length, refl, sym, ap, arith, not, ◌&&◌, ◌||◌, eqb, subst, length-append}
+use Rattle.std.specs.Prelude.{◌≤ℤ◌, if◌then◌else◌, int_le, is_none, is_some, option_map, slice_get, unsigned_abs}
+use Rattle.std.specs.List.{IsDistinct, list_any}
+use Rattle.std.specs.Option.{ForSome, option_map_or, option_or}
 use Rattle.std.specs.Str.{bytes_eq}
 use Rattle.std.proofs.lemmas.Bool.{and_parts, eqb-false}
 use Rattle.std.proofs.lemmas.Bool.Decides.{nat_tests}
@@ -16,7 +16,6 @@ use Rattle.point_tables.proofs.RecordFacts.{record-few}
 use Rattle.text_num.specs.Decimal.{decimal_of}
 use Rattle.table_rows.specs.Faults.{Rule, first_broken}
 use Rattle.table_rows.proofs.FaultFacts.{first_broken-append}
-use Rattle.point_tables.specs.declared.fault.FaultKind.{FaultKind}
 use Rattle.point_tables.specs.declared.record.PointRecord.{PointRecord}
 use Rattle.point_tables.specs.Accepted.{is_absent}
 use Rattle.point_tables.specs.Columns.{is_outside, name_rules, number_rules, text_at}
@@ -25,10 +24,9 @@ use Rattle.point_tables.specs.PointTable as points_table
 use Rattle.point_tables.proofs.PlaceFacts.{among-is, place-at}
 use Rattle.candidate_tables.specs.declared.kind.Kind.{Kind}
 use Rattle.candidate_tables.specs.declared.record.CandidateRecord.{CandidateRecord}
-use Rattle.candidate_tables.specs.Accepted.{AreCandidates, IsBetween, IsCandidateRecord, IsEnd, IsForesightOf, IsLine}
-use Rattle.candidate_tables.specs.CandidateTable.{candidate_of, deviation_of, deviation_rules, end_rules, extra_rules, figure_rules, foresight_in, foresight_rules, height_deviation_of, height_rules, kind_at, length_rules, line_rules, lines_rules, name_at, names_of, part_rules, place_rules, point_rules, price_of, price_rules, rules_after}
-use Rattle.candidate_tables.specs.Kinds.{has_line, is_angle, is_vector, least_square, needs_height, needs_plane}
-use Rattle.candidate_tables.specs.Lines.{length_squared}
+use Rattle.candidate_tables.specs.Accepted.{AreCandidates, IsBetween, IsCandidateRecord, IsEnd, IsLine}
+use Rattle.candidate_tables.specs.CandidateTable.{candidate_of, deviation_of, deviation_rules, end_rules, figure_rules, foresight_in, foresight_rules, height_deviation_of, height_rules, kind_at, length_rules, line_rules, lines_rules, name_at, names_of, part_rules, place_rules, point_rules, price_of, price_rules, rules_after}
+use Rattle.candidate_tables.specs.Kinds.{has_line, is_angle, is_vector, needs_height, needs_plane}
 use Rattle.candidate_tables.specs.Places.{has_repeat, lacks_height, lacks_plane, named, place_in}
 
 -- ---- no rule is broken

@@ -1,4 +1,4 @@
-use Rattle.std.proofs.Common.{◌≡◌, ◌∙◌, ◌+◌, ◌*◌, ◌-ℤ◌, ◌<◌, ◌≤◌, ◌^◌, FitsSigned, ap, ap₂, rules, w64, ℕ, ℤ, arith}
+use Rattle.std.proofs.Common.{◌≡◌, ◌∙◌, ◌+◌, ◌*◌, ◌-ℤ◌, ap₂, ℕ, ℤ}
 use Rattle.std.specs.Prelude.{unsigned_abs}
 use Rattle.candidate_tables.specs.Lines.{x_at, y_at}
 use Rattle.candidate_tables.proofs.PlaceFacts.{difference-is, squared-is}
