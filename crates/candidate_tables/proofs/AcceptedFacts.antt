@@ -1,8 +1,8 @@
 -- What holds of a record that breaks no rule, and of the candidates of a table without a fault.
-use Rattle.std.proofs.Common.{◌≡◌, ◌≢◌, ◌∙◌, ◌+◌, ◌<◌, ◌≤◌, ◌^◌, ℕ, zero, suc, ℤ, pos, Bool, true, false, List, [], ◌∷◌, ◌++◌, Option, Some, None, length, map, refl, sym, ap, arith, not, ◌&&◌, ◌||◌, eqb, subst, length-append}
-use Rattle.std.specs.Prelude.{◌≤ℤ◌, All, if◌then◌else◌, int_le, is_none, is_some, nat_lt, option_map, slice_get, unsigned_abs, unwrap_or}
-use Rattle.std.specs.List.{AllByRecursion, IsDistinct, list_any}
-use Rattle.std.specs.Option.{ForSome, option_map_or, option_or, option_to_list}
+use Rattle.std.proofs.Common.{◌≡◌, ◌≢◌, ◌∙◌, ◌+◌, ◌≤◌, ◌^◌, ℕ, ℤ, pos, Bool, true, false, List, [], ◌∷◌, ◌++◌, Option, Some, None, length, refl, sym, ap, arith, not, ◌&&◌, ◌||◌, eqb, subst, length-append}
+use Rattle.std.specs.Prelude.{◌≤ℤ◌, if◌then◌else◌, int_le, is_none, is_some, option_map, slice_get, unsigned_abs}
+use Rattle.std.specs.List.{IsDistinct, list_any}
+use Rattle.std.specs.Option.{ForSome, option_map_or, option_or}
 use Rattle.std.specs.Str.{bytes_eq}
 use Rattle.std.proofs.lemmas.Bool.{and_parts, eqb-false}
 use Rattle.std.proofs.lemmas.Bool.Decides.{nat_tests}
@@ -16,7 +16,6 @@ use Rattle.point_tables.proofs.RecordFacts.{record-few}
 use Rattle.text_num.specs.Decimal.{decimal_of}
 use Rattle.table_rows.specs.Faults.{Rule, first_broken}
 use Rattle.table_rows.proofs.FaultFacts.{first_broken-append}
-use Rattle.point_tables.specs.declared.fault.FaultKind.{FaultKind}
 use Rattle.point_tables.specs.declared.record.PointRecord.{PointRecord}
 use Rattle.point_tables.specs.Accepted.{is_absent}
 use Rattle.point_tables.specs.Columns.{is_outside, name_rules, number_rules, text_at}
@@ -25,10 +24,9 @@ use Rattle.point_tables.specs.PointTable as points_table
 use Rattle.point_tables.proofs.PlaceFacts.{among-is, place-at}
 use Rattle.candidate_tables.specs.declared.kind.Kind.{Kind}
 use Rattle.candidate_tables.specs.declared.record.CandidateRecord.{CandidateRecord}
-use Rattle.candidate_tables.specs.Accepted.{AreCandidates, IsBetween, IsCandidateRecord, IsEnd, IsForesightOf, IsLine}
-use Rattle.candidate_tables.specs.CandidateTable.{candidate_of, deviation_of, deviation_rules, end_rules, extra_rules, figure_rules, foresight_in, foresight_rules, height_deviation_of, height_rules, kind_at, length_rules, line_rules, lines_rules, name_at, names_of, part_rules, place_rules, point_rules, price_of, price_rules, rules_after}
-use Rattle.candidate_tables.specs.Kinds.{has_line, is_angle, is_vector, least_square, needs_height, needs_plane}
-use Rattle.candidate_tables.specs.Lines.{length_squared}
+use Rattle.candidate_tables.specs.Accepted.{AreCandidates, IsBetween, IsCandidateRecord, IsEnd, IsLine}
+use Rattle.candidate_tables.specs.CandidateTable.{candidate_of, deviation_of, deviation_rules, end_rules, figure_rules, foresight_in, foresight_rules, height_deviation_of, height_rules, kind_at, length_rules, line_rules, lines_rules, name_at, names_of, part_rules, place_rules, point_rules, price_of, price_rules, rules_after}
+use Rattle.candidate_tables.specs.Kinds.{has_line, is_angle, is_vector, needs_height, needs_plane}
 use Rattle.candidate_tables.specs.Places.{has_repeat, lacks_height, lacks_plane, named, place_in}
 
 -- ---- no rule is broken
@@ -83,10 +81,11 @@ named-apart from to None e =
 named-apart from to (Some foresight) e =
     let (first, rest) = or-false (eqb from to || (eqb from foresight || false)) ((eqb to foresight || false) || (false || false)) e in
     let (near, far) = or-false (eqb from to) (eqb from foresight || false) first in
-    let (second, last) = or-false (eqb to foresight || false) (false || false) rest in
-    (eqb-false from to near,
+    let (second, last) = or-false (eqb to foresight || false) (false || false) rest in (
+      eqb-false from to near,
       λ x f. let same : foresight ≡ x = cc f in
-        rw (← same) (eqb-false from foresight (or-false (eqb from foresight) false far).0, eqb-false to foresight (or-false (eqb to foresight) false second).0))
+          rw (← same) (eqb-false from foresight (or-false (eqb from foresight) false far).0, eqb-false to foresight (or-false (eqb to foresight) false second).0),
+    )
 
 -- ---- the points that are named
 
@@ -145,9 +144,10 @@ lines-of : (points : List PointRecord) (kind : Kind) (from to : ℕ) (to2 : Opti
     → IsLine points kind from to × ForSome to2 (IsLine points kind from)
 unfolding lines_rules
 lines-of points kind from to to2 e =
-    let (first, second) = both-kept _ _ e in
-    (line-of points kind from to first,
-      λ foresight is. line-of points kind from foresight (subst (λ (o : Option ℕ). first_broken (option_map_or (line_rules points kind from) o []) ≡ None) is second))
+    let (first, second) = both-kept _ _ e in (
+      line-of points kind from to first,
+      λ foresight is. line-of points kind from foresight (subst (λ (o : Option ℕ). first_broken (option_map_or (line_rules points kind from) o []) ≡ None) is second),
+    )
 
 -- the points that are named, where they and their parts break no rule
 record PartsKept (points : List PointRecord) (kind : Kind) (from to : ℕ) (to2 : Option ℕ) : Type 0 where

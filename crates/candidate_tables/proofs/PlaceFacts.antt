@@ -1,7 +1,6 @@
 -- The points that a record names: their coordinates, their parts, and which rule on them is broken first.
-use Rattle.std.proofs.Common.{FitsSigned, to_z, of_z, w64, arith,◌≡◌, ◌∙◌, ◌<◌, ◌≤◌, ◌^◌, ℕ, ℤ, pos, Bool, true, false, List, [], ◌∷◌, ◌++◌, Option, Some, None, refl, sym, ap}
+use Rattle.std.proofs.Common.{FitsSigned, to_z, of_z, w64, arith, ◌≡◌, ◌∙◌, ◌<◌, ◌≤◌, ◌^◌, ℕ, ℤ, pos, List, [], ◌++◌, Option, Some, None, refl, sym}
 use Rattle.std.specs.Prelude.{◌-ℤ◌, slice_get, unwrap_or, unsigned_abs}
-use Rattle.std.specs.Option.{option_map_or}
 use Rattle.std.proofs.lemmas.Int.{ints, to_z-of_z, fits_signed_from_abs}
 use Rattle.table_rows.specs.Faults.{Rule, first_broken}
 use Rattle.table_rows.proofs.FaultFacts.{first_broken-left, first_broken-right}

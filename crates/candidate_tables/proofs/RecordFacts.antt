@@ -1,5 +1,5 @@
 -- Which rule of a record is broken first, and the candidate that a record gives.
-use Rattle.std.proofs.Common.{◌≡◌, ◌∙◌, ◌+◌, ℕ, List, [], ◌∷◌, ◌++◌, Option, Some, None, length, map, refl, sym, ap, subst}
+use Rattle.std.proofs.Common.{◌≡◌, ◌∙◌, ◌+◌, ℕ, List, [], ◌∷◌, Option, Some, None, length, map, refl, sym, ap, subst}
 use Rattle.std.specs.Prelude.{Err}
 use Rattle.std.proofs.lemmas.List.{length-map}
 use Rattle.table_rows.specs.Faults.{Rule, first_broken}
@@ -14,7 +14,7 @@ use Rattle.candidate_tables.specs.declared.ends.Ends.{Ends}
 use Rattle.candidate_tables.specs.declared.figures.Figures.{Figures}
 use Rattle.candidate_tables.specs.declared.kind.Kind.{Kind}
 use Rattle.candidate_tables.specs.declared.record.CandidateRecord.{CandidateRecord}
-use Rattle.candidate_tables.specs.CandidateTable.{candidate_of, candidates_table, column_rules, end_rules, figure_rules, height_deviation_of, kind_at, name_at, names_of, place_rules, rules_after}
+use Rattle.candidate_tables.specs.CandidateTable.{candidate_of, candidates_table, column_rules, end_rules, figure_rules, name_at, names_of, place_rules, rules_after}
 use Rattle.candidate_tables.specs.Read.{Adds, AreColumns, AreFigures, IsEnds}
 
 -- ---- the columns after the name, one part after the other
@@ -22,7 +22,7 @@ use Rattle.candidate_tables.specs.Read.{Adds, AreColumns, AreFigures, IsEnds}
 -- the rules on what a record names, by what was read
 same-places : (points : List PointRecord) (row : List (List ℕ)) (ends : Ends) → IsEnds points row ends
     → place_rules points row ends.kind ends.from ends.to ends.to2
-        ≡ place_rules points row (candidate_of points row).kind (candidate_of points row).from (candidate_of points row).to (candidate_of points row).to2
+    ≡ place_rules points row (candidate_of points row).kind (candidate_of points row).from (candidate_of points row).to (candidate_of points row).to2
 unfolding candidate_of
 same-places points row ends is = rw (is.kind, is.from, is.to, is.to2) refl
 

@@ -1,8 +1,7 @@
 -- Which rule of a column is broken first, and what the column is read as.
-use Rattle.std.proofs.Common.{◌≡◌, ◌∙◌, ◌<◌, ◌≤◌, ◌^◌, ℕ, ℤ, pos, Bool, true, false, List, [], ◌∷◌, ◌++◌, Option, Some, None, length, map, refl, sym, ap, arith}
-use Rattle.std.specs.Prelude.{◌≤ℤ◌, is_some, is_none, slice_get, unsigned_abs}
-use Rattle.std.specs.Option.{ForSome, option_map_or}
-use Rattle.std.proofs.lemmas.Int.{ints}
+use Rattle.std.proofs.Common.{◌≡◌, ◌∙◌, ◌<◌, ◌^◌, ℕ, ℤ, pos, true, false, List, ◌++◌, Option, Some, None, length, refl, ap, arith}
+use Rattle.std.specs.Prelude.{slice_get, unsigned_abs}
+use Rattle.std.specs.Option.{option_map_or}
 use Rattle.std.proofs.lemmas.List.{length-map}
 use Rattle.std.proofs.lemmas.Option.{slice_get_within}
 use Rattle.text_num.specs.Decimal.{decimal_of}

@@ -1,12 +1,11 @@
 -- The candidates of the records that were read so far.
-use Rattle.std.proofs.Common.{◌≡◌, ◌∙◌, ◌+◌, ℕ, List, [], ◌∷◌, ◌++◌, Option, Some, None, length, map, refl, sym, ap}
-use Rattle.std.specs.Prelude.{Err, Ok}
+use Rattle.std.proofs.Common.{◌≡◌, ◌∙◌, ◌+◌, ℕ, List, [], ◌∷◌, ◌++◌, Some, None, length, map, refl, sym, ap}
+use Rattle.std.specs.Prelude.{Err}
 use Rattle.std.proofs.lemmas.List.{length-map, map-append}
 use Rattle.table_rows.specs.Faults.{first_broken}
 use Rattle.table_rows.specs.Header.{rows_under}
 use Rattle.table_rows.proofs.FaultFacts.{CleanSoFar, clean-next, clean-start, first_fault-found, first_fault-header, first_fault-none}
 use Rattle.table_rows.proofs.HeaderFacts.{under-rest}
-use Rattle.point_tables.specs.declared.fault.FaultKind.{FaultKind}
 use Rattle.point_tables.specs.declared.fault.FaultKind.TheVariants as fault
 use Rattle.point_tables.specs.declared.fault.TableAnswer.{TableAnswer}
 use Rattle.point_tables.specs.declared.fault.TableName.TheVariants as table

@@ -1,5 +1,5 @@
 -- The lines between points. The length is that of plane geometry; the bounds elsewhere are this project's own.
-use Rattle.std.specs.Prelude.{ℕ, ◌+◌, ◌*◌, ℤ, pos, ◌-ℤ◌, List, Option, None, Some, slice_get, unwrap_or, option_and_then, unsigned_abs}
+use Rattle.std.specs.Prelude.{ℕ, ◌+◌, ◌*◌, ℤ, pos, ◌-ℤ◌, List, slice_get, unwrap_or, option_and_then, unsigned_abs}
 use Rattle.point_tables.specs.declared.record.PointRecord.{PointRecord}
 
 -- the coordinates of the point of this number in mm, and 0 where it has none

@@ -1,5 +1,5 @@
 -- What the columns of a record are read as, and what a record adds to the candidates before it.
-use Rattle.std.specs.Prelude.{ℕ, ◌≡◌, ◌<◌, ◌≤◌, ◌^◌, List, [], ◌∷◌, ◌++◌, length, true, false, Option, Some, None, Result, Ok, Err}
+use Rattle.std.specs.Prelude.{ℕ, ◌≡◌, ◌<◌, List, [], ◌∷◌, ◌++◌, length, true, false, Option, Some, None, Result, Ok, Err}
 use Rattle.std.specs.Option.{ForSome}
 use Rattle.table_rows.specs.Faults.{Rule, first_broken}
 use Rattle.point_tables.specs.declared.fault.FaultKind.{FaultKind}

@@ -9,6 +9,7 @@ use table_rows::TableRow;
 
 // The bounds of a standard deviation, in hundredths of a millimetre or of a cc.
 const LEAST_DEVIATION: i64 = 10;
+
 const MOST_DEVIATION: i64 = 10_000;
 // The largest price.
 const MOST_PRICE: i64 = 1_000_000_000;

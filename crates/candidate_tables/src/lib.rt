@@ -5,6 +5,7 @@ mod candidates;
 mod ends;
 mod figures;
 mod kind;
+mod laws;
 mod line;
 mod places;
 mod read;
@@ -12,5 +13,9 @@ mod record;
 
 pub use candidates::Candidates;
 pub use kind::Kind;
+pub use laws::first_candidate_fault_is_least;
 pub use read::read_candidates;
 pub use record::CandidateRecord;
+
+#[cfg(test)]
+mod tests;

@@ -9,7 +9,9 @@ use crate::candidates::Candidates;
 use crate::ends::{Ends, read_ends};
 use crate::figures::{Figures, read_figures};
 use crate::record::CandidateRecord;
-use point_tables::{FaultKind, Name, Points, TableAnswer, TableFault, TableName, broken_record, name_text};
+use point_tables::{
+    FaultKind, Name, Points, TableAnswer, TableFault, TableName, broken_record, name_text,
+};
 use std::alloc::Global;
 use table_rows::{TableRow, TableRows};
 

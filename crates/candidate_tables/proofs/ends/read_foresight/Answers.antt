@@ -1,4 +1,4 @@
-use Rattle.std.proofs.Common.{◌≡◌, ◌∙◌, sym, ap, true, false}
+use Rattle.std.proofs.Common.{◌≡◌, ◌∙◌, sym, ap, true}
 use Rattle.table_rows.specs.Faults.{first_broken}
 use Rattle.candidate_tables.specs.Kinds.{is_angle}
 use Rattle.candidate_tables.proofs.RuleFacts.{foresight-found, foresight-other, foresight-rules}

@@ -1,7 +1,7 @@
-use Rattle.std.proofs.Common.{◌≡◌, ◌∙◌, ◌+◌, ◌<◌, ℕ, List, Some, None, length, refl, sym, ap, arith, ◌++◌, ◌∷◌, []}
+use Rattle.std.proofs.Common.{◌≡◌, ◌∙◌, ◌+◌, Some, None, length, refl, sym, ap, arith, ◌++◌, ◌∷◌, []}
 use Rattle.table_rows.specs.Faults.{first_broken}
 use Rattle.candidate_tables.specs.declared.record.CandidateRecord.{CandidateRecord}
-use Rattle.point_tables.specs.Columns.{name_rules, record_rules}
+use Rattle.point_tables.specs.Columns.{name_rules}
 use Rattle.candidate_tables.specs.CandidateTable.{name_at, names_of}
 use Rattle.point_tables.proofs.ColumnFacts.{at-field}
 use Rattle.point_tables.proofs.RecordFacts.{record-few}

@@ -1,5 +1,4 @@
-use Rattle.std.proofs.Common.{◌≡◌, List, ℕ, length, map}
-use Rattle.candidate_tables.specs.CandidateTable.{candidate_of, candidates_table}
+use Rattle.std.proofs.Common.{length}
 use Rattle.candidate_tables.proofs.TableFacts.{ReadSoFar}
 use Rattle.candidate_tables.proofs.read.read_candidates.Given as goal
 

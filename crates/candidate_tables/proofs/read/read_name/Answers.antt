@@ -1,6 +1,6 @@
-use Rattle.std.proofs.Common.{◌≡◌, ◌∙◌, ℕ, Option, Some, None, sym, ap, true, false}
+use Rattle.std.proofs.Common.{◌≡◌, ◌∙◌, sym, ap, true, false}
 use Rattle.std.specs.Prelude.{is_some}
-use Rattle.point_tables.specs.Names.{is_among, place_of}
+use Rattle.point_tables.specs.Names.{is_among}
 use Rattle.candidate_tables.specs.CandidateTable.{names_of}
 use Rattle.point_tables.proofs.PlaceFacts.{among-is}
 use Rattle.point_tables.proofs.RecordFacts.{name-new, name-none, name-twice}

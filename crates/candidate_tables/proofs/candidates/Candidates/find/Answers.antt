@@ -1,7 +1,5 @@
-use Rattle.std.proofs.Common.{◌≡◌, ◌∙◌, ℕ, Option, Some, None, List, Vec, Global, map, sym, ap, refl, slice_get}
-use Rattle.std.specs.List.{IsDistinct}
-use Rattle.std.specs.Map.{keys_of, values_of}
-use Rattle.std.specs.Str.{bytes_eq}
+use Rattle.std.proofs.Common.{◌≡◌, ◌∙◌, Some, None, sym, refl}
+use Rattle.std.specs.Map.{values_of}
 use Rattle.point_tables.specs.Names.{place_of}
 use Rattle.candidate_tables.specs.CandidateTable.{names_of}
 use Rattle.point_tables.proofs.PlaceFacts.{place-at, place-none, place-of-at}

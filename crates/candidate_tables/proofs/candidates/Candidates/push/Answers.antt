@@ -1,9 +1,8 @@
-use Rattle.std.proofs.Common.{◌≡◌, ◌∙◌, ℕ, List, Vec, Global, None, sym, ap, arith, ◌++◌, ◌∷◌, [], length, ◌<◌}
+use Rattle.std.proofs.Common.{◌≡◌, ◌∙◌, ℕ, List, Vec, Global, None, ap, ◌++◌, ◌∷◌, []}
 use Rattle.indexmap.proofs.CallerLemmas.{insert_entry-new}
-use Rattle.std.specs.Map.{lookup, values_of}
+use Rattle.std.specs.Map.{lookup}
 use Rattle.std.specs.Str.{bytes_eq}
 use Rattle.candidate_tables.specs.declared.record.CandidateRecord.{CandidateRecord}
-use Rattle.candidate_tables.specs.CandidateTable.{names_of}
 use Rattle.candidate_tables.proofs.StoredFacts.{few-stored, other-key, stored-push, values-push}
 use Rattle.candidate_tables.proofs.candidates.Candidates.push.Goals as goal
 

@@ -1,0 +1,183 @@
+use crate::{Candidates, first_candidate_fault_is_least, read_candidates};
+use geo_base::NoMemory;
+use point_tables::{Points, TableAnswer, TableName, read_points};
+use std::alloc::Global;
+use std::process::Abort;
+use std::test::Fail;
+
+const POINTS: &str =
+    "name,x,y,z,plane,height\nA,0.000,0.000,100.000,fixed,fixed\nH,,,101.000,,1.0\nP,30.000,40.000,10.000,4.0,7.0\nN,0.999,0,,fixed,\nO,1.000,0,,fixed,\nQ,0,9.999,,fixed,\nR,0,10.000,,1.0,\nF,100000.000,0,,fixed,\nG,100000.001,0,,fixed,\n";
+
+// Whole tables, and what they are read as. The expected texts come from another program.
+const FILES: [(&[u8], &str); 3] = [
+    (b"", "1 Header"),
+    (b"name,kind,from,to,to2,sd,sdh,Price\n", "1 Header"),
+    (
+        b"\xEF\xBB\xBF\"name\",\"kind\",\" from\",\"to \",\"to2\",\"sd\",\"sdh\",\"price\"\r\n\"l1\",\"level\",\"A\",\"H\",\"\",\" 1.00 \",\"\",\"5\"\r\n\r\n",
+        "l1 Level 0 1 None 100 None 5;",
+    ),
+];
+
+// Records under the header row, and what the table is read as. The expected texts come from another program.
+const RECORDS: [(&str, &str); 12] = [
+    (
+        "l1,level,A,H,,1.00,,5\nA,level,H,A,,+0.1,,5.000\n",
+        "l1 Level 0 1 None 100 None 5;A Level 1 0 None 10 None 5;",
+    ),
+    (
+        "d1,distance,A,O,,2.00,,1\nr1,direction,A,R,,10.00,,1\n",
+        "d1 Distance 0 4 None 200 None 1;r1 Direction 0 6 None 1000 None 1;",
+    ),
+    (
+        "d1,distance,A,F,,100.00,,1000000000\n",
+        "d1 Distance 0 7 None 10000 None 1000000000;",
+    ),
+    (
+        "a1,angle,A,R,F,15.00,,0\n",
+        "a1 Angle 0 6 Some(7) 1500 None 0;",
+    ),
+    (
+        "g1,vector,A,P,,5.00,8.00,100\n",
+        "g1 Vector 0 2 None 500 Some(800) 100;",
+    ),
+    ("l1,level,A,H,,1.00,\n", "2 Fields"),
+    (
+        "l1,level,A,H,,1.00,,5\nl2,level,A,P,,1.00,,5\nl1,zenith,A,H,,1.00,,5\n",
+        "4 Twice",
+    ),
+    ("z1,zenith,none,H,,1.00,,5\n", "2 Kind"),
+    ("l1,level,A,none,A,1.00,,5\n", "2 NoPoint"),
+    ("a1,angle,A,R,,1.00,1.00,5\n", "2 NoPoint"),
+    ("l1,level,A,A,A,1.00,,5\n", "2 Extra"),
+    ("a1,angle,A,A,R,1.00,1.00,5\n", "2 Extra"),
+];
+
+// Records that break a rule on their points, lines or numbers, and the first fault. The expected texts come from
+// another program.
+const REFUSED: [(&str, &str); 17] = [
+    ("l1,level,A,A,,1.00,,5\n", "2 SamePoint"),
+    ("a1,angle,A,H,H,1.00,,5\n", "2 SamePoint"),
+    ("d1,distance,A,H,,1.00,,5\n", "2 NoPlane"),
+    ("g1,vector,H,O,,1.00,1.00,5\n", "2 NoPlane"),
+    ("g1,vector,A,O,,1.00,1.00,5\n", "2 NoHeight"),
+    ("d1,distance,A,N,,1.00,,5\n", "2 Near"),
+    ("r1,direction,A,Q,,1.00,,5\n", "2 Near"),
+    ("d1,distance,A,G,,0.09,,5\n", "2 Far"),
+    ("a1,angle,A,G,Q,1.00,,5\n", "2 Far"),
+    ("a1,angle,A,R,Q,1.00,,5\n", "2 Near"),
+    ("l1,level,A,H,,0.09,,x\n", "2 Range"),
+    ("l1,level,A,H,,1.005,,-1\n", "2 Number"),
+    ("g1,vector,A,P,,100.01,x,5\n", "2 Range"),
+    ("g1,vector,A,P,,1.00,,1.5\n", "2 Number"),
+    ("l1,level,A,H,,1.00,,1.5\n", "2 Number"),
+    ("l1,level,A,H,,1.00,,1000000001\n", "2 Range"),
+    ("l1,level,A,H,,1.00,,-1\n", "2 Range"),
+];
+
+const HEADER: &str = "name,kind,from,to,to2,sd,sdh,price\n";
+
+// The points that the candidates of the tests name.
+fn test_points(alloc: Global) -> Result<Points, Fail> {
+    match read_points(alloc, POINTS.as_bytes()) {
+        Ok(points) => Ok(points),
+        Err(_) => Err(Fail::from(NoMemory)),
+    }
+}
+
+// The candidates of a table in their order, each found again under its name.
+fn put_candidates(
+    rt: &impl Abort,
+    out: &mut Vec<u8>,
+    alloc: Global,
+    candidates: &Candidates,
+) -> Result<(), Fail> {
+    for k in 0..candidates.len() {
+        let candidate = candidates.get(k);
+        assert!(rt; candidates.find(candidate.name.bytes()) == Some(k));
+        out.extend_from_slice(candidate.name.bytes())?;
+        let ends = format!(in alloc;
+            " {:?} {} {} {:?}",
+            candidate.kind, candidate.from, candidate.to, candidate.to2
+        )?;
+        out.extend_from_slice(ends.as_bytes())?;
+        let figures = format!(in alloc;
+            " {} {:?} {};",
+            candidate.sd, candidate.sdh, candidate.price
+        )?;
+        out.extend_from_slice(figures.as_bytes())?;
+    }
+    Ok(())
+}
+
+// What a table is read as: its candidates, or the number and the kind of its first fault.
+fn shown(rt: &impl Abort, alloc: Global, bytes: &[u8], points: &Points) -> Result<Vec<u8>, Fail> {
+    let mut out = Vec::new(alloc);
+    match read_candidates(alloc, bytes, points) {
+        Ok(candidates) => put_candidates(rt, &mut out, alloc, &candidates)?,
+        Err(TableAnswer::Fault(fault)) => {
+            assert!(rt; fault.table == TableName::Candidates);
+            let text = format!(in alloc; "{} {:?}", fault.number, fault.kind)?;
+            out.extend_from_slice(text.as_bytes())?;
+        }
+        Err(TableAnswer::NoMemory) => return Err(Fail::from(NoMemory)),
+    }
+    Ok(out)
+}
+
+// Asserts that each of some lists of records is read as its text.
+fn expect_shown(rt: &impl Abort, alloc: Global, rows: &[(&str, &str)]) -> Result<(), Fail> {
+    let points = test_points(alloc)?;
+    for (records, expected) in rows {
+        let mut bytes = HEADER.as_bytes().to_vec(alloc)?;
+        bytes.extend_from_slice(records.as_bytes())?;
+        let text = shown(rt, alloc, bytes.as_slice(), &points)?;
+        assert!(rt; text.as_slice() == expected.as_bytes());
+    }
+    Ok(())
+}
+
+#[test]
+fn tables_read_as_candidates_or_as_their_first_fault(rt: HostRuntime) -> Result<(), Fail> {
+    expect_shown(&rt, rt.alloc(), &RECORDS)?;
+    first_candidate_fault_is_least();
+    Ok(())
+}
+
+#[test]
+fn points_lines_and_numbers_are_judged_in_order(rt: HostRuntime) -> Result<(), Fail> {
+    expect_shown(&rt, rt.alloc(), &REFUSED)
+}
+
+#[test]
+fn a_header_row_is_asked_for(rt: HostRuntime) -> Result<(), Fail> {
+    let points = test_points(rt.alloc())?;
+    for (bytes, expected) in FILES {
+        let text = shown(&rt, rt.alloc(), bytes, &points)?;
+        assert!(rt; text.as_slice() == expected.as_bytes());
+    }
+    Ok(())
+}
+
+// A table of so many candidates.
+fn many_candidates(alloc: Global, count: u32) -> Result<Vec<u8>, Fail> {
+    let mut bytes = HEADER.as_bytes().to_vec(alloc)?;
+    for number in 0..count {
+        let record = format!(in alloc; "l{number},level,A,H,,1.00,,{number}\n")?;
+        bytes.extend_from_slice(record.as_bytes())?;
+    }
+    Ok(bytes)
+}
+
+#[test]
+fn a_table_has_at_most_256_candidates(rt: HostRuntime) -> Result<(), Fail> {
+    let points = test_points(rt.alloc())?;
+    let most = many_candidates(rt.alloc(), 256)?;
+    let candidates = read_candidates(rt.alloc(), most.as_slice(), &points)?;
+    assert!(rt; candidates.len() == 256);
+    assert!(rt; candidates.find(b"l255") == Some(255));
+    assert!(rt; candidates.find(b"l256").is_none());
+    let more = many_candidates(rt.alloc(), 257)?;
+    let text = shown(&rt, rt.alloc(), more.as_slice(), &points)?;
+    assert!(rt; text.as_slice() == b"258 TooMany".as_slice());
+    Ok(())
+}
