@@ -95,17 +95,15 @@ fn explore<H: Shelf>(
         }
         return Ok(());
     }
-    let candidate = match open_candidate(network, node) {
-        Some(candidate) => candidate,
-        None => unreachable!(),
+    let Some(candidate) = open_candidate(network, node) else {
+        unreachable!()
     };
-    let line = Line::Split(candidate);
     if let Err(why) = write_line(
         shelf,
         name,
         &mut progress.buffer,
         &mut progress.counts,
-        line,
+        Line::Split(candidate),
     ) {
         return Err(why);
     }
