@@ -1,0 +1,13 @@
+pub mod Orders
+pub mod EnergyLoad
+pub mod Scales
+pub mod Gram
+pub mod Sizes
+pub mod GridEntries
+pub mod GridVerdicts
+pub mod FormSteps
+pub mod OrderSteps
+pub mod GridSteps
+pub mod Shifts
+pub mod GridReads
+pub mod Rows

@@ -1,0 +1,27 @@
+use Rattle.std.proofs.Common.{◌≡◌, length, ap, sym, ◌∙◌, subst, FitsSigned, w64}
+use Rattle.std.proofs.lemmas.Int.{to_z-of_z}
+use Rattle.limit_forms.specs.Grid.{IsGrid}
+use Rattle.limit_forms.proofs.GridSteps.{written_whole, made_grid, IsGrid-grid_of}
+use Rattle.limit_forms.proofs.grid.LimitGrid.new.Goals as goal
+
+pub invariant_of-result : goal.invariant_of-result
+invariant_of-result c =
+    let f : FitsSigned w64 c.args.alpha = c.ranges.alpha in
+    let n = ap length c.unknowns-n.ensures.value in
+    let places : length c.as_mut_slice.result.now ≡ length c.args.network.now.unknowns = c.as_mut_slice.ensures.len ∙ c.in_ok-order.ensures.len ∙ n in
+    let count : length c.as_mut_slice-2.result.now ≡ length c.args.network.now.unknowns = c.as_mut_slice-2.ensures.len ∙ c.in_ok-exponents.ensures.len ∙ n in
+    let exponents = simp to_z-of_z at c.take_exponents.ensures in
+    let same = made_grid c.args.network.now c.args.alpha c.args.squares.now c.take_order.new.order c.take_exponents.new.exponents (length c.as_mut_slice.result.now) (length c.as_mut_slice-2.result.now) places count c.take_order.ensures exponents in
+    rw (written_whole c.take_order.new.order c.in_ok-order.order.items c.in_ok-order.order.len (c.take_order.auto.order ∙ c.as_mut_slice.ensures.len), written_whole c.take_exponents.new.exponents c.in_ok-exponents.exponents.items c.in_ok-exponents.exponents.len (c.take_exponents.auto.exponents ∙ c.as_mut_slice-2.ensures.len))
+    (subst IsGrid (sym same) (IsGrid-grid_of c.args.network.now c.args.alpha c.args.squares.now c.unknowns-n.ensures.bounds))
+
+pub returns : goal.returns
+returns c =
+    let f : FitsSigned w64 c.args.alpha = c.ranges.alpha in
+    let n = ap length c.unknowns-n.ensures.value in
+    let places : length c.as_mut_slice.result.now ≡ length c.args.network.now.unknowns = c.as_mut_slice.ensures.len ∙ c.in_ok-order.ensures.len ∙ n in
+    let count : length c.as_mut_slice-2.result.now ≡ length c.args.network.now.unknowns = c.as_mut_slice-2.ensures.len ∙ c.in_ok-exponents.ensures.len ∙ n in
+    let exponents = simp to_z-of_z at c.take_exponents.ensures in
+    let same = made_grid c.args.network.now c.args.alpha c.args.squares.now c.take_order.new.order c.take_exponents.new.exponents (length c.as_mut_slice.result.now) (length c.as_mut_slice-2.result.now) places count c.take_order.ensures exponents in
+    rw (written_whole c.take_order.new.order c.in_ok-order.order.items c.in_ok-order.order.len (c.take_order.auto.order ∙ c.as_mut_slice.ensures.len), written_whole c.take_exponents.new.exponents c.in_ok-exponents.exponents.items c.in_ok-exponents.exponents.len (c.take_exponents.auto.exponents ∙ c.as_mut_slice-2.ensures.len))
+    same

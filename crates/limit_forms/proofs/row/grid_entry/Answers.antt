@@ -1,0 +1,175 @@
+use Rattle.std.proofs.Common.{rules, ◌≡◌, ℕ, ◌-◌, ◌*◌, ◌<◌, ◌≤◌, ◌^◌, ℤ, pos, ◌+ℤ◌, ◌-ℤ◌, ◌*ℤ◌, neg_ℤ, ◌≤ℤ◌, ◌<ℤ◌, Bool, List, length, if◌then◌else◌, w32, w64, FitsSigned, Some, ap, sym, ◌∙◌, arith}
+use mir.Syntax.{w128}
+use Rattle.std.specs.Prelude.{slice_get, unsigned_abs, IsTrue, ◌↔◌}
+use Rattle.std.proofs.lemmas.Int.{ints, to_z-of_z, fits_signed_from_abs}
+use Rattle.geo_base.specs.Grid.{shift_of, IsWholeShift}
+use Rattle.whole_algebra.specs.Rounding.{floor_over, gap_over}
+use Rattle.whole_algebra.specs.Matrices.{at}
+use Rattle.whole_algebra.specs.Grid.{row_at}
+use Rattle.geo_model.specs.Limit.{SquareOf, IsLoad}
+use Rattle.geo_model.specs.Network.{NetworkOf, IsNetwork}
+use Rattle.limit_forms.specs.Form.{form_of}
+use Rattle.limit_forms.specs.Grid.{GridOf, grid_of, on_grid, grid_step, scale_of, exponent_at}
+use Rattle.limit_forms.proofs.Sizes.{grid_number, number_within}
+use Rattle.limit_forms.proofs.GridEntries.{on_grid-within, floor_within}
+use Rattle.limit_forms.proofs.Shifts.{shifted, gap_told, shift_size}
+use Rattle.limit_forms.proofs.GridReads.{IsRead, IsShift, read_unknown, read_exponent, read_shift, read_number, length-grid_of}
+use Rattle.limit_forms.proofs.row.grid_entry.Goals as goal
+
+-- what the code reads of the grid
+record IsPlaced (network : NetworkOf) (alpha : ℤ) (squares : List SquareOf) (row column i j : ℕ) (e f : ℤ) : Type 0 where
+  pub first : IsRead network alpha squares row i
+  pub second : IsRead network alpha squares column j
+  pub shift : IsShift network alpha i j (e +ℤ f)
+  pub first_fits : FitsSigned w32 e
+  pub second_fits : FitsSigned w32 f
+  pub sum_fits : FitsSigned w32 (e +ℤ f)
+
+placed : (network : NetworkOf) (alpha : ℤ) (squares : List SquareOf) (grid : GridOf) (row column i j : ℕ) (e f : ℤ) → IsNetwork network → IsLoad (length network.unknowns) network.candidates alpha squares
+    → grid ≡ grid_of network alpha squares → row ≤ column → column < length network.unknowns
+    → slice_get grid.order row ≡ Some i → slice_get grid.order column ≡ Some j → slice_get grid.exponents i ≡ Some e → slice_get grid.exponents j ≡ Some f
+    → FitsSigned w32 e → FitsSigned w32 f → IsPlaced network alpha squares row column i j e f
+placed network alpha squares grid row column i j e f bounds limit is le lt at_row at_column at_first at_second fits_first fits_second =
+    let first = read_unknown network alpha squares grid row i is (omega arith) at_row in
+    let second = read_unknown network alpha squares grid column j is lt at_column in
+    let one = read_exponent network alpha squares grid i e is first.below at_first in
+    let two = read_exponent network alpha squares grid j f is second.below at_second in
+    let shift = read_shift network alpha i j e f bounds limit.alpha_low limit.alpha_high one two in
+    record {
+      first = first;
+      second = second;
+      shift = shift;
+      first_fits = fits_first;
+      second_fits = fits_second;
+      sum_fits = fits_signed_from_abs w32 (e +ℤ f) (small (e +ℤ f) shift.low shift.high);
+    }
+  where
+    small : (z : ℤ) → neg_ℤ (pos 60) ≤ℤ z → z ≤ℤ pos 60 → unsigned_abs z < 2 ^ 31
+    small z h k = omega (arith, ints)
+
+pub unknown-first-requires : goal.unknown-first-requires
+unknown-first-requires c =
+    let n = length-grid_of c.args.network.now c.args.alpha c.args.squares.now c.args.grid.now c.requires.grid in
+    let le = c.requires.order in
+    let lt = c.requires.inside in
+    omega arith
+
+pub unknown-second-requires : goal.unknown-second-requires
+unknown-second-requires c =
+    let n = length-grid_of c.args.network.now c.args.alpha c.args.squares.now c.args.grid.now c.requires.grid in
+    let lt = c.requires.inside in
+    omega arith
+
+pub overflow_add-shift : goal.overflow_add-shift
+overflow_add-shift c =
+    let e : FitsSigned w32 c.exponent.result = search rules in
+    let f : FitsSigned w32 c.exponent-2.result = search rules in
+    let p = placed c.args.network.now c.args.alpha c.args.squares.now c.args.grid.now c.args.row c.args.column c.unknown-first.result c.unknown-second.result c.exponent.result c.exponent-2.result c.candidates-bounds.ensures.bounds c.requires.limit c.requires.grid c.requires.order c.requires.inside c.unknown-first.ensures.found c.unknown-second.ensures.found c.exponent.ensures c.exponent-2.ensures e f in
+    simp to_z-of_z p.sum_fits
+
+pub form_entry-requires-clause-row : goal.form_entry-requires-clause-row
+form_entry-requires-clause-row c =
+    let n = length-grid_of c.args.network.now c.args.alpha c.args.squares.now c.args.grid.now c.requires.grid in
+    let inside = c.unknown-first.ensures.inside in
+    omega arith
+
+pub form_entry-requires-clause-column : goal.form_entry-requires-clause-column
+form_entry-requires-clause-column c =
+    let n = length-grid_of c.args.network.now c.args.alpha c.args.squares.now c.args.grid.now c.requires.grid in
+    let inside = c.unknown-second.ensures.inside in
+    omega arith
+
+pub shift_floor-requires-clause-low : goal.shift_floor-requires-clause-low
+shift_floor-requires-clause-low c =
+    let e : FitsSigned w32 c.exponent.result = search rules in
+    let f : FitsSigned w32 c.exponent-2.result = search rules in
+    let p = placed c.args.network.now c.args.alpha c.args.squares.now c.args.grid.now c.args.row c.args.column c.unknown-first.result c.unknown-second.result c.exponent.result c.exponent-2.result c.candidates-bounds.ensures.bounds c.requires.limit c.requires.grid c.requires.order c.requires.inside c.unknown-first.ensures.found c.unknown-second.ensures.found c.exponent.ensures c.exponent-2.ensures e f in
+    let s = p.sum_fits in
+    simp to_z-of_z p.shift.low
+
+pub shift_floor-requires-clause-high : goal.shift_floor-requires-clause-high
+shift_floor-requires-clause-high c =
+    let e : FitsSigned w32 c.exponent.result = search rules in
+    let f : FitsSigned w32 c.exponent-2.result = search rules in
+    let p = placed c.args.network.now c.args.alpha c.args.squares.now c.args.grid.now c.args.row c.args.column c.unknown-first.result c.unknown-second.result c.exponent.result c.exponent-2.result c.candidates-bounds.ensures.bounds c.requires.limit c.requires.grid c.requires.order c.requires.inside c.unknown-first.ensures.found c.unknown-second.ensures.found c.exponent.ensures c.exponent-2.ensures e f in
+    let s = p.sum_fits in
+    simp to_z-of_z p.shift.high
+
+size_by : (network : NetworkOf) (plan : List Bool) (alpha : ℤ) (squares : List SquareOf) (row column i j : ℕ) (e f number : ℤ) → IsNetwork network → IsLoad (length network.unknowns) network.candidates alpha squares
+    → IsPlaced network alpha squares row column i j e f → number ≡ form_of network.candidates plan alpha squares i j
+    → (e +ℤ f) <ℤ pos 0 → unsigned_abs number * 2 ^ unsigned_abs (e +ℤ f) < 2 ^ 126
+size_by network plan alpha squares row column i j e f number bounds limit p is =
+    let within = number_within network plan alpha squares i j bounds limit p.first.below p.second.below in
+    let same : scale_of network.candidates alpha i *ℤ (scale_of network.candidates alpha j *ℤ number) ≡ grid_number network plan alpha squares i j = ap (λ z. scale_of network.candidates alpha i *ℤ (scale_of network.candidates alpha j *ℤ z)) is in
+    shift_size number (e +ℤ f) (unsigned_abs (pos 60 -ℤ exponent_at network.candidates alpha i)) (unsigned_abs (pos 60 -ℤ exponent_at network.candidates alpha j)) p.shift.sum
+    (rw same within.0) (rw same within.1)
+
+pub shift_floor-requires-clause-size : goal.shift_floor-requires-clause-size
+shift_floor-requires-clause-size c =
+    let a : FitsSigned w64 c.args.alpha = c.ranges.alpha in
+    let e : FitsSigned w32 c.exponent.result = search rules in
+    let f : FitsSigned w32 c.exponent-2.result = search rules in
+    let p = placed c.args.network.now c.args.alpha c.args.squares.now c.args.grid.now c.args.row c.args.column c.unknown-first.result c.unknown-second.result c.exponent.result c.exponent-2.result c.candidates-bounds.ensures.bounds c.requires.limit c.requires.grid c.requires.order c.requires.inside c.unknown-first.ensures.found c.unknown-second.ensures.found c.exponent.ensures c.exponent-2.ensures e f in
+    let s = p.sum_fits in
+    let n : FitsSigned w128 c.form_entry.result = search rules in
+    let is = simp to_z-of_z at c.form_entry.ensures in
+    simp to_z-of_z (size_by c.args.network.now c.args.normal.now.plan c.args.alpha c.args.squares.now c.args.row c.args.column c.unknown-first.result c.unknown-second.result c.exponent.result c.exponent-2.result c.form_entry.result c.candidates-bounds.ensures.bounds c.requires.limit p is)
+
+-- the number that is shifted, on the grid
+number_is : (network : NetworkOf) (plan : List Bool) (alpha : ℤ) (squares : List SquareOf) (row column i j : ℕ) (e f number : ℤ) → row ≤ column → column < length network.unknowns
+    → IsPlaced network alpha squares row column i j e f → number ≡ form_of network.candidates plan alpha squares i j
+    → scale_of network.candidates alpha i *ℤ (scale_of network.candidates alpha j *ℤ number) ≡ at (row_at (on_grid network plan alpha squares) row) (column - row)
+number_is network plan alpha squares row column i j e f number le lt p is =
+    ap (λ z. scale_of network.candidates alpha i *ℤ (scale_of network.candidates alpha j *ℤ z)) is
+    ∙ sym (read_number network plan alpha squares row column i j le lt p.first p.second)
+
+floor_by : (network : NetworkOf) (plan : List Bool) (alpha : ℤ) (squares : List SquareOf) (row column i j : ℕ) (e f number : ℤ) → row ≤ column → column < length network.unknowns
+    → IsPlaced network alpha squares row column i j e f → number ≡ form_of network.candidates plan alpha squares i j
+    → shift_of number (e +ℤ f) ≡ floor_over grid_step (at (row_at (on_grid network plan alpha squares) row) (column - row))
+floor_by network plan alpha squares row column i j e f number le lt p is =
+    shifted number (e +ℤ f) (unsigned_abs (pos 60 -ℤ exponent_at network.candidates alpha i)) (unsigned_abs (pos 60 -ℤ exponent_at network.candidates alpha j)) p.shift.sum
+    ∙ ap (λ z. floor_over grid_step z) (number_is network plan alpha squares row column i j e f number le lt p is)
+
+whole_by : (network : NetworkOf) (plan : List Bool) (alpha : ℤ) (squares : List SquareOf) (row column i j : ℕ) (e f number : ℤ) (whole : Bool) → row ≤ column → column < length network.unknowns
+    → IsPlaced network alpha squares row column i j e f → number ≡ form_of network.candidates plan alpha squares i j → IsTrue whole ↔ IsWholeShift number (e +ℤ f)
+    → gap_over grid_step (at (row_at (on_grid network plan alpha squares) row) (column - row)) ≡ (if whole then pos 0 else pos 1)
+whole_by network plan alpha squares row column i j e f number whole le lt p is tells =
+    ap (λ z. gap_over grid_step z) (sym (number_is network plan alpha squares row column i j e f number le lt p is))
+    ∙ gap_told number (e +ℤ f) (unsigned_abs (pos 60 -ℤ exponent_at network.candidates alpha i)) (unsigned_abs (pos 60 -ℤ exponent_at network.candidates alpha j)) whole p.shift.sum tells
+
+pub returns-clause-floor : goal.returns-clause-floor
+returns-clause-floor c =
+    let a : FitsSigned w64 c.args.alpha = c.ranges.alpha in
+    let e : FitsSigned w32 c.exponent.result = search rules in
+    let f : FitsSigned w32 c.exponent-2.result = search rules in
+    let p = placed c.args.network.now c.args.alpha c.args.squares.now c.args.grid.now c.args.row c.args.column c.unknown-first.result c.unknown-second.result c.exponent.result c.exponent-2.result c.candidates-bounds.ensures.bounds c.requires.limit c.requires.grid c.requires.order c.requires.inside c.unknown-first.ensures.found c.unknown-second.ensures.found c.exponent.ensures c.exponent-2.ensures e f in
+    let s = p.sum_fits in
+    let n : FitsSigned w128 c.form_entry.result = search rules in
+    let is = simp to_z-of_z at c.form_entry.ensures in
+    let value = simp to_z-of_z at c.shift_floor.ensures.value in
+    value ∙ floor_by c.args.network.now c.args.normal.now.plan c.args.alpha c.args.squares.now c.args.row c.args.column c.unknown-first.result c.unknown-second.result c.exponent.result c.exponent-2.result c.form_entry.result c.requires.order c.requires.inside p is
+
+pub returns-clause-whole : goal.returns-clause-whole
+returns-clause-whole c =
+    let a : FitsSigned w64 c.args.alpha = c.ranges.alpha in
+    let e : FitsSigned w32 c.exponent.result = search rules in
+    let f : FitsSigned w32 c.exponent-2.result = search rules in
+    let p = placed c.args.network.now c.args.alpha c.args.squares.now c.args.grid.now c.args.row c.args.column c.unknown-first.result c.unknown-second.result c.exponent.result c.exponent-2.result c.candidates-bounds.ensures.bounds c.requires.limit c.requires.grid c.requires.order c.requires.inside c.unknown-first.ensures.found c.unknown-second.ensures.found c.exponent.ensures c.exponent-2.ensures e f in
+    let s = p.sum_fits in
+    let n : FitsSigned w128 c.form_entry.result = search rules in
+    let is = simp to_z-of_z at c.form_entry.ensures in
+    let tells = simp to_z-of_z at c.shift_floor.ensures.whole in
+    whole_by c.args.network.now c.args.normal.now.plan c.args.alpha c.args.squares.now c.args.row c.args.column c.unknown-first.result c.unknown-second.result c.exponent.result c.exponent-2.result c.form_entry.result c.shift_floor.result.1 c.requires.order c.requires.inside p is tells
+
+floor_size : (network : NetworkOf) (plan : List Bool) (alpha : ℤ) (squares : List SquareOf) (i k : ℕ) (z : ℤ) → IsNetwork network → IsLoad (length network.unknowns) network.candidates alpha squares
+    → z ≡ floor_over grid_step (at (row_at (on_grid network plan alpha squares) i) k) → unsigned_abs z ≤ 2 ^ 109
+floor_size network plan alpha squares i k z bounds limit is =
+    let f = floor_within (at (row_at (on_grid network plan alpha squares) i) k) (on_grid-within network plan alpha squares i k bounds limit) in
+    by z (floor_over grid_step (at (row_at (on_grid network plan alpha squares) i) k)) is f.0 f.1
+  where
+    by : (z f : ℤ) → z ≡ f → neg_ℤ (pos (2 ^ 109)) ≤ℤ f → f ≤ℤ pos (2 ^ 109) → unsigned_abs z ≤ 2 ^ 109
+    by z f e h k = omega (arith, ints)
+
+pub returns-clause-size : goal.returns-clause-size
+returns-clause-size c =
+    floor_size c.args.network.now c.args.normal.now.plan c.args.alpha c.args.squares.now c.args.row (c.args.column - c.args.row) c.shift_floor.result.0 c.candidates-bounds.ensures.bounds c.requires.limit (returns-clause-floor c)

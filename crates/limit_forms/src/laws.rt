@@ -1,0 +1,60 @@
+//! Laws of the form of a limit and of its grid. Each function is its contract: it does nothing.
+ghost use Rattle.std.specs.Prelude.{◌≡◌, ℕ, ◌+◌, ◌<◌, ◌≤◌, ◌^◌, ℤ, pos, ◌-ℤ◌, ◌*ℤ◌, ◌≤ℤ◌, ◌<ℤ◌, List, Bool, length, map, unsigned_abs};
+ghost use Rattle.whole_algebra.specs.Matrices.{at, diagonal, quad, IsTriangle};
+ghost use Rattle.whole_algebra.specs.Chains.{met, refuted, verdict_of};
+ghost use Rattle.whole_algebra.specs.Grid.{times_lists, row_at};
+ghost use Rattle.geo_model.specs.Row.{Displaced};
+ghost use Rattle.geo_model.specs.Energy.{energy};
+ghost use Rattle.geo_model.specs.Limit.{SquareOf, IsLoad, load};
+ghost use Rattle.geo_model.specs.Network.{NetworkOf, IsNetwork};
+ghost use Rattle.limit_forms.specs.Grid.{order_of, scales_of, form_matrix, grid_step, lower_grid, upper_grid};
+
+/// The quadratic form of a limit's matrix is the factor times the energy, less the load.
+pub fn form_is_energy_less_load()
+    ensures { (network : NetworkOf) (plan : List Bool) (alpha : ℤ) (squares : List SquareOf) (x : Displaced)
+        → IsNetwork network → IsLoad (length network.unknowns) network.candidates alpha squares
+        → quad (form_matrix network plan alpha squares) (map x (order_of (length network.unknowns) squares))
+        ≡ alpha *ℤ energy network.candidates plan x -ℤ load squares x }
+{}
+
+/// The lower grid matrix lies below the form, and the upper one above it, at every list of whole
+/// numbers: the form is taken at that list in the units of the grid.
+pub fn grid_matrices_surround_the_form()
+    ensures below { (network : NetworkOf) (plan : List Bool) (alpha : ℤ) (squares : List SquareOf) (z : List ℤ)
+        → (grid_step *ℤ quad (lower_grid network plan alpha squares) z)
+        ≤ℤ quad (form_matrix network plan alpha squares) (times_lists (scales_of network alpha squares) z) }
+    ensures above { (network : NetworkOf) (plan : List Bool) (alpha : ℤ) (squares : List SquareOf) (z : List ℤ)
+        → quad (form_matrix network plan alpha squares) (times_lists (scales_of network alpha squares) z)
+        ≤ℤ (grid_step *ℤ quad (upper_grid network plan alpha squares) z) }
+{}
+
+/// Both grid matrices are triangles of as many rows as there are unknowns. Their entries stay below
+/// 2 ^ 110 in size, and the heads of the upper one at most 2 ^ 60 + 64.
+pub fn grid_matrices_are_small()
+    ensures lower_shape { (network : NetworkOf) (plan : List Bool) (alpha : ℤ) (squares : List SquareOf)
+        → IsTriangle (length network.unknowns) (lower_grid network plan alpha squares) }
+    ensures upper_shape { (network : NetworkOf) (plan : List Bool) (alpha : ℤ) (squares : List SquareOf)
+        → IsTriangle (length network.unknowns) (upper_grid network plan alpha squares) }
+    ensures lower_size { (network : NetworkOf) (plan : List Bool) (alpha : ℤ) (squares : List SquareOf) (i k : ℕ)
+        → IsNetwork network → IsLoad (length network.unknowns) network.candidates alpha squares
+        → unsigned_abs (at (row_at (lower_grid network plan alpha squares) i) k) < 2 ^ 110 }
+    ensures upper_size { (network : NetworkOf) (plan : List Bool) (alpha : ℤ) (squares : List SquareOf) (i k : ℕ)
+        → IsNetwork network → IsLoad (length network.unknowns) network.candidates alpha squares
+        → unsigned_abs (at (row_at (upper_grid network plan alpha squares) i) k) < 2 ^ 110 }
+    ensures heads { (network : NetworkOf) (plan : List Bool) (alpha : ℤ) (squares : List SquareOf) (i : ℕ)
+        → IsNetwork network → IsLoad (length network.unknowns) network.candidates alpha squares
+        → at (diagonal (upper_grid network plan alpha squares)) i ≤ℤ pos (2 ^ 60 + 64) }
+{}
+
+/// The verdict on the two grid matrices decides the limit: met, no displacement breaks it; refuted,
+/// some displacement does.
+pub fn grid_verdicts_decide_limits()
+    ensures met_everywhere { (network : NetworkOf) (plan : List Bool) (alpha : ℤ) (squares : List SquareOf) (x : Displaced)
+        → IsNetwork network → IsLoad (length network.unknowns) network.candidates alpha squares
+        → verdict_of (lower_grid network plan alpha squares) (upper_grid network plan alpha squares) ≡ met
+        → load squares x ≤ℤ (alpha *ℤ energy network.candidates plan x) }
+    ensures refuted_somewhere { (network : NetworkOf) (plan : List Bool) (alpha : ℤ) (squares : List SquareOf)
+        → IsNetwork network → IsLoad (length network.unknowns) network.candidates alpha squares
+        → verdict_of (lower_grid network plan alpha squares) (upper_grid network plan alpha squares) ≡ refuted
+        → (x : Displaced) × ((alpha *ℤ energy network.candidates plan x) <ℤ load squares x) }
+{}

@@ -1,0 +1,19 @@
+//! The form of a limit under a plan, and the whole-number grid on which it is judged.
+#![tactic(auto)]
+
+mod exponents;
+mod form;
+mod grid;
+mod laws;
+mod order;
+mod row;
+#[cfg(test)]
+mod tests;
+
+pub use form::form_entry;
+pub use grid::LimitGrid;
+pub use laws::{
+    form_is_energy_less_load, grid_matrices_are_small, grid_matrices_surround_the_form,
+    grid_verdicts_decide_limits,
+};
+pub use row::grid_row;
