@@ -9,8 +9,12 @@ const POINTS: &str =
     "name,x,y,z,plane,height\nA,0.000,0.000,100.000,fixed,fixed\nH,,,101.000,,1.0\nP,30.000,40.000,10.000,4.0,7.0\nN,0.999,0,,fixed,\nO,1.000,0,,fixed,\nQ,0,9.999,,fixed,\nR,0,10.000,,1.0,\nF,100000.000,0,,fixed,\nG,100000.001,0,,fixed,\n";
 
 // Whole tables, and what they are read as. The expected texts come from another program.
-const FILES: [(&[u8], &str); 3] = [
+const FILES: [(&[u8], &str); 4] = [
     (b"", "1 Header"),
+    (
+        b"name,kind,from,to,to2,sd,sdh,price\nl1,level,A,H,,1.00,,5\nl2,level,A,H,,1.00,,\xFF\n",
+        "3 Utf8",
+    ),
     (b"name,kind,from,to,to2,sd,sdh,Price\n", "1 Header"),
     (
         b"\xEF\xBB\xBF\"name\",\"kind\",\" from\",\"to \",\"to2\",\"sd\",\"sdh\",\"price\"\r\n\"l1\",\"level\",\"A\",\"H\",\"\",\" 1.00 \",\"\",\"5\"\r\n\r\n",
@@ -74,14 +78,31 @@ const REFUSED: [(&str, &str); 17] = [
     ("l1,level,A,H,,1.00,,-1\n", "2 Range"),
 ];
 
+// Points 100 km apart, and points that are a millimetre further apart, with what a distance between them is read as.
+const FAR_POINTS: [(&str, &str); 2] = [
+    (
+        "name,x,y,z,plane,height\nA,5512345.678,3400000.000,,fixed,\nB,5612345.678,3400000.000,,5.0,\n",
+        "d1 Distance 0 1 None 1000 None 5;",
+    ),
+    (
+        "name,x,y,z,plane,height\nA,5512345.678,3400000.000,,fixed,\nB,5612345.679,3400000.000,,5.0,\n",
+        "2 Far",
+    ),
+];
+
 const HEADER: &str = "name,kind,from,to,to2,sd,sdh,price\n";
 
-// The points that the candidates of the tests name.
-fn test_points(alloc: Global) -> Result<Points, Fail> {
-    match read_points(alloc, POINTS.as_bytes()) {
+// The points of a table.
+fn points_of(alloc: Global, table: &str) -> Result<Points, Fail> {
+    match read_points(alloc, table.as_bytes()) {
         Ok(points) => Ok(points),
         Err(_) => Err(Fail::from(NoMemory)),
     }
+}
+
+// The points that the candidates of the tests name.
+fn test_points(alloc: Global) -> Result<Points, Fail> {
+    points_of(alloc, POINTS)
 }
 
 // The candidates of a table in their order, each found again under its name.
@@ -153,6 +174,17 @@ fn a_header_row_is_asked_for(rt: HostRuntime) -> Result<(), Fail> {
     let points = test_points(rt.alloc())?;
     for (bytes, expected) in FILES {
         let text = shown(&rt, rt.alloc(), bytes, &points)?;
+        assert!(rt; text.as_slice() == expected.as_bytes());
+    }
+    Ok(())
+}
+
+#[test]
+fn a_line_is_at_most_100_km_long(rt: HostRuntime) -> Result<(), Fail> {
+    let table = "name,kind,from,to,to2,sd,sdh,price\nd1,distance,A,B,,10.00,,5\n";
+    for (points, expected) in FAR_POINTS {
+        let points = points_of(rt.alloc(), points)?;
+        let text = shown(&rt, rt.alloc(), table.as_bytes(), &points)?;
         assert!(rt; text.as_slice() == expected.as_bytes());
     }
     Ok(())
