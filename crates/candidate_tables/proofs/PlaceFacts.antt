@@ -9,7 +9,8 @@ use Rattle.point_tables.specs.declared.record.PointRecord.{PointRecord}
 use Rattle.point_tables.specs.Accepted.{is_absent}
 use Rattle.candidate_tables.specs.declared.kind.Kind.{Kind}
 use Rattle.candidate_tables.specs.CandidateTable.{extra_rules, line_rules, lines_rules, part_rules, place_rules}
-use Rattle.candidate_tables.specs.Lines.{length_squared, square_length, x_at, y_at}
+use Rattle.coefficient_round.specs.Coefficient.{square_length}
+use Rattle.candidate_tables.specs.Lines.{length_squared, x_at, y_at}
 use Rattle.candidate_tables.specs.Places.{lacks_height, lacks_plane, named}
 
 pub x-at : (points : List PointRecord) (place : ℕ) (point : PointRecord) → slice_get points place ≡ Some point → unwrap_or point.x (pos 0) ≡ x_at points place

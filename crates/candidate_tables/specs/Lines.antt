@@ -1,5 +1,6 @@
 -- The lines between points. The length is that of plane geometry; the bounds elsewhere are this project's own.
-use Rattle.std.specs.Prelude.{ℕ, ◌+◌, ◌*◌, ℤ, pos, ◌-ℤ◌, List, slice_get, unwrap_or, option_and_then, unsigned_abs}
+use Rattle.std.specs.Prelude.{ℕ, ℤ, pos, ◌-ℤ◌, List, slice_get, unwrap_or, option_and_then}
+use Rattle.coefficient_round.specs.Coefficient.{square_length}
 use Rattle.point_tables.specs.declared.record.PointRecord.{PointRecord}
 
 -- the coordinates of the point of this number in mm, and 0 where it has none
@@ -8,10 +9,6 @@ x_at points place = unwrap_or (option_and_then (λ point. point.x) (slice_get po
 
 unfoldable pub y_at : List PointRecord → ℕ → ℤ
 y_at points place = unwrap_or (option_and_then (λ point. point.y) (slice_get points place)) (pos 0)
-
--- the square of the length of a line with these parts, in mm^2
-abbrev pub square_length : ℤ → ℤ → ℕ
-square_length dx dy = unsigned_abs dx * unsigned_abs dx + unsigned_abs dy * unsigned_abs dy
 
 -- the square of the plane length of the line between two points, in mm^2
 unfoldable pub length_squared : List PointRecord → ℕ → ℕ → ℕ

@@ -11,6 +11,7 @@ use table_rows::TableRow;
 const LEAST_DEVIATION: i64 = 10;
 
 const MOST_DEVIATION: i64 = 10_000;
+
 // The largest price.
 const MOST_PRICE: i64 = 1_000_000_000;
 
