@@ -1,10 +1,12 @@
 -- The bounds of the network of a new height and the levels to it.
-use Rattle.std.proofs.Common.{◌≡◌, ◌≢◌, ℕ, ◌*◌, ◌^◌, ◌<◌, ◌≤◌, ℤ, pos, negsuc, ◌*ℤ◌, ◌≤ℤ◌, List, [], ◌∷◌, length, map, arith, refl, suc, zero, inl, inr, ◌&&◌, ◌==◌, Bool, true, false, if◌then◌else◌, Option, Some, None, subst, lit<, lit≤}
+use Rattle.std.proofs.Common.{◌≡◌, ◌≢◌, ℕ, ◌+◌, ◌*◌, ◌^◌, ◌<◌, ◌≤◌, ℤ, pos, negsuc, ◌*ℤ◌, ◌≤ℤ◌, List, [], ◌∷◌, length, map, arith, refl, suc, zero, inl, inr, ◌&&◌, ◌==◌, Bool, true, false, if◌then◌else◌, Option, Some, None, subst, sym, ap, ◌∙◌, ◌++◌, drop, add-one, append_assoc, drop-cons, length-drop, lit<, lit≤}
 use Rattle.std.proofs.Math.Nat.{mul-le-mul}
 use Rattle.std.proofs.lemmas.Bool.{leb-true, and_parts}
 use Rattle.std.proofs.lemmas.Int.{ints, clamps}
-use Rattle.std.proofs.lemmas.Option.{none-some, same_Some}
-use Rattle.std.proofs.lemmas.List.{length-map}
+use Rattle.std.proofs.lemmas.Option.{none-some, same_Some, slice_get_within, get_or_from_slice_get}
+use Rattle.std.proofs.lemmas.List.{length-map, append-nil, nil_from_length}
+use Rattle.std.specs.Prelude.{slice_get, nat_le}
+use Rattle.std.specs.List.{list_all}
 use Rattle.std.proofs.lemmas.List.Elements.{All-nil, All-cons, All-map, All-head, All-weaker}
 use Rattle.std.proofs.lemmas.List.Sums.{sum_by-le, count_by-le-length}
 use Rattle.std.specs.Prelude.{All, AllPairs, IsNone, unsigned_abs, int_lt, sum_by}
@@ -20,7 +22,7 @@ use Rattle.coefficient_round.proofs.Bounds.{IsWeightSize, weight-size, weight_fo
 use Rattle.point_tables.specs.declared.record.PointRecord.{PointRecord}
 use Rattle.candidate_tables.specs.Accepted.{AreCandidates, IsBetween, IsCandidateRecord}
 use Rattle.candidate_tables.specs.declared.record.CandidateRecord.{CandidateRecord}
-use Rattle.geoplan.specs.Heights.{IsNew, new_parts, only_height, are_few_levels, height_of, level_entries, level_of, height_limit, network_of}
+use Rattle.geoplan.specs.Heights.{IsNew, new_part, new_parts, only_height, is_level, are_few_levels, height_of, level_entries, level_of, height_limit, network_of}
 use Rattle.geoplan.specs.declared.heights.NewPart.{NewPart}
 
 -- a weight is from 1 to 1000000
@@ -227,3 +229,40 @@ only_height-All P (part ∷ []) new is all =
       | false ↦ λ e. absurd (none-some new e)
     ] is
 only_height-All P (part ∷ second ∷ rest) new is all = absurd (none-some new is)
+
+-- ---- loops over places
+
+drop_at : {X : Type 0} (xs : List X) (k : ℕ) (x : X) → slice_get xs k ≡ Some x → drop k xs ≡ x ∷ drop (k + 1) xs
+drop_at xs k x here =
+    let within : k < length xs = slice_get_within xs k x here in
+    rw (drop-cons xs k x within, get_or_from_slice_get xs k x x here, add-one) refl
+
+drop_past : {X : Type 0} (xs : List X) (k : ℕ) → length xs ≤ k → drop k xs ≡ []
+drop_past xs k past = nil_from_length (drop k xs) (omega (arith, length-drop k xs))
+
+-- the new parts of one point more
+pub new_parts-step : (points : List PointRecord) (parts : List NewPart) (k : ℕ) (point : PointRecord) → slice_get points k ≡ Some point → new_parts 0 points ≡ parts ++ new_parts k (drop k points) → new_parts 0 points ≡ ((parts ++ new_part k false point.plane) ++ new_part k true point.height) ++ new_parts (k + 1) (drop (k + 1) points)
+new_parts-step points parts k point here sofar =
+    sofar ∙ ap (λ rest. parts ++ new_parts k rest) (drop_at points k point here) ∙ simp append_assoc
+
+pub new_parts-end : (points : List PointRecord) (parts : List NewPart) (k : ℕ) → length points ≤ k → new_parts 0 points ≡ parts ++ new_parts k (drop k points) → parts ≡ new_parts 0 points
+new_parts-end points parts k past sofar =
+    sym (sofar ∙ ap (λ rest. parts ++ new_parts k rest) (drop_past points k past) ∙ append-nil parts)
+
+-- one element more of a list that a function is taken of
+pub map-step : {X Y : Type 0} (f : X → Y) (xs : List X) (ys : List Y) (k : ℕ) (x : X) → slice_get xs k ≡ Some x → map f xs ≡ ys ++ map f (drop k xs) → map f xs ≡ (ys ++ f x ∷ []) ++ map f (drop (k + 1) xs)
+map-step f xs ys k x here sofar =
+    sofar ∙ ap (λ rest. ys ++ map f rest) (drop_at xs k x here) ∙ simp append_assoc
+
+pub map-end : {X Y : Type 0} (f : X → Y) (xs : List X) (ys : List Y) (k : ℕ) → length xs ≤ k → map f xs ≡ ys ++ map f (drop k xs) → ys ≡ map f xs
+map-end f xs ys k past sofar =
+    sym (sofar ∙ ap (λ rest. ys ++ map f rest) (drop_past xs k past) ∙ append-nil ys)
+
+and_false : (a : Bool) → (a && false) ≡ false
+and_false true = refl
+and_false false = refl
+
+-- a candidate that is no level
+pub are_few_levels-not : (candidates : List CandidateRecord) → list_all (λ candidate. is_level candidate.kind) candidates ≡ false → are_few_levels candidates ≡ false
+unfolding are_few_levels
+are_few_levels-not candidates is = rw is (and_false (nat_le (length candidates) 20))
