@@ -220,16 +220,6 @@ height_of-few redundancy points candidates new is =
     by true false e found = absurd (none-some new found)
     by false b e found = absurd (none-some new found)
 
--- the only new part is one of them
-pub only_height-All : (P : NewPart → Type 0) (parts : List NewPart) (new : NewPart) → only_height parts ≡ Some new → All P parts → P new
-only_height-All P [] new is all = absurd (none-some new is)
-only_height-All P (part ∷ []) new is all =
-    elim part.is_height as (λ t. (if t then Some part else None) ≡ Some new → P new) [
-      | true ↦ λ e. subst P (same_Some part new e) (All-head P part [] all)
-      | false ↦ λ e. absurd (none-some new e)
-    ] is
-only_height-All P (part ∷ second ∷ rest) new is all = absurd (none-some new is)
-
 -- ---- loops over places
 
 drop_at : {X : Type 0} (xs : List X) (k : ℕ) (x : X) → slice_get xs k ≡ Some x → drop k xs ≡ x ∷ drop (k + 1) xs
