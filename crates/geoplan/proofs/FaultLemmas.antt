@@ -128,9 +128,11 @@ put_fails : (words : List (List ℕ)) (begun : Status) (before now : ShelfState)
 put_fails words status.Found before now text sink sink_now after rose begun answered = plan_fails words before now text sink sink_now rose begun answered
 put_fails words status.NoPlan before now text sink sink_now after rose begun answered = none_fails words before now text sink sink_now rose begun answered
 put_fails words status.WordsRefused before now text sink sink_now after rose begun answered = absurd (cc)
+put_fails words status.TableRefused before now text sink sink_now after rose begun answered = absurd (cc)
 put_fails words status.ReadFault before now text sink sink_now after rose begun answered = absurd (cc)
 put_fails words status.WriteFault before now text sink sink_now after rose begun answered = log_fails words before now text sink sink_now (λ none. silent_prefix text sink sink_now none begun) answered
 put_fails words status.NoMemory before now text sink sink_now after rose begun answered = absurd (cc)
+put_fails words status.FileTooLong before now text sink sink_now after rose begun answered = absurd (cc)
 put_fails words status.NotBuilt before now text sink sink_now after rose begun answered = absurd (cc)
 
 unwritten_by : (words : List (List ℕ)) (begun ended : Status) (before now : ShelfState) (text : List ℕ) (sink sink_now : SinkState) → code_of ended ≡ 6 → Answered words before now begun text → Prints begun text ended sink sink_now → OnCommand words (λ command. LogFails command before now sink sink_now ⊎ PrintFails command before now sink sink_now)

@@ -26,8 +26,9 @@ fn put_takes(text: &mut Vec<u8>, candidates: &Candidates, plan: &Plan) -> Result
     ensures { OnOk result (text.new.items ≡ text.old.items ++ takes_text (names_of candidates.now) plan.now) }
 {
     for k in 0..candidates.len() {
+        let candidate = candidates.get(k);
         if plan.has(k) {
-            put_take(text, &candidates.get(k).name)?;
+            put_take(text, &candidate.name)?;
         }
     }
     Ok(())
