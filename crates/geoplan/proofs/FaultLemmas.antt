@@ -54,10 +54,12 @@ held_stands : (words : List (List ℕ)) (command : CommandOf) (before now : Shel
 held_stands words command before now status.Found text is found = inr (command, is, (log_text found.tree, found.log.written))
 held_stands words command before now status.NoPlan text is found = inr (command, is, (log_text found.tree, found.log.written))
 held_stands words command before now status.WordsRefused text is never = absurd never
+held_stands words command before now status.TableRefused text is refused = inl refused.refuses.held
 held_stands words command before now status.ReadFault text is unread = inl unread.held
 held_stands words command before now status.WriteFault text is unwritten = held_or_began words command before.held now.held is unwritten.held
 held_stands words command before now status.NoMemory text is out = held_or_began words command before.held now.held is out.held
-held_stands words command before now status.NotBuilt text is outside = inl outside.held
+held_stands words command before now status.FileTooLong text is refused = inl refused.refuses.held
+held_stands words command before now status.NotBuilt text is refused = inl refused.refuses.held
 
 held_answered : (words : List (List ℕ)) (before now : ShelfState) (begun : Status) (text : List ℕ) → Answered words before now begun text → HeldOrLog words before.held now.held
 held_answered words before now begun text (inl (command, is, stands)) = held_stands words command before now begun text is stands
