@@ -103,9 +103,7 @@ pub fn answer<H: Shelf>(alloc: Global, command: &Command<'_>, shelf: &mut H) -> 
 {
     match load(alloc, command, shelf) {
         Ok(Input::Built(tables)) => answer_tables(alloc, command, &tables, shelf),
-        Ok(Input::Outside) => {
-            Outcome::made(alloc, Status::NotBuilt, not_built_refusal(alloc))
-        }
+        Ok(Input::Outside) => { Outcome::made(alloc, Status::NotBuilt, not_built_refusal(alloc)) }
         Ok(Input::Refused(fault)) => {
             Outcome::made(alloc, Status::TableRefused, table_refusal(alloc, fault))
         }

@@ -116,12 +116,7 @@ pub fn height_of(
 }
 
 /// The entries of a level from one point to another, by their numbers.
-fn level_entries(
-    alloc: Global,
-    new: u32,
-    from: u32,
-    to: u32,
-) -> Result<Vec<(u32, i64)>, NoMemory>
+fn level_entries(alloc: Global, new: u32, from: u32, to: u32) -> Result<Vec<(u32, i64)>, NoMemory>
     ensures { IfOk result (λ entries. entries.items ≡ level_entries new from to) }
 {
     let mut entries = Vec::new(alloc);
