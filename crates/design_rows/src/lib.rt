@@ -1,0 +1,9 @@
+//! The numbered unknowns of a network, and the weighted rows of each candidate.
+#![tactic(auto)]
+
+mod columns;
+mod rows;
+mod term;
+
+pub use columns::Columns;
+pub use rows::rows_of;
