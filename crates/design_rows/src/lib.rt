@@ -2,8 +2,10 @@
 #![tactic(auto)]
 
 mod columns;
+mod laws;
 mod rows;
 mod term;
 
 pub use columns::Columns;
+pub use laws::unknowns_differ;
 pub use rows::rows_of;
