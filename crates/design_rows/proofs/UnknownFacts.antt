@@ -29,7 +29,7 @@ distinct-append (x ∷ xs) ys a b cross = (every-append (λ y. is_same x y ≡ f
 
 -- ---- unknowns that differ
 
-and-right : (a b : Bool) → b ≡ false → (a && b) ≡ false
+pub and-right : (a b : Bool) → b ≡ false → (a && b) ≡ false
 and-right true b e = e
 and-right false b e = refl
 
