@@ -1,5 +1,5 @@
 -- The entries of a row: their columns ascend, none is 0, and there are no more of them, nor are they larger, than the terms.
-use Rattle.std.proofs.Common.{◌≡◌, ◌≢◌, ◌∙◌, ◌+◌, ◌*◌, ◌<◌, ◌≤◌, ◌^◌, ℕ, zero, suc, ℤ, pos, Bool, true, false, List, [], ◌∷◌, length, map, refl, sym, ap, arith, get_or, cond}
+use Rattle.std.proofs.Common.{◌≡◌, ◌≢◌, ◌∙◌, ◌+◌, ◌<◌, ◌≤◌, ℕ, zero, suc, ℤ, pos, Bool, true, false, List, [], ◌∷◌, length, map, refl, sym, ap, arith, cond}
 use Rattle.std.specs.Prelude.{◌+ℤ◌, All, AllPairs, if◌then◌else◌, not, sum_by, unsigned_abs}
 use Rattle.std.specs.List.{AllByRecursion, IsDistinct, enumerate_from, filter}
 use Rattle.std.specs.Ordering.{int_eq}
@@ -78,8 +78,8 @@ entries-each low high n [] terms least most = rw (entries-end n terms) tt
 entries-each low high n (u ∷ unknowns) terms least most =
     let rest = entries-each low high (n + 1) unknowns terms (omega arith) (omega arith) in
     rw (entries-more n u unknowns terms) (kept-cases (AllByRecursion (IsEntryOf terms low high)) n (coefficient_at terms u) (entries_from (n + 1) unknowns terms)
-      (λ other. (record { above = least; below = omega arith; nonzero = other; unknown = u; is = refl }, rest))
-      (λ none. rest))
+    (λ other. (record { above = least; below = omega arith; nonzero = other; unknown = u; is = refl }, rest))
+    (λ none. rest))
 
 entries-ordered : (n : ℕ) (unknowns : List Unknown) (terms : List Term) → Ordered (entries_from n unknowns terms)
 unfolding Ordered
@@ -88,8 +88,8 @@ entries-ordered n (u ∷ unknowns) terms =
     let rest = entries_from (n + 1) unknowns terms in
     let later = entries-each (n + 1) (n + 1 + length unknowns) (n + 1) unknowns terms (omega arith) (omega arith) in
     rw (entries-more n u unknowns terms) (kept-cases Ordered n (coefficient_at terms u) rest
-      (λ other. (every-weaker (IsEntryOf terms (n + 1) (n + 1 + length unknowns)) (λ entry. n < entry.0) (λ entry is. let above = is.above in omega arith) rest later, entries-ordered (n + 1) unknowns terms))
-      (λ none. entries-ordered (n + 1) unknowns terms))
+    (λ other. (every-weaker (IsEntryOf terms (n + 1) (n + 1 + length unknowns)) (λ entry. n < entry.0) (λ entry is. let above = is.above in omega arith) rest later, entries-ordered (n + 1) unknowns terms))
+    (λ none. entries-ordered (n + 1) unknowns terms))
 
 -- ---- a measure of coefficients that is 0 at 0 and of a sum is at most the sum
 
@@ -104,10 +104,10 @@ entries-measured h measure n (u ∷ unknowns) terms =
     let rest = entries_from (n + 1) unknowns terms in
     let others = entries-measured h measure (n + 1) unknowns terms in
     rw (entries-more n u unknowns terms) (kept-cases (λ entries. sum_by (λ entry. h entry.1) entries ≡ sum_by (λ v. h (coefficient_at terms v)) (u ∷ unknowns)) n (coefficient_at terms u) rest
-      (λ other. sum_by-cons (λ (entry : ℕ × ℤ). h entry.1) (n, coefficient_at terms u) rest
-        ∙ ap (λ (k : ℕ). h (coefficient_at terms u) + k) others
-        ∙ sym (sum_by-cons (λ (v : Unknown). h (coefficient_at terms v)) u unknowns))
-      (λ none. others ∙ sym (sum_by-cons (λ (v : Unknown). h (coefficient_at terms v)) u unknowns ∙ rw (none, measure.none) (omega arith))))
+    (λ other. sum_by-cons (λ (entry : ℕ × ℤ). h entry.1) (n, coefficient_at terms u) rest
+    ∙ ap (λ (k : ℕ). h (coefficient_at terms u) + k) others
+    ∙ sym (sum_by-cons (λ (v : Unknown). h (coefficient_at terms v)) u unknowns))
+    (λ none. others ∙ sym (sum_by-cons (λ (v : Unknown). h (coefficient_at terms v)) u unknowns ∙ rw (none, measure.none) (omega arith))))
 
 -- the sum of two
 sum_by-both : {A : Type 0} (f g : A → ℕ) (xs : List A) → sum_by (λ x. f x + g x) xs ≡ sum_by f xs + sum_by g xs
@@ -183,7 +183,7 @@ terms-measured h measure [] unknowns apart = none unknowns
     none (u ∷ us) = omega (arith, sum_by-cons (λ (v : Unknown). h (coefficient_at [] v)) u us, ap h (coefficient-none u), measure.none, none us)
 terms-measured h measure (term ∷ terms) unknowns apart =
     let bound = sum_by-le-sum_by (λ (u : Unknown). h (coefficient_at (term ∷ terms) u)) (λ (u : Unknown). h (at_term term u) + h (coefficient_at terms u)) unknowns
-      (λ u. rw (coefficient-more term terms u) (measure.sum (at_term term u) (coefficient_at terms u))) in
+    (λ u. rw (coefficient-more term terms u) (measure.sum (at_term term u) (coefficient_at terms u))) in
     let both = sum_by-both (λ (u : Unknown). h (at_term term u)) (λ (u : Unknown). h (coefficient_at terms u)) unknowns in
     let once = sum-once h measure term unknowns apart in
     let others = terms-measured h measure terms unknowns apart in
@@ -229,7 +229,7 @@ pub entries-all : (P : ℕ × ℤ → Type 0) (unknowns : List Unknown) (terms :
     → All P (entries_of unknowns terms)
 entries-all P unknowns terms each =
     rw (entries-are unknowns terms) (all-of P (entries_from 0 unknowns terms)
-      (every-weaker (IsEntryOf terms 0 (length unknowns)) P each (entries_from 0 unknowns terms) (entries-each 0 (length unknowns) 0 unknowns terms (omega arith) (omega arith))))
+    (every-weaker (IsEntryOf terms 0 (length unknowns)) P each (entries_from 0 unknowns terms) (entries-each 0 (length unknowns) 0 unknowns terms (omega arith) (omega arith))))
 
 -- ---- the two measures
 
@@ -265,8 +265,8 @@ counts-most z = zero-cases _ z (λ e. omega (arith, counts-zero z e)) (λ e. ome
 counts-sum : (a b : ℤ) → counts (a +ℤ b) ≤ counts a + counts b
 counts-sum a b = zero-cases _ a
     (λ none. zero-cases _ b
-      (λ empty. let both : (a +ℤ b) ≡ pos 0 = omega (arith, ints) in omega (arith, counts-zero (a +ℤ b) both))
-      (λ some. omega (arith, counts-other b some, counts-most (a +ℤ b))))
+    (λ empty. let both : (a +ℤ b) ≡ pos 0 = omega (arith, ints) in omega (arith, counts-zero (a +ℤ b) both))
+    (λ some. omega (arith, counts-other b some, counts-most (a +ℤ b))))
     (λ some. omega (arith, counts-other a some, counts-most (a +ℤ b)))
 
 counts-measure : IsMeasure counts
@@ -285,7 +285,7 @@ counted-most (term ∷ terms) = omega (arith, sum_by-cons (λ (t : Term). counts
 pub entries-short : (terms : List Term) (unknowns : List Unknown) → IsDistinct is_same unknowns → length (entries_of unknowns terms) ≤ length terms
 entries-short terms unknowns apart =
     let each = every-weaker (IsEntryOf terms 0 (length unknowns)) (λ entry. entry.1 ≢ pos 0) (λ entry is. is.nonzero) (entries_from 0 unknowns terms)
-      (entries-each 0 (length unknowns) 0 unknowns terms (omega arith) (omega arith)) in
+    (entries-each 0 (length unknowns) 0 unknowns terms (omega arith) (omega arith)) in
     let count : length (entries_of unknowns terms) ≡ sum_by (λ entry. counts entry.1) (entries_of unknowns terms) =
     rw (entries-are unknowns terms) (counted (entries_from 0 unknowns terms) each) in
     omega (arith, count, entries-within counts counts-measure terms unknowns apart, counted-most terms)

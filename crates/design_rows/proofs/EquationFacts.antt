@@ -1,17 +1,13 @@
 -- The equations of an accepted candidate are within their bounds.
-use Rattle.std.proofs.Common.{◌≡◌, ◌≢◌, ◌∙◌, ◌+◌, ◌*◌, ◌<◌, ◌≤◌, ◌^◌, ℕ, zero, suc, ℤ, pos, Bool, true, false, List, [], ◌∷◌, Option, Some, None, length, map, refl, sym, ap, arith, eqb, inl, inr}
-use Rattle.std.specs.Prelude.{◌+ℤ◌, ◌-ℤ◌, ◌⊎◌, neg_ℤ, is_some, sum_by, slice_get, unsigned_abs, unwrap_or}
+use Rattle.std.proofs.Common.{◌≡◌, ◌≢◌, ◌∙◌, ◌+◌, ◌<◌, ◌≤◌, ◌^◌, ℕ, ℤ, true, false, List, Option, Some, None, length, map, refl, ap, arith, eqb, inl, inr}
+use Rattle.std.specs.Prelude.{◌-ℤ◌, ◌⊎◌, neg_ℤ, is_some, sum_by, unsigned_abs, unwrap_or}
 use Rattle.std.specs.List.{AllByRecursion, IsDistinct}
-use Rattle.std.specs.Option.{ForSome}
 use Rattle.std.proofs.lemmas.Bool.Decides.{nat_tests}
 use Rattle.std.proofs.lemmas.Int.{ints}
-use Rattle.std.proofs.lemmas.List.Sums.{sum_by-cons}
-use Rattle.coefficient_round.specs.Coefficient.{direction_coefficient, distance_coefficient, square_length}
 use Rattle.coefficient_round.proofs.Bounds.{direction_coefficient-size}
 use Rattle.coefficient_round.proofs.Ratio.{distance_coefficient-size}
 use Rattle.geo_model.specs.declared.network.Component.{Component}
 use Rattle.geo_model.specs.declared.network.Component.TheVariants as component
-use Rattle.geo_model.specs.declared.network.Unknown.{Unknown}
 use Rattle.point_tables.specs.declared.record.PointRecord.{PointRecord}
 use Rattle.candidate_tables.specs.declared.kind.Kind.{Kind}
 use Rattle.candidate_tables.specs.declared.kind.Kind.TheVariants as kind
@@ -21,7 +17,7 @@ use Rattle.candidate_tables.specs.Kinds.{is_angle, is_vector}
 use Rattle.candidate_tables.specs.Lines.{length_squared}
 use Rattle.candidate_tables.proofs.PlaceFacts.{squared-is}
 use Rattle.design_rows.specs.declared.term.Term.{Term}
-use Rattle.design_rows.specs.Equations.{Equation, angle_terms, by_x, by_y, cosine, difference_terms, direction_terms, distance_terms, equations_by, equations_of, observed, sine, x_part, y_part}
+use Rattle.design_rows.specs.Equations.{Equation, angle_terms, by_x, by_y, cosine, difference_terms, direction_terms, distance_terms, equations_by, equations_of, sine, x_part, y_part}
 use Rattle.design_rows.specs.Unknowns.{is_same, is_same_component}
 use Rattle.design_rows.proofs.UnknownFacts.{and-right}
 
@@ -61,7 +57,6 @@ by_y-size points a b least =
 
 other : (a b : ℕ) → a ≢ b → eqb a b ≡ false
 other a b differ = grind (arith, nat_tests)
-
 
 negated : (z : ℤ) (n : ℕ) → unsigned_abs z ≤ n → unsigned_abs (neg_ℤ z) ≤ n
 negated z n size = omega (arith, ints)
@@ -126,11 +121,19 @@ angle-terms points a b c differ differ_too differ_three least least_too =
     record {
       apart = (
         (refl, (ab, (refl, (ac, (refl, tt))))),
-        ((refl, (ab, (refl, (ac, tt)))),
-        ((refl, (bc, (refl, tt))),
-        ((refl, (bc, tt)),
-        ((refl, tt),
-        (tt, tt))))),
+        (
+          (refl, (ab, (refl, (ac, tt)))),
+          (
+            (refl, (bc, (refl, tt))),
+            (
+              (refl, (bc, tt)),
+              (
+                (refl, tt),
+                (tt, tt),
+              ),
+            ),
+          ),
+        ),
       );
       short = omega arith;
       each = (omega arith, (omega arith, (omega arith, (omega arith, (omega arith, (omega arith, tt))))));
@@ -173,22 +176,32 @@ long points kind.Vector from to line e = absurd (neither e)
 equations-by : (points : List PointRecord) (candidate : CandidateRecord) → IsCandidateRecord points candidate → (k : Kind) → candidate.kind ≡ k
     → AllByRecursion IsEquation (equations_by k points candidate)
 equations-by points candidate is kind.Distance e = (record { terms = distance-terms points candidate.from candidate.to is.other; deviation = is.sd }, tt)
-equations-by points candidate is kind.Direction e = (record {
-  terms = direction-terms points candidate.from candidate.to is.other (long points candidate.kind candidate.from candidate.to is.line (inl e));
-  deviation = is.sd;
-}, tt)
+equations-by points candidate is kind.Direction e = (
+  record {
+    terms = direction-terms points candidate.from candidate.to is.other (long points candidate.kind candidate.from candidate.to is.line (inl e));
+    deviation = is.sd;
+  },
+  tt,
+)
 equations-by points candidate is kind.Angle e =
-    let c = foresight points candidate is e in (record {
-      terms = angle-terms points candidate.from candidate.to (unwrap_or candidate.to2 0) is.other c.other_from c.other_to
-          (long points candidate.kind candidate.from candidate.to is.line (inr e)) (long points candidate.kind candidate.from (unwrap_or candidate.to2 0) c.line (inr e));
-      deviation = is.sd;
-    }, tt)
+    let c = foresight points candidate is e in (
+      record {
+        terms = angle-terms points candidate.from candidate.to (unwrap_or candidate.to2 0) is.other c.other_from c.other_to
+            (long points candidate.kind candidate.from candidate.to is.line (inr e)) (long points candidate.kind candidate.from (unwrap_or candidate.to2 0) c.line (inr e));
+        deviation = is.sd;
+      },
+      tt,
+    )
 equations-by points candidate is kind.Level e = (record { terms = difference-terms component.Z candidate.from candidate.to is.other; deviation = is.sd }, tt)
 equations-by points candidate is kind.Vector e = (
   record { terms = difference-terms component.X candidate.from candidate.to is.other; deviation = is.sd },
-  (record { terms = difference-terms component.Y candidate.from candidate.to is.other; deviation = is.sd },
-  (record { terms = difference-terms component.Z candidate.from candidate.to is.other; deviation = height points candidate is e },
-  tt)),
+  (
+    record { terms = difference-terms component.Y candidate.from candidate.to is.other; deviation = is.sd },
+    (
+      record { terms = difference-terms component.Z candidate.from candidate.to is.other; deviation = height points candidate is e },
+      tt,
+    ),
+  ),
 )
 
 pub equations-bounded : (points : List PointRecord) (candidate : CandidateRecord) → IsCandidateRecord points candidate → AllByRecursion IsEquation (equations_of points candidate)

@@ -1,5 +1,5 @@
 -- The unknowns of a network differ, and there are at most four of each point.
-use Rattle.std.proofs.Common.{◌≡◌, ◌≢◌, ◌∙◌, ◌+◌, ◌*◌, ◌<◌, ◌≤◌, ℕ, Bool, true, false, List, [], ◌∷◌, ◌++◌, length, refl, sym, ap, arith, eqb, length-append, cond}
+use Rattle.std.proofs.Common.{◌≡◌, ◌+◌, ◌*◌, ◌<◌, ◌≤◌, ℕ, Bool, true, false, List, [], ◌∷◌, ◌++◌, length, refl, arith, eqb, length-append}
 use Rattle.std.specs.Prelude.{◌&&◌, if◌then◌else◌}
 use Rattle.std.specs.List.{AllByRecursion, IsDistinct, enumerate_from, flat_map}
 use Rattle.std.proofs.lemmas.Bool.Decides.{nat_tests}
@@ -69,8 +69,8 @@ module _ (f : ℕ × PointRecord → List Unknown) where
       let later = from-number each (n + 1) (n + 1) points (omega arith) in
       distinct-append (f (n, point)) rest (own n point) (numbered-apart each own (n + 1) points)
       (every-weaker (λ (u : Unknown). u.point ≡ n) (λ (u : Unknown). AllByRecursion (λ v. is_same u v ≡ false) rest)
-        (λ u e. every-weaker (λ (v : Unknown). n + 1 ≤ v.point) (λ (v : Unknown). is_same u v ≡ false) (λ v le. other-point u v (omega arith)) rest later)
-        (f (n, point)) (each n point))
+      (λ u e. every-weaker (λ (v : Unknown). n + 1 ≤ v.point) (λ (v : Unknown). is_same u v ≡ false) (λ v le. other-point u v (omega arith)) rest later)
+      (f (n, point)) (each n point))
 
   pub numbered-few : (most : ℕ) → ((k : ℕ) (point : PointRecord) → length (f (k, point)) ≤ most)
       → (n : ℕ) (points : List PointRecord) → length (flat_map f (enumerate_from n points)) ≤ length points * most
@@ -167,24 +167,35 @@ turn-differs a component.X e f = absurd (cc f)
 turn-differs a component.Y e f = absurd (cc f)
 turn-differs a component.Z e f = absurd (cc f)
 
-pub unknowns-differ : (points : List PointRecord) (candidates : List CandidateRecord) → length points ≤ 1000 → AreUnknowns (unknowns_of points candidates)
+pub unknowns-differ : (points : List PointRecord) (candidates : List CandidateRecord) → IsDistinct is_same (unknowns_of points candidates)
 unfolding unknowns_of
-unknowns-differ points candidates few =
+unknowns-differ points candidates =
     let places = flat_map coordinates (enumerate_from 0 points) in
     let turns = flat_map (orientation candidates) (enumerate_from 0 points) in
     let steady = every-numbered coordinates (λ u. is_turn u.component ≡ false) (λ k point. rw (coordinates-are k point) (parts-steady (is_new point.plane) (is_new point.height) k)) 0 points in
     let turning = every-numbered (orientation candidates) (λ u. is_turn u.component ≡ true) (λ k point. rw (orientation-is candidates k point) (station-turns (is_station candidates k) k)) 0 points in
+    distinct-append places turns
+    (numbered-apart coordinates (λ k point. rw (coordinates-are k point) (parts-at (is_new point.plane) (is_new point.height) k))
+    (λ k point. rw (coordinates-are k point) (parts-apart (is_new point.plane) (is_new point.height) k)) 0 points)
+    (numbered-apart (orientation candidates) (λ k point. rw (orientation-is candidates k point) (station-at (is_station candidates k) k))
+    (λ k point. rw (orientation-is candidates k point) (station-apart (is_station candidates k) k)) 0 points)
+    (every-weaker (λ (u : Unknown). is_turn u.component ≡ false) (λ (u : Unknown). AllByRecursion (λ v. is_same u v ≡ false) turns)
+    (λ u e. every-weaker (λ (v : Unknown). is_turn v.component ≡ true) (λ (v : Unknown). is_same u v ≡ false)
+    (λ v f. and-left (is_same_component u.component v.component) (eqb u.point v.point) (turn-differs u.component v.component e f)) turns turning)
+    places steady)
+
+pub unknowns-few : (points : List PointRecord) (candidates : List CandidateRecord) → length (unknowns_of points candidates) ≤ length points * 4
+unfolding unknowns_of
+unknowns-few points candidates =
+    let places = flat_map coordinates (enumerate_from 0 points) in
+    let turns = flat_map (orientation candidates) (enumerate_from 0 points) in
     let first = numbered-few coordinates 3 (λ k point. rw (coordinates-are k point) (parts-few (is_new point.plane) (is_new point.height) k)) 0 points in
     let second = numbered-few (orientation candidates) 1 (λ k point. rw (orientation-is candidates k point) (station-few (is_station candidates k) k)) 0 points in
-    record {
-      apart = distinct-append places turns
-          (numbered-apart coordinates (λ k point. rw (coordinates-are k point) (parts-at (is_new point.plane) (is_new point.height) k))
-            (λ k point. rw (coordinates-are k point) (parts-apart (is_new point.plane) (is_new point.height) k)) 0 points)
-          (numbered-apart (orientation candidates) (λ k point. rw (orientation-is candidates k point) (station-at (is_station candidates k) k))
-            (λ k point. rw (orientation-is candidates k point) (station-apart (is_station candidates k) k)) 0 points)
-          (every-weaker (λ (u : Unknown). is_turn u.component ≡ false) (λ (u : Unknown). AllByRecursion (λ v. is_same u v ≡ false) turns)
-            (λ u e. every-weaker (λ (v : Unknown). is_turn v.component ≡ true) (λ (v : Unknown). is_same u v ≡ false)
-              (λ v f. and-left (is_same_component u.component v.component) (eqb u.point v.point) (turn-differs u.component v.component e f)) turns turning)
-            places steady);
-      few = omega (arith, first, second, length-append places turns);
-    }
+    omega (arith, first, second, length-append places turns)
+
+-- what the numbering keeps
+pub are-unknowns : (points : List PointRecord) (candidates : List CandidateRecord) → length points ≤ 1000 → AreUnknowns (unknowns_of points candidates)
+are-unknowns points candidates few = record {
+  apart = unknowns-differ points candidates;
+  few = omega (arith, unknowns-few points candidates);
+}

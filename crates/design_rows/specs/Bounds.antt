@@ -18,10 +18,9 @@ pub record AreRows (unknowns : List Unknown) (rows : List RowOf) : Type 0 where
   pub each : All IsRow rows
   pub columns : All (λ row. All (λ entry. entry.0 < length unknowns) row.entries) rows
 
--- the unknowns of at most 1000 points all differ, whatever the candidates
+-- the unknowns of any points and candidates all differ
 abbrev pub UnknownsDiffer : Type 0
-UnknownsDiffer =
-    (points : List PointRecord) (candidates : List CandidateRecord) → length points ≤ 1000 → AreUnknowns (unknowns_of points candidates)
+UnknownsDiffer = (points : List PointRecord) (candidates : List CandidateRecord) → IsDistinct is_same (unknowns_of points candidates)
 
 -- the rows of a candidate of an accepted table are within the bounds of rows
 abbrev pub RowsAreWithinBounds : Type 0

@@ -7,5 +7,5 @@ mod rows;
 mod term;
 
 pub use columns::Columns;
-pub use laws::unknowns_differ;
+pub use laws::{rows_are_within_bounds, unknowns_differ};
 pub use rows::rows_of;

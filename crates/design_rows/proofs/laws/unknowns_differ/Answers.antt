@@ -1,6 +1,4 @@
 use Rattle.design_rows.proofs.UnknownFacts.{unknowns-differ}
-use Rattle.design_rows.proofs.EntryFacts.{entries-sized}
-use Rattle.design_rows.proofs.EquationFacts.{cosine-size}
 use Rattle.design_rows.proofs.laws.unknowns_differ.Goals as goal
 
 pub returns : goal.returns
