@@ -1,0 +1,5 @@
+pub mod PlaceFacts
+pub mod UnknownFacts
+pub mod EntryFacts
+pub mod EquationFacts
+pub mod BoundFacts

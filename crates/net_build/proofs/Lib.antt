@@ -1,0 +1,5 @@
+pub mod ListFacts
+pub mod SquareFacts
+pub mod PointFacts
+pub mod RedundancyFacts
+pub mod NetworkFacts
