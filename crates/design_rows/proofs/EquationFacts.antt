@@ -17,20 +17,10 @@ use Rattle.candidate_tables.specs.Kinds.{is_angle, is_vector}
 use Rattle.candidate_tables.specs.Lines.{length_squared}
 use Rattle.candidate_tables.proofs.PlaceFacts.{squared-is}
 use Rattle.design_rows.specs.declared.term.Term.{Term}
+use Rattle.design_rows.specs.Bounds.{AreTerms}
 use Rattle.design_rows.specs.Equations.{Equation, angle_terms, by_x, by_y, cosine, difference_terms, direction_terms, distance_terms, equations_by, equations_of, sine, x_part, y_part}
 use Rattle.design_rows.specs.Unknowns.{is_same, is_same_component}
 use Rattle.design_rows.proofs.UnknownFacts.{and-right}
-
--- the sizes of the coefficients, added up
-abbrev pub total_of : List Term → ℕ
-total_of terms = sum_by (λ term. unsigned_abs term.coefficient) terms
-
--- the bounds of an equation's terms
-pub record AreTerms (terms : List Term) : Type 0 where
-  pub apart : IsDistinct is_same (map (λ (term : Term). term.unknown) terms)
-  pub short : length terms ≤ 6
-  pub each : AllByRecursion (λ term. unsigned_abs term.coefficient < 2 ^ 21) terms
-  pub total : total_of terms < 2 ^ 23
 
 -- the bounds of an equation
 pub record IsEquation (equation : Equation) : Type 0 where

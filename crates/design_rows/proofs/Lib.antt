@@ -3,3 +3,4 @@ pub mod UnknownFacts
 pub mod EntryFacts
 pub mod EquationFacts
 pub mod BoundFacts
+pub mod NumberingFacts
