@@ -4,3 +4,4 @@ pub mod EntryFacts
 pub mod EquationFacts
 pub mod BoundFacts
 pub mod NumberingFacts
+pub mod LineFacts

@@ -37,6 +37,8 @@ fn line_between(points: &Points, from: u32, to: u32) -> LineParts
     requires to { to < length points.now }
     ensures x { result.x ≡ x_part points.now from to }
     ensures y { result.y ≡ y_part points.now from to }
+    ensures x_size { unsigned_abs result.x < 2 ^ 62 }
+    ensures y_size { unsigned_abs result.y < 2 ^ 62 }
 {
     LineParts {
         x: x_of(points, to) - x_of(points, from),
