@@ -5,3 +5,4 @@ pub mod EquationFacts
 pub mod BoundFacts
 pub mod NumberingFacts
 pub mod LineFacts
+pub mod EntrySteps

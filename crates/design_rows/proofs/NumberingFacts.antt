@@ -15,7 +15,7 @@ length-take xs zero le = refl
 length-take [] (suc k) le = absurd (omega arith)
 length-take (x ∷ xs) (suc k) le = ap suc (length-take xs k (omega arith))
 
-enumerate-push : {A : Type 0} (n : ℕ) (xs : List A) (x : A) → enumerate_from n (xs ++ x ∷ []) ≡ enumerate_from n xs ++ (n + length xs, x) ∷ []
+pub enumerate-push : {A : Type 0} (n : ℕ) (xs : List A) (x : A) → enumerate_from n (xs ++ x ∷ []) ≡ enumerate_from n xs ++ (n + length xs, x) ∷ []
 enumerate-push n [] x = ap (λ (k : ℕ). (k, x) ∷ []) (omega arith)
 enumerate-push n (y ∷ xs) x =
     ap (λ rest. (n, y) ∷ rest) (enumerate-push (n + 1) xs x)
