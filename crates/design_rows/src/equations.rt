@@ -8,7 +8,7 @@ ghost use Rattle.design_rows.specs.Rows.{row_of};
 use crate::columns::Columns;
 use crate::entries::row_of;
 use crate::line::{direction_parts, distance_parts};
-use crate::term::{minus, term_of};
+use crate::term::{difference, minus, term_of};
 use candidate_tables::CandidateRecord;
 use geo_base::NoMemory;
 use geo_model::{Component, Row};
@@ -80,8 +80,8 @@ pub(crate) fn angle_row(
     let back = direction_parts(points, a, b);
     let fore = direction_parts(points, a, c);
     let terms = [
-        term_of(fore.y - back.y, Component::X, a),
-        term_of(back.x - fore.x, Component::Y, a),
+        term_of(difference(fore.y, back.y), Component::X, a),
+        term_of(difference(back.x, fore.x), Component::Y, a),
         term_of(back.y, Component::X, b),
         term_of(minus(back.x), Component::Y, b),
         term_of(minus(fore.y), Component::X, c),

@@ -1,4 +1,4 @@
-ghost use Rattle.std.specs.Prelude.{◌≡◌, ◌<◌, ◌^◌, neg_ℤ, unsigned_abs};
+ghost use Rattle.std.specs.Prelude.{◌≡◌, ◌<◌, ◌^◌, ◌-ℤ◌, neg_ℤ, unsigned_abs};
 ghost use Rattle.design_rows.specs.Equations.{term};
 
 use geo_model::{Component, Unknown};
@@ -27,4 +27,13 @@ pub(crate) fn minus(z: i64) -> i64
     ensures { result ≡ neg_ℤ z }
 {
     0 - z
+}
+
+// The first number less the second.
+pub(crate) fn difference(y: i64, z: i64) -> i64
+    requires first { unsigned_abs y < 2 ^ 62 }
+    requires second { unsigned_abs z < 2 ^ 62 }
+    ensures { result ≡ y -ℤ z }
+{
+    y - z
 }
