@@ -1,6 +1,6 @@
 -- The coefficient of an unknown by one more term, and the entries of a row by one more unknown.
-use Rattle.std.proofs.Common.{◌≡◌, ◌≢◌, ◌∙◌, ◌+◌, ◌<◌, ◌≤◌, ◌^◌, ℕ, ℤ, pos, ◌+ℤ◌, Bool, true, false, List, [], ◌∷◌, ◌++◌, length, take, get_or, map, refl, sym, ap, ap₂, arith, FitsSigned, w64}
-use Rattle.std.specs.Prelude.{if◌then◌else◌, sum_by, unsigned_abs}
+use Rattle.std.proofs.Common.{◌≡◌, ◌∙◌, ◌+◌, ◌<◌, ◌≤◌, ◌^◌, ℕ, ℤ, pos, ◌+ℤ◌, Bool, true, false, List, [], ◌∷◌, ◌++◌, length, take, get_or, map, refl, sym, ap, arith, FitsSigned, w64}
+use Rattle.std.specs.Prelude.{if◌then◌else◌, unsigned_abs}
 use Rattle.std.specs.List.{enumerate_from, filter}
 use Rattle.std.proofs.lemmas.Int.{ints, fits_signed_from_abs}
 use Rattle.std.proofs.lemmas.List.{map-append, take_more}
@@ -87,7 +87,7 @@ entries-none terms = refl
 
 pub entries-push : (unknowns : List Unknown) (u : Unknown) (terms : List Term)
     → entries_of (unknowns ++ u ∷ []) terms
-      ≡ entries_of unknowns terms ++ (if is_entry (length unknowns, coefficient_at terms u) then (length unknowns, coefficient_at terms u) ∷ [] else [])
+    ≡ entries_of unknowns terms ++ (if is_entry (length unknowns, coefficient_at terms u) then (length unknowns, coefficient_at terms u) ∷ [] else [])
 unfolding entries_of
 entries-push unknowns u terms =
     ap (λ xs. filter is_entry (map column xs)) (enumerate-push 0 unknowns u ∙ ap (λ (k : ℕ). enumerate_from 0 unknowns ++ (k, u) ∷ []) (omega arith))

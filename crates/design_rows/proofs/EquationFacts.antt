@@ -1,6 +1,6 @@
 -- The equations of an accepted candidate are within their bounds.
-use Rattle.std.proofs.Common.{◌≡◌, ◌≢◌, ◌∙◌, ◌+◌, ◌<◌, ◌≤◌, ◌^◌, ℕ, ℤ, true, false, List, Option, Some, None, length, map, refl, ap, arith, eqb, inl, inr}
-use Rattle.std.specs.Prelude.{◌-ℤ◌, ◌⊎◌, neg_ℤ, is_some, sum_by, unsigned_abs, unwrap_or}
+use Rattle.std.proofs.Common.{◌≡◌, ◌≢◌, ◌∙◌, ◌+◌, ◌≤◌, ◌^◌, ℕ, ℤ, true, false, List, Option, Some, None, refl, ap, arith, eqb, inl, inr}
+use Rattle.std.specs.Prelude.{◌-ℤ◌, ◌⊎◌, neg_ℤ, is_some, unsigned_abs, unwrap_or}
 use Rattle.std.specs.List.{AllByRecursion, IsDistinct}
 use Rattle.std.proofs.lemmas.Bool.Decides.{nat_tests}
 use Rattle.std.proofs.lemmas.Int.{ints}
@@ -16,10 +16,9 @@ use Rattle.candidate_tables.specs.Accepted.{IsBetween, IsCandidateRecord, IsFore
 use Rattle.candidate_tables.specs.Kinds.{is_angle, is_vector}
 use Rattle.candidate_tables.specs.Lines.{length_squared}
 use Rattle.candidate_tables.proofs.PlaceFacts.{squared-is}
-use Rattle.design_rows.specs.declared.term.Term.{Term}
 use Rattle.design_rows.specs.Bounds.{AreTerms}
 use Rattle.design_rows.specs.Equations.{Equation, angle_terms, by_x, by_y, cosine, difference_terms, direction_terms, distance_terms, equations_by, equations_of, sine, x_part, y_part}
-use Rattle.design_rows.specs.Unknowns.{is_same, is_same_component}
+use Rattle.design_rows.specs.Unknowns.{is_same_component}
 use Rattle.design_rows.proofs.UnknownFacts.{and-right}
 
 -- the bounds of an equation

@@ -6,3 +6,4 @@ pub mod BoundFacts
 pub mod NumberingFacts
 pub mod LineFacts
 pub mod EntrySteps
+pub mod RowFacts

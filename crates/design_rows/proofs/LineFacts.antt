@@ -1,10 +1,10 @@
 -- The parts of a line, without the casts of the code.
-use Rattle.std.proofs.Common.{arith, ◌≡◌, ◌∙◌, ◌<◌, ◌≤◌, ◌^◌, ℕ, ℤ, List, FitsSigned, to_z, of_z, w64, ap₂, sym, inl, inr}
-use Rattle.std.specs.Prelude.{◌-ℤ◌, ◌⊎◌, neg_ℤ, unsigned_abs}
+use Rattle.std.proofs.Common.{arith, ◌≡◌, ◌∙◌, ◌<◌, ◌≤◌, ◌^◌, ℕ, ℤ, List, FitsSigned, to_z, of_z, w64, ap₂}
+use Rattle.std.specs.Prelude.{◌-ℤ◌, unsigned_abs}
 use Rattle.std.proofs.lemmas.Int.{ints, to_z-of_z, fits_signed_from_abs}
 use Rattle.coefficient_round.specs.Coefficient.{square_length}
 use Rattle.point_tables.specs.declared.record.PointRecord.{PointRecord}
-use Rattle.candidate_tables.specs.Lines.{length_squared, x_at, y_at}
+use Rattle.candidate_tables.specs.Lines.{length_squared}
 use Rattle.candidate_tables.proofs.PlaceFacts.{squared-is}
 use Rattle.design_rows.specs.Equations.{x_part, y_part}
 

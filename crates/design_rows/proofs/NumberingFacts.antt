@@ -1,8 +1,8 @@
 -- The unknowns of one more point, and one more candidate.
-use Rattle.std.proofs.Common.{◌≡◌, ◌∙◌, ◌+◌, ◌<◌, ◌≤◌, ℕ, zero, suc, Bool, true, false, List, [], ◌∷◌, ◌++◌, length, take, refl, sym, ap, ap₂, arith, slice_get, Option, Some, append_assoc, get_or, length-append}
+use Rattle.std.proofs.Common.{◌≡◌, ◌∙◌, ◌+◌, ◌≤◌, ℕ, zero, suc, Bool, true, false, List, [], ◌∷◌, ◌++◌, length, take, refl, sym, ap, arith, slice_get, Some}
 use Rattle.std.specs.Prelude.{◌||◌}
 use Rattle.std.specs.List.{enumerate_from, flat_map, list_any}
-use Rattle.std.proofs.lemmas.List.{flat_map_more, take_more, take_all}
+use Rattle.std.proofs.lemmas.List.{flat_map_more, take_more}
 use Rattle.std.proofs.lemmas.List.Folds.{list_any-append}
 use Rattle.std.proofs.lemmas.Option.{slice_get_within, get_or_from_slice_get}
 

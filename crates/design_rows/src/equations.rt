@@ -103,6 +103,9 @@ pub(crate) fn difference_row(
     requires deviation { IsBetween deviation }
     ensures { IfOk result (λ row. row ≡ row_of columns.now (observed (difference_terms component a b) deviation)) }
 {
-    let terms = [term_of(minus(UNIT), component, a), term_of(UNIT, component, b)];
+    let terms = [
+        term_of(minus(UNIT), component, a),
+        term_of(UNIT, component, b),
+    ];
     row_of(alloc, columns, &terms, deviation)
 }

@@ -57,14 +57,7 @@ fn vector_rows(
     let mut rows = Vec::new(alloc);
     rows.push(difference_row(alloc, Component::X, a, b, plane, columns)?)?;
     rows.push(difference_row(alloc, Component::Y, a, b, plane, columns)?)?;
-    rows.push(difference_row(
-        alloc,
-        Component::Z,
-        a,
-        b,
-        height,
-        columns,
-    )?)?;
+    rows.push(difference_row(alloc, Component::Z, a, b, height, columns)?)?;
     Ok(rows)
 }
 

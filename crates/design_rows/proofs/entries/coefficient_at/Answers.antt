@@ -1,4 +1,4 @@
-use Rattle.std.proofs.Common.{◌≡◌, ◌∙◌, ◌+ℤ◌, ℤ, pos, get_or, to_z, w64, sym, ap}
+use Rattle.std.proofs.Common.{◌∙◌, ◌+ℤ◌, ℤ, pos, get_or, to_z, w64, sym, ap}
 use Rattle.std.proofs.lemmas.Int.{to_z-of_z}
 use Rattle.geo_model.specs.declared.network.Component.TheVariants as component
 use Rattle.design_rows.specs.declared.term.Term.{Term}

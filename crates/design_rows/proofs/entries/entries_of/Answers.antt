@@ -1,4 +1,4 @@
-use Rattle.std.proofs.Common.{◌≡◌, ◌∙◌, FitsSigned, of_z, rules, sym, to_z, w64}
+use Rattle.std.proofs.Common.{◌∙◌, FitsSigned, of_z, rules, to_z, w64}
 use Rattle.std.proofs.lemmas.Int.{to_z-of_z}
 use Rattle.geo_model.specs.declared.network.Component.TheVariants as component
 use Rattle.design_rows.specs.Unknowns.{unknown}

@@ -1,8 +1,7 @@
-use Rattle.std.proofs.Common.{◌≡◌, ◌∙◌, [], ◌∷◌, List, rules, subst, sym, inl, inr}
-use Rattle.design_rows.specs.declared.term.Term.{Term}
+use Rattle.std.proofs.Common.{◌≡◌, [], ◌∷◌, rules, subst, sym}
 use Rattle.design_rows.specs.Bounds.{AreTerms}
 use Rattle.design_rows.specs.Equations.{distance_terms}
-use Rattle.design_rows.proofs.EquationFacts.{distance-terms, foresight, long}
+use Rattle.design_rows.proofs.EquationFacts.{distance-terms}
 use Rattle.design_rows.proofs.equations.distance_row.Goals as goal
 
 pub row_of-requires-clause-terms : goal.row_of-requires-clause-terms

@@ -1,4 +1,3 @@
-use Rattle.std.proofs.Common.{sym}
 use Rattle.design_rows.proofs.LineFacts.{squared-cast}
 use Rattle.design_rows.proofs.line.direction_parts.Goals as goal
 
