@@ -2,7 +2,11 @@
 #![tactic(auto)]
 
 mod columns;
+mod entries;
+mod equations;
 mod laws;
+mod line;
+mod numbering;
 mod rows;
 mod term;
 
