@@ -4,6 +4,8 @@ pub mod Dividing
 pub mod RowSteps
 pub mod Matrices
 pub mod ChainSteps
+pub mod Judged
+pub mod ChainRun
 pub mod Plans
 pub mod RowWrites
 pub mod StepsSoFar

@@ -37,23 +37,8 @@ triangle_after side (suc t) (suc n) (row ∷ rest) h le go =
     one_off t n = omega arith
 
 -- ---- a triangle with one row written
-pub row_put : (n : ℕ) (tri whole : List (List ℤ)) (w : List ℤ) (k : ℕ) → IsTri n tri → k < n → length w ≡ n - k
-    → ((j : ℕ) → j < k → tri_row tri j ≡ row_at whole j) → w ≡ row_at whole k
-    → IsTri n (slice_set tri k (refilled (tri_row tri k) w)) × ((j : ℕ) → j < k + 1 → tri_row (slice_set tri k (refilled (tri_row tri k) w)) j ≡ row_at whole j)
-row_put n tri whole w k t lt long before here =
-    let filled : refilled (tri_row tri k) w ≡ w = refilled_whole (tri_row tri k) w (long ∙ sym (length-tri_row n tri k t lt)) in
-    subst (λ r. IsTri n (slice_set tri k r) × ((j : ℕ) → j < k + 1 → tri_row (slice_set tri k r) j ≡ row_at whole j)) (sym filled)
-    (IsTri-slice_set n tri k w t long, rows)
-  where
-    rows : (j : ℕ) → j < k + 1 → tri_row (slice_set tri k w) j ≡ row_at whole j
-    rows j lj =
-        elim (cases_lt j k) [
-          | inl l ↦ get_or-set_other tri k j w [] (λ f. absurd (omega arith)) ∙ before j l
-          | inr g ↦ (let same : j ≡ k = omega arith in
-              ap (tri_row (slice_set tri k w)) same
-              ∙ get_or-set_same tri k w [] (let f = length-IsTri n tri t in omega arith)
-              ∙ here ∙ ap (row_at whole) (sym same))
-        ]
+pub row_kept : (tri : List (List ℤ)) (w : List ℤ) (k j : ℕ) → (j ≡ k → ⊥) → tri_row (slice_set tri k w) j ≡ tri_row tri j
+row_kept tri w k j apart = get_or-set_other tri k j w [] apart
 
 pub row_written : (n : ℕ) (tri : List (List ℤ)) (w : List ℤ) (k : ℕ) → IsTri n tri → k < n → length w ≡ n - k
     → tri_row (slice_set tri k (refilled (tri_row tri k) w)) k ≡ w
@@ -61,13 +46,20 @@ row_written n tri w k t lt long =
     let filled : refilled (tri_row tri k) w ≡ w = refilled_whole (tri_row tri k) w (long ∙ sym (length-tri_row n tri k t lt)) in
     ap (λ r. tri_row (slice_set tri k r) k) filled ∙ get_or-set_same tri k w [] (let f = length-IsTri n tri t in omega arith)
 
+pub row_put : (n : ℕ) (tri : List (List ℤ)) (f : ℕ → List ℤ) (w : List ℤ) (k : ℕ) → IsTri n tri → k < n → length w ≡ n - k
+    → ((j : ℕ) → j < k → tri_row tri j ≡ f j) → w ≡ f k
+    → (j : ℕ) → j < k + 1 → tri_row (slice_set tri k (refilled (tri_row tri k) w)) j ≡ f j
+row_put n tri f w k t lt long before here j lj =
+    elim (cases_lt j k) [
+      | inl l ↦ row_kept tri (refilled (tri_row tri k) w) k j (λ e. absurd (omega arith)) ∙ before j l
+      | inr g ↦ (let same : j ≡ k = omega arith in
+          ap (tri_row (slice_set tri k (refilled (tri_row tri k) w))) same ∙ row_written n tri w k t lt long ∙ here ∙ ap f (sym same))
+    ]
+
 pub row_shape : (n : ℕ) (tri : List (List ℤ)) (w : List ℤ) (k : ℕ) → IsTri n tri → k < n → length w ≡ n - k → IsTri n (slice_set tri k (refilled (tri_row tri k) w))
 row_shape n tri w k t lt long =
     let filled : refilled (tri_row tri k) w ≡ w = refilled_whole (tri_row tri k) w (long ∙ sym (length-tri_row n tri k t lt)) in
     subst (λ r. IsTri n (slice_set tri k r)) (sym filled) (IsTri-slice_set n tri k w t long)
-
-pub row_kept : (tri : List (List ℤ)) (w : List ℤ) (k j : ℕ) → (j ≡ k → ⊥) → tri_row (slice_set tri k w) j ≡ tri_row tri j
-row_kept tri w k j apart = get_or-set_other tri k j w [] apart
 
 -- triangles with the same rows are the same
 pub rows_all : (n : ℕ) (tri whole : List (List ℤ)) → IsTri n tri → IsTri n whole → ((j : ℕ) → j < n → tri_row tri j ≡ row_at whole j) → tri ≡ whole

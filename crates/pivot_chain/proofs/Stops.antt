@@ -1,7 +1,7 @@
 -- What the tests of a first row tell of its step.
 use Rattle.std.proofs.Common.{◌≡◌, ℕ, zero, suc, ◌+◌, ◌*◌, ◌^◌, ◌<◌, ◌≤◌, Bool, true, false, ◌&&◌, ◌||◌, List, [], ◌∷◌, length, refl, sym, ◌∙◌, ap, ap₂, subst, arith, ℤ, pos, ◌*ℤ◌, neg_ℤ, ◌≤ℤ◌, ◌<ℤ◌, unsigned_abs, IsTrue, int_lt, int_le}
 use Rattle.std.specs.Prelude.{All}
-use lib.Signed.{le_z}
+use lib.Signed.{le_z, lt_z}
 use Rattle.std.specs.List.{list_all}
 use Rattle.std.proofs.lemmas.Int.{ints, unsigned_abs-mul}
 use Rattle.std.proofs.lemmas.Nat.{mul-le}
@@ -119,3 +119,9 @@ low_stops (a ∷ b) some low none =
     (λ _ _. refl)
     (λ above _. absurd (not_high a low above))
     (λ above _. absurd (not_high a low above))
+
+pub is_above : (a : ℤ) → lt_z (pos 0) a ≡ true → pos 0 <ℤ a
+is_above a h = grind (arith, ints)
+
+pub not_above : (a : ℤ) → lt_z (pos 0) a ≡ false → pos 0 <ℤ a → ⊥
+not_above a h g = grind (arith, ints)
