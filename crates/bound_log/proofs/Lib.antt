@@ -1,2 +1,1 @@
-pub mod NarrowLemmas
 pub mod SoundLemmas

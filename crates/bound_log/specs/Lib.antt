@@ -2,7 +2,5 @@ pub mod Bound
 pub mod Counted
 pub mod LogText
 pub mod LogTree
-pub mod Narrow
 pub mod Sound
 pub mod Tree
-pub mod VerdictOf

@@ -6,7 +6,7 @@ mod laws;
 mod line;
 
 pub use bound::Bound;
-pub use laws::{checker_is_sound, met_is_sound};
+pub use laws::checker_is_sound;
 pub use line::{put_cost, put_head, put_pivot, put_split};
 
 #[cfg(test)]
