@@ -1,15 +1,33 @@
-use Rattle.std.specs.Prelude.{ℕ, List, [], ◌∷◌, drop, Bool, false, not, ◌||◌, ◌==◌, if◌then◌else◌, Option, None, option_map, bytes_eq, codes}
+use Rattle.std.specs.Prelude.{◌≡◌, ℕ, List, [], ◌∷◌, drop, Bool, false, not, ◌||◌, ◌==◌, if◌then◌else◌, Option, Some, None, option_map, bytes_eq, codes}
 use Rattle.std.specs.List.{list_all}
 use Rattle.geoplan.specs.Digits.{whole_of}
 
 -- The words of a command line, the program's name first. This project's own.
 
--- the command `plan`: the names of its two tables, the redundancy that it asks for, and the name of its log
-pub record CommandOf : Type 0 where
+-- the two tables that a command reads, by their names, and the redundancy that is asked of their network, in thousandths
+pub record SourcesOf : Type 0 where
   pub points : List ℕ
   pub candidates : List ℕ
   pub redundancy : ℕ
+
+-- what the command `plan` is asked for: its tables, and the name of its log
+pub record JobOf : Type 0 where
+  pub sources : SourcesOf
   pub log : List ℕ
+
+-- a command: `plan`, or `rows` with the names of its two tables
+pub data CommandOf : Type 0 where
+  plan_command : JobOf → CommandOf
+  rows_command : List ℕ → List ℕ → CommandOf
+
+-- the tables of `rows`, of whose network no redundancy is asked
+abbrev pub plain_sources : List ℕ → List ℕ → SourcesOf
+plain_sources points candidates = record { points = points; candidates = candidates; redundancy = 0 }
+
+-- the tables that a command reads
+abbrev pub sources_of : CommandOf → SourcesOf
+sources_of (plan_command job) = job.sources
+sources_of (rows_command points candidates) = plain_sources points candidates
 
 -- whether a word after the program's name may stand: it isn't empty, and doesn't begin with `-`
 abbrev pub is_plain : List ℕ → Bool
@@ -20,18 +38,46 @@ is_plain (first ∷ rest) = not (first == 45)
 abbrev pub are_shared : List ℕ → List ℕ → List ℕ → Bool
 are_shared points candidates log = bytes_eq points candidates || (bytes_eq points log || bytes_eq candidates log)
 
--- the command of its words, where the word for the redundancy is 1 to 3 digits and the names differ
-abbrev pub plan_of : List ℕ → List ℕ → List ℕ → List ℕ → Option CommandOf
-plan_of points candidates redundancy log =
+-- the job of its words, where the word for the redundancy is 1 to 3 digits and the names differ
+abbrev pub job_of : List ℕ → List ℕ → List ℕ → List ℕ → Option JobOf
+job_of points candidates redundancy log =
     if are_shared points candidates log then None
-    else option_map (λ q. record { points = points; candidates = candidates; redundancy = q; log = log }) (whole_of 3 redundancy)
+    else option_map (λ q. record { sources = record { points = points; candidates = candidates; redundancy = q }; log = log }) (whole_of 3 redundancy)
 
 -- the command of words that are all plain
 abbrev pub command_from : List (List ℕ) → Option CommandOf
 command_from (program ∷ command ∷ points ∷ candidates ∷ redundancy ∷ log ∷ []) =
-    if bytes_eq command (codes "plan") then plan_of points candidates redundancy log else None
+    if bytes_eq command (codes "plan") then option_map plan_command (job_of points candidates redundancy log) else None
+command_from (program ∷ command ∷ points ∷ candidates ∷ []) =
+    if bytes_eq command (codes "rows") then (if bytes_eq points candidates then None else Some (rows_command points candidates)) else None
 command_from words = None
 
 -- the command of a command line, where its words are accepted
 unfoldable pub command_of : List (List ℕ) → Option CommandOf
 command_of words = if list_all is_plain (drop 1 words) then command_from words else None
+
+-- the name that a command writes, if there is one
+abbrev pub name_written : Option CommandOf → Option (List ℕ)
+name_written None = None
+name_written (Some (plan_command job)) = Some job.log
+name_written (Some (rows_command points candidates)) = None
+
+-- the name that a command line writes, if there is one
+abbrev pub written_by : List (List ℕ) → Option (List ℕ)
+written_by words = name_written (command_of words)
+
+-- the words are those of a command, and P holds of it
+abbrev pub OnCommand : List (List ℕ) → (CommandOf → Type 0) → Type 0
+OnCommand words P = (command : CommandOf) × (command_of words ≡ Some command) × P command
+
+-- the words are those of `plan`, and P holds of its job
+abbrev pub OnPlan : List (List ℕ) → (JobOf → Type 0) → Type 0
+OnPlan words P = (job : JobOf) × (command_of words ≡ Some (plan_command job)) × P job
+
+-- where the words are those of `plan`, P holds of its job
+abbrev pub IfPlan : List (List ℕ) → (JobOf → Type 0) → Type 0
+IfPlan words P = (job : JobOf) → command_of words ≡ Some (plan_command job) → P job
+
+-- where the words are those of `rows`, P holds of its tables
+abbrev pub IfRows : List (List ℕ) → (SourcesOf → Type 0) → Type 0
+IfRows words P = (points candidates : List ℕ) → command_of words ≡ Some (rows_command points candidates) → P (plain_sources points candidates)

@@ -4,7 +4,6 @@ pub mod CommandView
 pub mod Texts
 pub mod Codes
 pub mod Tables
-pub mod Heights
 pub mod Input
 pub mod Standing
 pub mod Loading

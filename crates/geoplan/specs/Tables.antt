@@ -1,8 +1,10 @@
 use Rattle.std.specs.Prelude.{List}
 use Rattle.geo_model.specs.Network.{NetworkOf}
+use Rattle.point_tables.specs.declared.record.PointRecord.{PointRecord}
 use Rattle.candidate_tables.specs.declared.record.CandidateRecord.{CandidateRecord}
 
--- what two accepted tables give: the candidates in their order, and the network of both
+-- what two accepted tables give: the points and the candidates in their order, and the network of both
 pub record TablesOf : Type 0 where
+  pub points : List PointRecord
   pub candidates : List CandidateRecord
   pub network : NetworkOf
