@@ -1,7 +1,9 @@
 -- The entries of an unknown, the rows of a candidate, and the loop's ends.
-use Rattle.std.proofs.Common.{◌≡◌, ◌≢◌, ◌∙◌, ◌⊎◌, ◌+◌, ◌*◌, ◌^◌, ◌≤◌, ℕ, zero, suc, ℤ, pos, ◌+ℤ◌, ◌-ℤ◌, ◌*ℤ◌, Bool, true, false, List, [], ◌∷◌, Option, Some, None, length, map, refl, sym, ap, ap₂, arith, inl, inr, slice_get, to_z, of_z, w64}
+use Rattle.std.proofs.Common.{◌≡◌, ◌≢◌, ◌∙◌, ◌⊎◌, ◌+◌, ◌*◌, ◌^◌, ◌≤◌, ℕ, zero, suc, ℤ, pos, ◌+ℤ◌, ◌-ℤ◌, ◌*ℤ◌, Bool, true, false, List, [], ◌∷◌, ◌++◌, Option, Some, None, length, map, refl, sym, ap, ap₂, arith, inl, inr, slice_get, append-nil, eqb, FitsSigned, to_z, of_z, w64}
+use mir.Syntax.{w128}
 use Rattle.std.specs.Prelude.{if◌then◌else◌}
 use Rattle.std.proofs.Math.Nat.{mul-le-mul}
+use Rattle.std.proofs.lemmas.Bool.Decides.{nat_tests}
 use Rattle.std.proofs.lemmas.Int.{fits_signed_from_abs, ints, to_z-of_z, to_z_pos}
 use Rattle.std.specs.List.{IsDistinct, filter}
 use Rattle.geo_model.specs.declared.network.Unknown.{Unknown}
@@ -19,7 +21,7 @@ use Rattle.design_rows.specs.Equations.{equations_of, term}
 use Rattle.design_rows.specs.Rows.{coefficient_at, entries_of, is_entry, rows_of}
 use Rattle.design_rows.specs.Unknowns.{is_same, number_of, unknown, unknowns_of}
 use Rattle.design_rows.proofs.PlaceFacts.{number-at, number-none, one-place, same-refl}
-use Rattle.net_build.specs.Build.{axis_limit, candidate_of, count_fault, height_limit, limits_of, network_fault, network_of, network_on, redundancy_limit, row_count, square_on}
+use Rattle.net_build.specs.Build.{axis_limit, candidate_of, count_fault, height_limit, limits_of, network_fault, network_of, network_on, point_limits, redundancy_limit, redundancy_limits, row_count, square_on}
 use Rattle.net_build.proofs.SquareFacts.{coefficient-other, numbered}
 
 -- the coefficient of the unknown itself
@@ -108,6 +110,19 @@ redundancy-is q most =
     let e : to_z w64 q ≡ pos q = to_z_pos w64 q (omega arith) in
     rw e (to_z-of_z w64 (pos 1000 -ℤ pos q) (fits_signed_from_abs w64 (pos 1000 -ℤ pos q) (omega (arith, ints))))
 
+-- a weight as it is cast
+pub beta-is : (w : ℤ) → FitsSigned w64 w
+    → to_z w128 (of_z w128 (pos 1000 *ℤ to_z w128 (of_z w128 (to_z w64 (of_z w64 w))))) ≡ pos 1000 *ℤ w
+beta-is w fits =
+    let inner : to_z w64 (of_z w64 w) ≡ w = to_z-of_z w64 w fits in
+    let outer : to_z w128 (of_z w128 w) ≡ w = to_z-of_z w128 w (fits_signed_from_abs w128 w (omega (arith, ints))) in
+    rw (inner, outer) (to_z-of_z w128 (pos 1000 *ℤ w) (fits_signed_from_abs w128 (pos 1000 *ℤ w) (omega (arith, ints))))
+
+pub owned-square : (w v : ℤ) (entries given : List (ℕ × ℤ)) → FitsSigned w64 w → w ≡ v → entries ≡ given
+    → ◌≡◌ {A = SquareOf} (record { beta = to_z w128 (of_z w128 (pos 1000 *ℤ to_z w128 (of_z w128 (to_z w64 (of_z w64 w))))); entries = entries }) (record { beta = pos 1000 *ℤ v; entries = given })
+owned-square w v entries given fits e f =
+    ap₂ (λ (b : ℤ) (l : List (ℕ × ℤ)). record { beta = b; entries = l }) (beta-is w fits ∙ ap (λ (z : ℤ). pos 1000 *ℤ z) e) f
+
 -- ---- limits from their parts
 
 pub axis-is : (unknowns : List Unknown) (place s : ℕ) (alpha : ℤ) (squares : List SquareOf) → alpha ≡ pos (s * s)
@@ -156,3 +171,14 @@ fault-is points candidates columns unknowns rows numbered count each =
 pub no-rows : (points : List PointRecord) (unknowns : List Unknown) → 0 ≡ row_count points unknowns []
 unfolding row_count
 no-rows points unknowns = refl
+
+-- ---- the limits where q is 0, and where it is not
+
+pub limits-none : (q : ℕ) (points : List PointRecord) (unknowns : List Unknown) (candidates : List CandidateOf) → q ≡ 0 → point_limits points unknowns ≡ limits_of q points unknowns candidates
+unfolding limits_of
+limits-none q points unknowns candidates e = rw e (sym (append-nil (point_limits points unknowns)))
+
+pub limits-some : (q : ℕ) (points : List PointRecord) (unknowns : List Unknown) (candidates : List CandidateOf) → q ≢ 0
+    → point_limits points unknowns ++ redundancy_limits q candidates ≡ limits_of q points unknowns candidates
+unfolding limits_of
+limits-some q points unknowns candidates other = let e : eqb q 0 ≡ false = grind (arith, nat_tests) in rw e refl

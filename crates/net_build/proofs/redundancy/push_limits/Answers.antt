@@ -3,6 +3,7 @@ use Rattle.std.specs.List.{enumerate_from}
 use Rattle.std.proofs.lemmas.List.{take_all}
 use Rattle.std.proofs.lemmas.Option.{slice_get-get_or}
 use Rattle.geo_model.specs.Row.{RowOf}
+use Rattle.geo_model.specs.Candidate.{CandidateOf}
 use Rattle.geo_model.specs.Limit.{LimitOf}
 use Rattle.net_build.specs.Build.{limits_of_candidate, redundancy_limit}
 use Rattle.net_build.proofs.StepFacts.{numbered-one}
@@ -22,4 +23,4 @@ returns c =
     let past : length c.as_slice-rows.result.now ≤ c.rows.place = omega arith in
     c.rows.invariant
     ∙ ap (λ (l : List RowOf). c.args.limits.now.items ++ map (redundancy_limit c.args.q c.args.owner) (enumerate_from 0 l))
-    (take_all c.rows.place c.as_slice-rows.result.now past ∙ c.as_slice-rows.ensures.value ∙ ?)
+    (take_all c.rows.place c.as_slice-rows.result.now past ∙ c.as_slice-rows.ensures.value ∙ ap (λ (candidate : CandidateOf). candidate.rows) c.candidate.view_is)
