@@ -116,22 +116,22 @@ sum_by-both f g (x ∷ xs) =
     omega (arith, sum_by-cons (λ y. f y + g y) x xs, sum_by-cons f x xs, sum_by-cons g x xs, sum_by-both f g xs)
 
 -- a coefficient at its unknown
-at_term : Term → Unknown → ℤ
+unfoldable pub at_term : Term → Unknown → ℤ
 at_term term u = if is_same u term.unknown then term.coefficient else pos 0
 
-coefficient-more : (term : Term) (terms : List Term) (u : Unknown) → coefficient_at (term ∷ terms) u ≡ at_term term u +ℤ coefficient_at terms u
+pub coefficient-more : (term : Term) (terms : List Term) (u : Unknown) → coefficient_at (term ∷ terms) u ≡ at_term term u +ℤ coefficient_at terms u
 unfolding coefficient_at at_term
 coefficient-more term terms u = refl
 
-coefficient-none : (u : Unknown) → coefficient_at [] u ≡ pos 0
+pub coefficient-none : (u : Unknown) → coefficient_at [] u ≡ pos 0
 unfolding coefficient_at
 coefficient-none u = refl
 
-at_term-yes : (term : Term) (u : Unknown) → is_same u term.unknown ≡ true → at_term term u ≡ term.coefficient
+pub at_term-yes : (term : Term) (u : Unknown) → is_same u term.unknown ≡ true → at_term term u ≡ term.coefficient
 unfolding at_term
 at_term-yes term u e = rw e refl
 
-at_term-no : (term : Term) (u : Unknown) → is_same u term.unknown ≡ false → at_term term u ≡ pos 0
+pub at_term-no : (term : Term) (u : Unknown) → is_same u term.unknown ≡ false → at_term term u ≡ pos 0
 unfolding at_term
 at_term-no term u e = rw e refl
 

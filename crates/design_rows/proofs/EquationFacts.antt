@@ -1,6 +1,6 @@
 -- The equations of an accepted candidate are within their bounds.
-use Rattle.std.proofs.Common.{◌≡◌, ◌≢◌, ◌∙◌, ◌+◌, ◌<◌, ◌≤◌, ◌^◌, ℕ, ℤ, true, false, List, Option, Some, None, length, map, refl, ap, arith, eqb, inl, inr}
-use Rattle.std.specs.Prelude.{◌-ℤ◌, ◌⊎◌, neg_ℤ, is_some, sum_by, unsigned_abs, unwrap_or}
+use Rattle.std.proofs.Common.{◌≡◌, ◌≢◌, ◌∙◌, ◌+◌, ◌≤◌, ◌^◌, ℕ, ℤ, true, false, List, Option, Some, None, refl, ap, arith, eqb, inl, inr}
+use Rattle.std.specs.Prelude.{◌-ℤ◌, ◌⊎◌, neg_ℤ, is_some, unsigned_abs, unwrap_or}
 use Rattle.std.specs.List.{AllByRecursion, IsDistinct}
 use Rattle.std.proofs.lemmas.Bool.Decides.{nat_tests}
 use Rattle.std.proofs.lemmas.Int.{ints}
@@ -16,21 +16,10 @@ use Rattle.candidate_tables.specs.Accepted.{IsBetween, IsCandidateRecord, IsFore
 use Rattle.candidate_tables.specs.Kinds.{is_angle, is_vector}
 use Rattle.candidate_tables.specs.Lines.{length_squared}
 use Rattle.candidate_tables.proofs.PlaceFacts.{squared-is}
-use Rattle.design_rows.specs.declared.term.Term.{Term}
+use Rattle.design_rows.specs.Bounds.{AreTerms}
 use Rattle.design_rows.specs.Equations.{Equation, angle_terms, by_x, by_y, cosine, difference_terms, direction_terms, distance_terms, equations_by, equations_of, sine, x_part, y_part}
-use Rattle.design_rows.specs.Unknowns.{is_same, is_same_component}
+use Rattle.design_rows.specs.Unknowns.{is_same_component}
 use Rattle.design_rows.proofs.UnknownFacts.{and-right}
-
--- the sizes of the coefficients, added up
-abbrev pub total_of : List Term → ℕ
-total_of terms = sum_by (λ term. unsigned_abs term.coefficient) terms
-
--- the bounds of an equation's terms
-pub record AreTerms (terms : List Term) : Type 0 where
-  pub apart : IsDistinct is_same (map (λ (term : Term). term.unknown) terms)
-  pub short : length terms ≤ 6
-  pub each : AllByRecursion (λ term. unsigned_abs term.coefficient < 2 ^ 21) terms
-  pub total : total_of terms < 2 ^ 23
 
 -- the bounds of an equation
 pub record IsEquation (equation : Equation) : Type 0 where
@@ -64,7 +53,7 @@ negated z n size = omega (arith, ints)
 difference-size : (y z : ℤ) (n : ℕ) → unsigned_abs y ≤ n → unsigned_abs z ≤ n → unsigned_abs (y -ℤ z) ≤ n + n
 difference-size y z n first second = omega (arith, ints)
 
-difference-terms : (part : Component) (a b : ℕ) → a ≢ b → AreTerms (difference_terms part a b)
+pub difference-terms : (part : Component) (a b : ℕ) → a ≢ b → AreTerms (difference_terms part a b)
 unfolding IsDistinct
 difference-terms part a b differ = record {
   apart = ((and-right (is_same_component part part) (eqb a b) (other a b differ), tt), (tt, tt));
@@ -73,7 +62,7 @@ difference-terms part a b differ = record {
   total = omega arith;
 }
 
-distance-terms : (points : List PointRecord) (a b : ℕ) → a ≢ b → AreTerms (distance_terms points a b)
+pub distance-terms : (points : List PointRecord) (a b : ℕ) → a ≢ b → AreTerms (distance_terms points a b)
 unfolding IsDistinct
 distance-terms points a b differ =
     let ab = other a b differ in
@@ -88,7 +77,7 @@ distance-terms points a b differ =
       total = omega arith;
     }
 
-direction-terms : (points : List PointRecord) (a b : ℕ) → a ≢ b → 10 ^ 8 ≤ length_squared points a b → AreTerms (direction_terms points a b)
+pub direction-terms : (points : List PointRecord) (a b : ℕ) → a ≢ b → 10 ^ 8 ≤ length_squared points a b → AreTerms (direction_terms points a b)
 unfolding IsDistinct
 direction-terms points a b differ least =
     let ab = other a b differ in
@@ -103,7 +92,7 @@ direction-terms points a b differ least =
       total = omega arith;
     }
 
-angle-terms : (points : List PointRecord) (a b c : ℕ) → a ≢ b → a ≢ c → b ≢ c → 10 ^ 8 ≤ length_squared points a b → 10 ^ 8 ≤ length_squared points a c
+pub angle-terms : (points : List PointRecord) (a b c : ℕ) → a ≢ b → a ≢ c → b ≢ c → 10 ^ 8 ≤ length_squared points a b → 10 ^ 8 ≤ length_squared points a c
     → AreTerms (angle_terms points a b c)
 unfolding IsDistinct
 angle-terms points a b c differ differ_too differ_three least least_too =
@@ -146,15 +135,15 @@ given : {A : Type 0} (o : Option A) (d : A) → is_some o ≡ true → o ≡ Som
 given None d e = absurd (cc e)
 given (Some x) d e = refl
 
-foresight : (points : List PointRecord) (candidate : CandidateRecord) → IsCandidateRecord points candidate → candidate.kind ≡ kind.Angle
+pub foresight : (points : List PointRecord) (candidate : CandidateRecord) → IsCandidateRecord points candidate → candidate.kind ≡ kind.Angle
     → IsForesightOf points candidate.kind candidate.from candidate.to (unwrap_or candidate.to2 0)
 foresight points candidate is angle = is.to2 (unwrap_or candidate.to2 0) (given candidate.to2 0 (is.has_to2 ∙ ap is_angle angle))
 
-height : (points : List PointRecord) (candidate : CandidateRecord) → IsCandidateRecord points candidate → candidate.kind ≡ kind.Vector
+pub height : (points : List PointRecord) (candidate : CandidateRecord) → IsCandidateRecord points candidate → candidate.kind ≡ kind.Vector
     → IsBetween (unwrap_or candidate.sdh 0)
 height points candidate is vector = is.sdh (unwrap_or candidate.sdh 0) (given candidate.sdh 0 (is.has_sdh ∙ ap is_vector vector))
 
-long : (points : List PointRecord) (k : Kind) (from to : ℕ) → IsLine points k from to → (k ≡ kind.Direction) ⊎ (k ≡ kind.Angle) → 10 ^ 8 ≤ length_squared points from to
+pub long : (points : List PointRecord) (k : Kind) (from to : ℕ) → IsLine points k from to → (k ≡ kind.Direction) ⊎ (k ≡ kind.Angle) → 10 ^ 8 ≤ length_squared points from to
 long points kind.Direction from to line e = line.least refl
 long points kind.Angle from to line e = line.least refl
 long points kind.Distance from to line e = absurd (neither e)

@@ -21,11 +21,17 @@ is_new part.Absent = false
 is_new part.Fixed = false
 is_new (part.New limit) = true
 
--- the unknown coordinates of a point with its number: x and y where its plane part is new, then z where its height part is
+-- x and y of the point of this number, where its plane part is new
+abbrev pub plane_coordinates : ℕ → Part → List Unknown
+plane_coordinates place plane = if is_new plane then unknown place component.X ∷ unknown place component.Y ∷ [] else []
+
+-- z of the point of this number, where its height part is new
+abbrev pub height_coordinates : ℕ → Part → List Unknown
+height_coordinates place height = if is_new height then unknown place component.Z ∷ [] else []
+
+-- the unknown coordinates of a point with its number
 abbrev pub coordinates : ℕ × PointRecord → List Unknown
-coordinates (place, point) =
-    (if is_new point.plane then unknown place component.X ∷ unknown place component.Y ∷ [] else [])
-    ++ (if is_new point.height then unknown place component.Z ∷ [] else [])
+coordinates (place, point) = plane_coordinates place point.plane ++ height_coordinates place point.height
 
 -- whether a candidate is a direction
 abbrev pub is_direction : Kind → Bool
@@ -35,9 +41,13 @@ is_direction kind.Angle = false
 is_direction kind.Level = false
 is_direction kind.Vector = false
 
+-- whether a candidate is a direction from the point of this number
+abbrev pub is_direction_from : ℕ → CandidateRecord → Bool
+is_direction_from place candidate = is_direction candidate.kind && candidate.from == place
+
 -- whether directions are observed at the point of this number
 abbrev pub is_station : List CandidateRecord → ℕ → Bool
-is_station candidates place = list_any (λ candidate. is_direction candidate.kind && candidate.from == place) candidates
+is_station candidates place = list_any (is_direction_from place) candidates
 
 -- the unknown orientation of a point with its number, where directions are observed there
 abbrev pub orientation : List CandidateRecord → ℕ × PointRecord → List Unknown

@@ -1,6 +1,8 @@
 ghost use Rattle.std.specs.Prelude.{◌≡◌, ◌↔◌, ◌≢◌, ◌<◌, ◌≤◌, ℕ, length, Some, IsNone, IfOk, slice_get};
+ghost use Rattle.design_rows.specs.Bounds.{AreUnknowns};
 ghost use Rattle.design_rows.specs.Unknowns.{is_same, is_same_component, number_of, unknowns_of};
 
+use crate::numbering::{coordinates_of, push_orientations};
 use candidate_tables::Candidates;
 use geo_base::NoMemory;
 use geo_model::{Component, Unknown};
@@ -61,18 +63,21 @@ impl Columns {
     /// of the stations of directions, both in the order of the points table. Refused for want of
     /// memory alone.
     pub fn number(
-        _alloc: Global,
-        _points: &Points,
-        _candidates: &Candidates,
+        alloc: Global,
+        points: &Points,
+        candidates: &Candidates,
     ) -> Result<Columns, NoMemory>
-        ensures { IfOk result (λ columns. columns ≡ unknowns_of _points.now _candidates.now) }
+        ensures { IfOk result (λ columns. columns ≡ unknowns_of points.now candidates.now) }
     {
-        Err(NoMemory)
+        let mut unknowns = coordinates_of(alloc, points)?;
+        push_orientations(&mut unknowns, points, candidates)?;
+        Ok(Columns { unknowns })
     }
 
-    /// The unknowns, each at its number.
+    /// The unknowns, each at its number: at most 4000, which all differ.
     pub fn unknowns(&self) -> &[Unknown]
-        ensures { result.now ≡ self.now }
+        ensures value { result.now ≡ self.now }
+        ensures bounds { AreUnknowns self.now }
     {
         self.unknowns.as_slice()
     }
