@@ -3,3 +3,5 @@ pub mod SquareFacts
 pub mod PointFacts
 pub mod RedundancyFacts
 pub mod NetworkFacts
+pub mod StepFacts
+pub mod EntryFacts

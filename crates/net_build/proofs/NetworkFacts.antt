@@ -126,6 +126,17 @@ rows-counted : (points : List PointRecord) (unknowns : List Unknown) (candidates
 unfolding row_count
 rows-counted points unknowns candidates = sum_by-map (λ (candidate : CandidateOf). length candidate.rows) (candidate_of points unknowns) candidates
 
+-- so the candidates have at most 512 rows
+pub rows-most : (points : List PointRecord) (candidates : List CandidateRecord) (columns : List Unknown) (built : List CandidateOf) → network_fault points candidates ≡ None
+    → columns ≡ unknowns_of points candidates → built ≡ map (candidate_of points columns) candidates → sum_by (λ candidate. length candidate.rows) built ≤ 512
+rows-most points candidates columns built none numbered made =
+    let small = network-small points candidates none in
+    let rows = rows-counted points columns candidates in
+    let same : sum_by (λ (candidate : CandidateOf). length candidate.rows) built ≡ sum_by (λ (candidate : CandidateOf). length candidate.rows) (map (candidate_of points columns) candidates) =
+    ap (sum_by (λ (candidate : CandidateOf). length candidate.rows)) made in
+    let count : row_count points columns candidates ≡ row_count points (unknowns_of points candidates) candidates = ap (λ (us : List Unknown). row_count points us candidates) numbered in
+    omega (arith, same, rows, count, small.short)
+
 pub network-bounded : (points : List PointRecord) (candidates : List CandidateRecord) (q : ℕ) → AreTables points candidates q
     → IsNetwork (network_of points candidates q) × (length (network_of points candidates q).limits ≤ 576)
 unfolding network_of

@@ -24,7 +24,7 @@ use Rattle.net_build.specs.Build.{square_on}
 -- ---- where it is 0
 
 -- the coefficient of each unknown, with those that are 0
-abbrev numbered : ℕ → List Unknown → Unknown → List (ℕ × ℤ)
+abbrev pub numbered : ℕ → List Unknown → Unknown → List (ℕ × ℤ)
 numbered n unknowns u = map (λ column. (column.0, coefficient_at (term (pos 1) u.component u.point ∷ []) column.1)) (enumerate_from n unknowns)
 
 -- entries that are 0 add nothing
@@ -47,7 +47,7 @@ form-filtered (entry ∷ entries) x = by (int_eq entry.1 (pos 0)) refl (form-fil
     by false e same = ap (λ (z : ℤ). entry.1 *ℤ x entry.0 +ℤ z) same
 
 -- the coefficient of another unknown
-coefficient-other : (u v : Unknown) → v ≢ u → coefficient_at (term (pos 1) u.component u.point ∷ []) v ≡ pos 0
+pub coefficient-other : (u v : Unknown) → v ≢ u → coefficient_at (term (pos 1) u.component u.point ∷ []) v ≡ pos 0
 unfolding coefficient_at
 coefficient-other u v other = by (is_same v u) refl
   where

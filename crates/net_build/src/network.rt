@@ -1,9 +1,11 @@
-ghost use Rattle.std.specs.Prelude.{◌≡◌, ◌≤◌, IfOk, None};
+ghost use Rattle.std.specs.Prelude.{◌≡◌, ◌^◌, ◌<◌, ◌≤◌, length, sum_by, All, IfOk, OnOk, None};
+ghost use Rattle.std.specs.List.{IsDistinct};
+ghost use Rattle.point_tables.specs.Accepted.{IsAccepted};
 ghost use Rattle.point_tables.specs.declared.fault.TableName.TheVariants as table;
 ghost use Rattle.point_tables.specs.Columns.{Answers};
 ghost use Rattle.candidate_tables.specs.Accepted.{AreCandidates};
-ghost use Rattle.design_rows.specs.Unknowns.{unknowns_of};
-ghost use Rattle.net_build.specs.Build.{network_fault, network_of};
+ghost use Rattle.design_rows.specs.Unknowns.{is_same, unknowns_of};
+ghost use Rattle.net_build.specs.Build.{limits_of, network_fault, network_of};
 
 use crate::candidates::candidates_of;
 use crate::counts::{count_rows, fault_of, unknown_count};
@@ -12,9 +14,33 @@ use crate::redundancy::push_redundancies;
 use candidate_tables::Candidates;
 use design_rows::Columns;
 use geo_base::NoMemory;
-use geo_model::Network;
+use geo_model::{Candidate, Limit, Network};
 use point_tables::{Points, TableAnswer, TableFault, TableName};
 use std::alloc::Global;
+
+// The limits: those of the points, which are accepted, and then, where `q` is not 0, those of the
+// candidates.
+fn limits_of(
+    alloc: Global,
+    points: &Points,
+    columns: &Columns,
+    candidates: &[Candidate],
+    q: u32,
+) -> Result<Vec<Limit>, NoMemory>
+    requires apart { IsDistinct is_same columns.now }
+    requires few { length candidates.now < 2 ^ 32 }
+    requires rows { sum_by (λ candidate. length candidate.rows) candidates.now < 2 ^ 32 }
+    requires redundancy { q ≤ 999 }
+    ensures limits { IfOk result (λ limits. limits.items ≡ limits_of q points.now columns.now candidates.now) }
+    ensures accepted { OnOk result (All IsAccepted points.now) }
+{
+    let mut limits = point_limits(alloc, points, columns)?;
+    if q == 0 {
+        return Ok(limits);
+    }
+    push_redundancies(&mut limits, alloc, q, candidates)?;
+    Ok(limits)
+}
 
 // The network of tables that have no network fault.
 fn network_of(
@@ -31,10 +57,7 @@ fn network_of(
     ensures { IfOk result (λ network. network ≡ network_of points.now candidates.now q) }
 {
     let built = candidates_of(alloc, points, candidates, columns)?;
-    let mut limits = point_limits(alloc, points, columns)?;
-    if q > 0 {
-        push_redundancies(&mut limits, alloc, q, built.as_slice())?;
-    }
+    let limits = limits_of(alloc, points, columns, built.as_slice(), q)?;
     let unknowns = Vec::from_slice(alloc, columns.unknowns())?;
     Ok(Network::new(unknowns, built, limits))
 }

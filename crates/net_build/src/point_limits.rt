@@ -128,7 +128,8 @@ fn push_limits(
     ensures { OnOk result (limits.new.items ≡ limits.old.items ++ limits_of_point columns.now (place, point.now)) }
 {
     push_axis(limits, alloc, columns, place, point.plane)?;
-    push_height(limits, alloc, columns, place, point.height)
+    push_height(limits, alloc, columns, place, point.height)?;
+    Ok(())
 }
 
 // The limits of the points, in their order, all of which are accepted.

@@ -1,5 +1,5 @@
 //! The limits on the redundancy of the rows of candidates.
-ghost use Rattle.std.specs.Prelude.{◌≡◌, ◌≤◌, ◌++◌, ◌^◌, ◌<◌, length, All, IfOk, OnOk};
+ghost use Rattle.std.specs.Prelude.{◌≡◌, ◌≤◌, ◌++◌, ◌^◌, ◌<◌, length, sum_by, IfOk, OnOk};
 ghost use Rattle.net_build.specs.Build.{limits_of_candidate, redundancy_limit, redundancy_limits};
 
 use geo_base::NoMemory;
@@ -63,7 +63,7 @@ pub(crate) fn push_redundancies(
 ) -> Result<(), NoMemory>
     requires redundancy { q ≤ 999 }
     requires few { length candidates.now < 2 ^ 32 }
-    requires rows { All (λ candidate. length candidate.rows < 2 ^ 32) candidates.now }
+    requires rows { sum_by (λ candidate. length candidate.rows) candidates.now < 2 ^ 32 }
     ensures { OnOk result (limits.new.items ≡ limits.old.items ++ redundancy_limits q candidates.now) }
 {
     'candidates: for place in 0..candidates.len() {
