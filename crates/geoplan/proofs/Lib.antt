@@ -1,11 +1,5 @@
 pub mod DigitLemmas
-pub mod HeightLemmas
 pub mod CommandLemmas
 pub mod TextLemmas
 pub mod InputLemmas
-pub mod LoadLemmas
-pub mod SolveLemmas
 pub mod PrintLemmas
-pub mod TopLemmas
-pub mod FaultLemmas
-pub mod MemoryLemmas

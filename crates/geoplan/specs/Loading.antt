@@ -3,10 +3,10 @@ use Rattle.std.specs.Option.{ForSome}
 use Rattle.shelf_io.specs.Files.{Files, bytes_of}
 use Rattle.shelf_io.specs.Faults.{Rose, KeepsFaults, read_of}
 use Rattle.branch_bound.specs.Explored.{ShelfState}
-use Rattle.geoplan.specs.CommandOf.{CommandOf}
+use Rattle.geoplan.specs.CommandOf.{SourcesOf}
 use Rattle.geoplan.specs.Input.{most_bytes, input_of, name_of}
 use Rattle.geoplan.specs.Tables.{TablesOf}
-use Rattle.geoplan.specs.Standing.{IsGoodNetwork}
+use Rattle.geoplan.specs.Standing.{AreTables, IsGoodNetwork}
 use Rattle.geoplan.specs.declared.load.LoadFault.{LoadFault}
 use Rattle.geoplan.specs.declared.load.LoadFault.TheVariants as load
 use Rattle.geoplan.specs.declared.load.ReadFault.{ReadFault}
@@ -39,14 +39,21 @@ abbrev pub IsGoodInput : Input → Type 0
 IsGoodInput given = (tables : TablesOf) → given ≡ input.Built tables → IsGoodNetwork tables
 
 -- the tables were read as far as they are asked for, and no fault was counted
-pub record Loads (command : CommandOf) (given : Input) (before now : ShelfState) : Type 0 where
-  pub input : ForSome before.held (λ files. given ≡ input_of command files)
+pub record Loads (sources : SourcesOf) (given : Input) (before now : ShelfState) : Type 0 where
+  pub input : ForSome before.held (λ files. given ≡ input_of sources files)
   pub good : IsGoodInput given
   pub held : now.held ≡ before.held
   pub quiet : KeepsFaults before.faults now.faults before.last_fault now.last_fault
 
+-- the tables were read and are accepted, these are they with their network, and no fault was counted
+pub record HasTables (sources : SourcesOf) (tables : TablesOf) (before now : ShelfState) : Type 0 where
+  pub input : AreTables sources before.held tables
+  pub good : IsGoodNetwork tables
+  pub held : now.held ≡ before.held
+  pub quiet : KeepsFaults before.faults now.faults before.last_fault now.last_fault
+
 -- the tables were not read: a read of one failed, or memory ran out
-pub record FailsLoad (command : CommandOf) (why : LoadFault) (before now : ShelfState) : Type 0 where
+pub record FailsLoad (sources : SourcesOf) (why : LoadFault) (before now : ShelfState) : Type 0 where
   pub held : now.held ≡ before.held
   pub later : before.faults ≤ now.faults
-  pub failed : (which : Table) → why ≡ load.Unread which → Rose before.faults now.faults × (now.last_fault ≡ Some (read_of (name_of command which)))
+  pub failed : (which : Table) → why ≡ load.Unread which → Rose before.faults now.faults × (now.last_fault ≡ Some (read_of (name_of sources which)))

@@ -3,8 +3,7 @@ use Rattle.shelf_io.specs.Faults.{Rose}
 use Rattle.shelf_io.specs.Written.{with_written}
 use Rattle.branch_bound.specs.Explored.{ShelfState}
 use Rattle.geoplan.specs.Codes.{after_failed_put}
-use Rattle.geoplan.specs.CommandOf.{command_of}
-use Rattle.geoplan.specs.Input.{OnCommand}
+use Rattle.geoplan.specs.CommandOf.{command_of, OnCommand}
 use Rattle.geoplan.specs.Reporting.{Ends}
 use Rattle.geoplan.specs.Standing.{Stands}
 use Rattle.geoplan.specs.Texts.{words_text}

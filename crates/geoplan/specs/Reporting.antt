@@ -1,19 +1,24 @@
-use Rattle.std.specs.Prelude.{◌≡◌, ◌⊎◌, ℕ, List, [], length}
+use Rattle.std.specs.Prelude.{◌≡◌, ◌⊎◌, ℕ, List, [], length, Some, slice_get}
+use Rattle.geo_model.specs.Limit.{LimitOf}
 use Rattle.geo_model.specs.declared.answer.Answer.{Answer}
 use Rattle.geo_model.specs.declared.answer.Answer.TheVariants as answer
-use Rattle.candidate_tables.specs.CandidateTable.{names_of}
 use Rattle.geoplan.specs.Tables.{TablesOf}
-use Rattle.geoplan.specs.Texts.{plan_text, no_plan_text}
+use Rattle.geoplan.specs.Texts.{tables_plan_text, no_plan_text, tables_undecided_text}
 use Rattle.geoplan.specs.declared.status.Status.{Status}
 use Rattle.geoplan.specs.declared.status.Status.TheVariants as status
 
 -- The report of an answer. This project's own.
 
--- an answer can be reported: it is decided, and its plan has an entry for each candidate
+-- the limit of a number is one of the network's
+pub record HasLimit (tables : TablesOf) (number : ℕ) : Type 0 where
+  pub limit : LimitOf
+  pub named : slice_get tables.network.limits number ≡ Some limit
+
+-- an answer can be reported: its plan has an entry for each candidate, and its open limit is one of the network's
 abbrev pub CanReport : TablesOf → Answer → Type 0
 CanReport tables (answer.Best plan) = length plan ≡ length tables.network.candidates
 CanReport tables answer.NoPlan = Unit {0}
-CanReport tables (answer.Undecided plan limit step lo hi) = ⊥
+CanReport tables (answer.Undecided plan number step lo hi) = (length plan ≡ length tables.network.candidates) × HasLimit tables number
 
 -- memory ran out before there was a text
 abbrev pub HasNoText : Status → List ℕ → Type 0
@@ -25,7 +30,8 @@ Ends meant words ends text = ((ends ≡ meant) × (text ≡ words)) ⊎ HasNoTex
 
 -- the status and the text of an answer
 abbrev pub Reports : TablesOf → Answer → Status → List ℕ → Type 0
-Reports tables (answer.Best plan) ends text =
-    Ends status.Found (plan_text (names_of tables.candidates) tables.network.candidates plan) ends text
+Reports tables (answer.Best plan) ends text = Ends status.Found (tables_plan_text tables plan) ends text
 Reports tables answer.NoPlan ends text = Ends status.NoPlan no_plan_text ends text
-Reports tables (answer.Undecided plan limit step lo hi) ends text = ⊥
+Reports tables (answer.Undecided plan number step lo hi) ends text =
+    (limit : LimitOf) → slice_get tables.network.limits number ≡ Some limit →
+    Ends status.Undecided (tables_undecided_text tables plan limit.kind step lo hi) ends text

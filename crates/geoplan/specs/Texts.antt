@@ -1,22 +1,25 @@
-use Rattle.std.specs.Prelude.{ℕ, List, [], ◌∷◌, ◌++◌, Bool, if◌then◌else◌, codes}
+use Rattle.std.specs.Prelude.{ℕ, ◌+◌, ℤ, List, [], ◌∷◌, ◌++◌, Bool, if◌then◌else◌, codes, get_or}
 use Rattle.std.specs.Fmt.{decimal}
+use Rattle.text_num.specs.Whole.{whole_text}
 use Rattle.geo_model.specs.Candidate.{CandidateOf}
 use Rattle.geo_model.specs.Energy.{cost_of}
+use Rattle.geo_model.specs.declared.limit.LimitKind.{LimitKind}
+use Rattle.geo_model.specs.declared.limit.LimitKind.TheVariants as limit
 use Rattle.point_tables.specs.declared.fault.FaultKind.{FaultKind}
 use Rattle.point_tables.specs.declared.fault.FaultKind.TheVariants as kind
 use Rattle.point_tables.specs.declared.fault.TableFault.{TableFault}
 use Rattle.point_tables.specs.declared.fault.TableName.{TableName}
 use Rattle.point_tables.specs.declared.fault.TableName.TheVariants as table
+use Rattle.point_tables.specs.PointTable as point
+use Rattle.candidate_tables.specs.CandidateTable as candidate
+use Rattle.plan_report.specs.RowsText.{rows_text}
+use Rattle.geoplan.specs.Tables.{TablesOf}
 
 -- What is printed. Each line ends with LF. This project's own.
 
 -- the words were not accepted
 abbrev pub words_text : List ℕ
 words_text = codes "words not understood\n"
-
--- the input is outside what is built so far
-abbrev pub not_built_text : List ℕ
-not_built_text = codes "not built\n"
 
 -- a file could not be read
 abbrev pub cannot_read_text : List ℕ → List ℕ
@@ -70,11 +73,48 @@ takes_text (name ∷ names) [] = []
 takes_text (name ∷ names) (chosen ∷ plan) =
     (if chosen then take_text name else []) ++ takes_text names plan
 
+-- the line of a price, after a word and a space
+abbrev pub price_text : List ℕ → ℕ → List ℕ
+price_text word price = word ++ (decimal price ++ codes "\n")
+
 -- the report of a plan: its price, its candidates, and the bound of its log, which is its price
-abbrev pub plan_text : List (List ℕ) → List CandidateOf → List Bool → List ℕ
+unfoldable pub plan_text : List (List ℕ) → List CandidateOf → List Bool → List ℕ
 plan_text names candidates plan =
-    codes "plan\ncost " ++ (decimal (cost_of candidates plan) ++ (codes "\n" ++ (takes_text names plan ++ (codes "bound " ++ (decimal (cost_of candidates plan) ++ codes "\n")))))
+    codes "plan\n" ++ (price_text (codes "cost ") (cost_of candidates plan) ++ (takes_text names plan ++ price_text (codes "bound ") (cost_of candidates plan)))
 
 -- the report that no plan meets the limits
 abbrev pub no_plan_text : List ℕ
 no_plan_text = codes "no plan\nbound none\n"
+
+-- which limit it is: the axis or the height of a point, a row of a candidate, counted from 1, or one that was added
+unfoldable pub which_text : List (List ℕ) → List (List ℕ) → LimitKind → List ℕ
+which_text points names (limit.Axis place) = codes "axis," ++ get_or points place []
+which_text points names (limit.Height place) = codes "height," ++ get_or points place []
+which_text points names (limit.Redundancy owner row) = codes "redundancy," ++ (get_or names owner [] ++ (codes "," ++ decimal (row + 1)))
+which_text points names (limit.Added number) = codes "added," ++ decimal number
+
+-- the line of an open limit, its name given: the step of its chain, and the interval there
+abbrev pub open_text : List ℕ → ℕ → ℤ → ℤ → List ℕ
+open_text which step lo hi =
+    codes "open," ++ (which ++ (codes "," ++ (decimal step ++ (codes "," ++ (whole_text lo ++ (codes "," ++ (whole_text hi ++ codes "\n")))))))
+
+-- the report of a plan that is not decided, with the line of its open limit
+unfoldable pub undecided_text : List (List ℕ) → List CandidateOf → List Bool → List ℕ → List ℕ
+undecided_text names candidates plan line =
+    codes "undecided\n" ++ (price_text (codes "cost ") (cost_of candidates plan) ++ (takes_text names plan ++ (line ++ price_text (codes "bound ") (cost_of candidates plan))))
+
+-- ---- the reports for two tables
+
+-- .. of a plan of their candidates
+abbrev pub tables_plan_text : TablesOf → List Bool → List ℕ
+tables_plan_text tables plan = plan_text (candidate.names_of tables.candidates) tables.network.candidates plan
+
+-- .. of such a plan that is not decided, with the kind of its open limit, the step and the interval
+abbrev pub tables_undecided_text : TablesOf → List Bool → LimitKind → ℕ → ℤ → ℤ → List ℕ
+tables_undecided_text tables plan kind step lo hi =
+    undecided_text (candidate.names_of tables.candidates) tables.network.candidates plan
+    (open_text (which_text (point.names_of tables.points) (candidate.names_of tables.candidates) kind) step lo hi)
+
+-- .. of the unknowns and the rows of their network
+abbrev pub tables_rows_text : TablesOf → List ℕ
+tables_rows_text tables = rows_text (point.names_of tables.points) (candidate.names_of tables.candidates) tables.network

@@ -1,62 +1,62 @@
-//! The answer of the command `plan`, before anything is printed.
-ghost use Rattle.std.specs.Prelude.{◌≡◌, [], MatchResult};
+//! The answer of a command, before anything is printed.
+ghost use Rattle.std.specs.Prelude.{◌≡◌, ◌≤◌, length, IfOk, IfErr};
 ghost use Rattle.branch_bound.specs.Explored.{state_of};
-ghost use Rattle.geoplan.specs.CommandView.{command_view};
-ghost use Rattle.geoplan.specs.Input.{name_of};
-ghost use Rattle.geoplan.specs.Reporting.{CanReport, Ends, HasNoText, Reports};
-ghost use Rattle.geoplan.specs.Standing.{AreTables, IsGoodNetwork, Stands};
+ghost use Rattle.geoplan.specs.CommandOf.{sources_of};
+ghost use Rattle.geoplan.specs.CommandView.{sources_view, job_view, command_view};
+ghost use Rattle.geoplan.specs.Loading.{HasTables};
+ghost use Rattle.geoplan.specs.Reporting.{CanReport, Ends, Reports};
+ghost use Rattle.geoplan.specs.Standing.{IsGoodNetwork, NoTables, PlanStands, RowsStand, Stands};
+ghost use Rattle.geoplan.specs.Texts.{tables_rows_text, tables_undecided_text};
+ghost use Rattle.geoplan.specs.declared.status.Status.TheVariants as status;
 
-use crate::command::Command;
+use crate::command::{Command, Job, Sources};
 use crate::input::Input;
 use crate::load::{LoadFault, load};
+use crate::open_line::open_line;
+use crate::outcome::Outcome;
 use crate::report::{
-    no_plan_report, not_built_refusal, plan_report, table_refusal, too_long_refusal, unread_refusal,
+    found_report, no_plan_report, table_refusal, too_long_refusal, undecided_report, unread_refusal,
 };
 use crate::solve::solve;
 use crate::status::Status;
 use crate::tables::Tables;
 use branch_bound::{Answer, SearchDone, SearchFault};
 use geo_base::NoMemory;
+use geo_model::{LimitKind, Plan};
+use plan_report::rows_text;
 use shelf_io::Shelf;
 use std::alloc::Global;
 
-/// A status, and the text that is to be printed with it.
-#[derive(Drop)]
-pub struct Outcome {
-    pub status: Status,
-    pub text: Vec<u8>,
-}
-
-impl Outcome {
-    /// A status with its text.
-    pub fn of(status: Status, text: Vec<u8>) -> Outcome
-        ensures status { result.status ≡ status }
-        ensures text { result.text.items ≡ text.items }
-    {
-        Outcome { status, text }
-    }
-
-    /// A status with nothing to be printed.
-    pub fn silent(alloc: Global, status: Status) -> Outcome
-        ensures status { result.status ≡ status }
-        ensures text { result.text.items ≡ [] }
-    {
-        Outcome {
-            status,
-            text: Vec::new(alloc),
-        }
-    }
-
-    /// A status with its text, or that memory ran out before there was one.
-    pub fn made(alloc: Global, status: Status, text: Result<Vec<u8>, NoMemory>) -> Outcome
-        ensures { MatchResult text (λ words. Ends status words.items result.status result.text.items)
-            (λ _. HasNoText result.status result.text.items) }
-    {
-        match text {
-            Ok(text) => Outcome::of(status, text),
-            Err(NoMemory) => Outcome::silent(alloc, Status::NoMemory),
-        }
-    }
+/// The report of a plan that is not decided, with its open limit.
+fn undecided_text(
+    alloc: Global,
+    tables: &Tables,
+    plan: &Plan,
+    kind: LimitKind,
+    step: u32,
+    lo: i128,
+    hi: i128,
+) -> Result<Vec<u8>, NoMemory>
+    requires good { IsGoodNetwork tables.now }
+    requires long { length plan.now ≡ length tables.now.network.candidates }
+    ensures { IfOk result (λ text. text.items ≡ tables_undecided_text tables.now plan.now kind step lo hi) }
+{
+    let line = open_line(
+        alloc,
+        tables.points(),
+        tables.candidates(),
+        kind,
+        step,
+        lo,
+        hi,
+    )?;
+    undecided_report(
+        alloc,
+        tables.candidates(),
+        tables.network(),
+        plan,
+        line.as_slice(),
+    )
 }
 
 /// The report of an answer.
@@ -67,54 +67,118 @@ fn report(alloc: Global, tables: &Tables, done: &SearchDone) -> Outcome
 {
     match &done.answer {
         Answer::Best(plan) => {
-            let text = plan_report(alloc, tables.candidates(), tables.network(), plan);
+            let text = found_report(alloc, tables.candidates(), tables.network(), plan);
             Outcome::made(alloc, Status::Found, text)
         }
         Answer::NoPlan => Outcome::made(alloc, Status::NoPlan, no_plan_report(alloc)),
-        Answer::Undecided { .. } => unreachable!(),
+        Answer::Undecided {
+            plan,
+            limit,
+            step,
+            lo,
+            hi,
+        } => {
+            let kind = tables.network().limits()[*limit as usize].kind;
+            let text = undecided_text(alloc, tables, plan, kind, *step, *lo, *hi);
+            Outcome::made(alloc, Status::Undecided, text)
+        }
     }
 }
 
-/// The answer for tables that were read.
-fn answer_tables<H: Shelf>(
+/// The tables of a command with their network, or the refusal where there is none.
+fn tables_of<H: Shelf>(
     alloc: Global,
-    command: &Command<'_>,
-    tables: &Tables,
+    sources: &Sources<'_>,
     shelf: &mut H,
-) -> Outcome
-    requires input { AreTables (command_view command.now) (H.held shelf.old) tables.now }
-    requires good { IsGoodNetwork tables.now }
-    ensures { Stands (command_view command.now)
+) -> Result<Tables, Outcome>
+    requires { sources.now.redundancy ≤ 999 }
+    ensures tables { IfOk result (λ tables. HasTables (sources_view sources.now) tables
+        (state_of H.held H.faults H.last_fault H.started shelf.old)
+        (state_of H.held H.faults H.last_fault H.started shelf.new)) }
+    ensures refused { IfErr result (λ refusal. NoTables (sources_view sources.now)
+        (state_of H.held H.faults H.last_fault H.started shelf.old)
+        (state_of H.held H.faults H.last_fault H.started shelf.new) refusal.status refusal.text.items) }
+{
+    match load(alloc, sources, shelf) {
+        Ok(Input::Built(tables)) => Ok(tables),
+        Ok(Input::Refused(fault)) => Err(Outcome::made(
+            alloc,
+            Status::TableRefused,
+            table_refusal(alloc, fault),
+        )),
+        Ok(Input::TooLong(table)) => {
+            let text = too_long_refusal(alloc, sources.name_of(table));
+            Err(Outcome::made(alloc, Status::FileTooLong, text))
+        }
+        Err(LoadFault::Unread(table)) => {
+            let text = unread_refusal(alloc, sources.name_of(table));
+            Err(Outcome::made(alloc, Status::ReadFault, text))
+        }
+        Err(LoadFault::NoMemory) => Err(Outcome::silent(alloc, Status::NoMemory)),
+    }
+}
+
+/// The answer of the command `plan`.
+fn answer_plan<H: Shelf>(alloc: Global, job: &Job<'_>, shelf: &mut H) -> Outcome
+    requires { job.now.sources.redundancy ≤ 999 }
+    ensures { PlanStands (job_view job.now)
         (state_of H.held H.faults H.last_fault H.started shelf.old)
         (state_of H.held H.faults H.last_fault H.started shelf.new) result.status result.text.items }
 {
-    match solve(alloc, tables, shelf, command.log) {
-        Ok(done) => report(alloc, tables, &done),
+    let tables = match tables_of(alloc, &job.sources, shelf) {
+        Ok(tables) => tables,
+        Err(refusal) => return refusal,
+    };
+    match solve(alloc, &tables, shelf, job.log) {
+        Ok(done) => report(alloc, &tables, &done),
         Err(SearchFault::WriteFault) => Outcome::silent(alloc, Status::WriteFault),
         Err(SearchFault::NoMemory) => Outcome::silent(alloc, Status::NoMemory),
     }
 }
 
-/// The answer of the command `plan`.
+/// The outcome where the unknowns and rows of tables are to be printed.
+fn list(alloc: Global, tables: &Tables) -> Outcome
+    requires { IsGoodNetwork tables.now }
+    ensures { Ends status.Found (tables_rows_text tables.now) result.status result.text.items }
+{
+    let text = rows_text(
+        alloc,
+        tables.points(),
+        tables.candidates(),
+        tables.network(),
+    );
+    Outcome::made(alloc, Status::Found, text)
+}
+
+/// The answer of the command `rows`.
+fn answer_rows<H: Shelf>(alloc: Global, sources: &Sources<'_>, shelf: &mut H) -> Outcome
+    requires { sources.now.redundancy ≤ 999 }
+    ensures { RowsStand (sources_view sources.now)
+        (state_of H.held H.faults H.last_fault H.started shelf.old)
+        (state_of H.held H.faults H.last_fault H.started shelf.new) result.status result.text.items }
+{
+    match tables_of(alloc, sources, shelf) {
+        Ok(tables) => list(alloc, &tables),
+        Err(refusal) => refusal,
+    }
+}
+
+/// The answer of a command. Its redundancy is at most 999.
 pub fn answer<H: Shelf>(alloc: Global, command: &Command<'_>, shelf: &mut H) -> Outcome
+    requires { (sources_of (command_view command.now)).redundancy ≤ 999 }
     ensures { Stands (command_view command.now)
         (state_of H.held H.faults H.last_fault H.started shelf.old)
         (state_of H.held H.faults H.last_fault H.started shelf.new) result.status result.text.items }
 {
-    match load(alloc, command, shelf) {
-        Ok(Input::Built(tables)) => answer_tables(alloc, command, &tables, shelf),
-        Ok(Input::Outside) => { Outcome::made(alloc, Status::NotBuilt, not_built_refusal(alloc)) }
-        Ok(Input::Refused(fault)) => {
-            Outcome::made(alloc, Status::TableRefused, table_refusal(alloc, fault))
+    match command {
+        Command::Plan(job) => answer_plan(alloc, job, shelf),
+        Command::Rows { points, candidates } => {
+            let sources = Sources {
+                points,
+                candidates,
+                redundancy: 0,
+            };
+            answer_rows(alloc, &sources, shelf)
         }
-        Ok(Input::TooLong(table)) => {
-            let text = too_long_refusal(alloc, command.name_of(table));
-            Outcome::made(alloc, Status::FileTooLong, text)
-        }
-        Err(LoadFault::Unread(table)) => {
-            let text = unread_refusal(alloc, command.name_of(table));
-            Outcome::made(alloc, Status::ReadFault, text)
-        }
-        Err(LoadFault::NoMemory) => Outcome::silent(alloc, Status::NoMemory),
     }
 }

@@ -1,4 +1,4 @@
-ghost use Rattle.std.specs.Prelude.{◌≡◌, ◌≤◌, true, length};
+ghost use Rattle.std.specs.Prelude.{◌≡◌, ◌<◌, ◌≤◌, ◌^◌, true, length, IfSome};
 ghost use Rattle.std.specs.Char.{is_ascii_digit};
 ghost use Rattle.std.specs.List.{list_all};
 ghost use Rattle.std.specs.Str.Parse.{digits_value};
@@ -26,7 +26,8 @@ fn is_digits(text: &[u8], most: usize) -> bool
 fn value(digits: &[u8]) -> u64
     requires digits { list_all is_ascii_digit digits.now ≡ true }
     requires short { length digits.now ≤ 10 }
-    ensures { result ≡ digits_value 10 digits.now }
+    ensures value { result ≡ digits_value 10 digits.now }
+    ensures small { result < 10 ^ length digits.now }
 {
     let mut value = 0;
     for digit in digits {
@@ -39,7 +40,8 @@ fn value(digits: &[u8]) -> u64
 #[tactic(auto, unfolding(crate::specs::Digits::whole_of))]
 pub fn whole(text: &[u8], most: usize) -> Option<u64>
     requires { most ≤ 10 }
-    ensures { result ≡ whole_of most text.now }
+    ensures value { result ≡ whole_of most text.now }
+    ensures small { IfSome result (λ value. value < 10 ^ most) }
 {
     if !is_digits(text, most) {
         return None;

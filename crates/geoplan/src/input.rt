@@ -13,10 +13,8 @@ pub enum Table {
 pub enum Input {
     /// A table is too long.
     TooLong(Table),
-    /// A table has a fault, of which this is the first.
+    /// A table has a fault, of which this is the first, or their network has one.
     Refused(TableFault),
-    /// Both tables are accepted, and outside what is built so far.
-    Outside,
-    /// Both tables are accepted, and this is what they give.
+    /// Both tables and their network are accepted, and this is what they give.
     Built(Tables),
 }

@@ -4,9 +4,10 @@
 mod answer;
 mod command;
 mod digits;
-mod heights;
 mod input;
 mod load;
+mod open_line;
+mod outcome;
 mod report;
 mod run;
 mod solve;

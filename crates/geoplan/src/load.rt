@@ -2,16 +2,16 @@
 ghost use Rattle.std.specs.Prelude.{◌≡◌, ◌≤◌, length, option_map, IfOk, IfErr};
 ghost use Rattle.candidate_tables.specs.Accepted.{AreCandidates};
 ghost use Rattle.branch_bound.specs.Explored.{state_of};
-ghost use Rattle.geoplan.specs.CommandView.{command_view};
+ghost use Rattle.geoplan.specs.CommandView.{sources_view};
 ghost use Rattle.geoplan.specs.Input.{accepted_input, judged_input};
 ghost use Rattle.geoplan.specs.Loading.{ReadsTable, FailsRead, IsGoodInput, Loads, FailsLoad};
 
-use crate::command::Command;
-use crate::heights::{height_of, network_of};
+use crate::command::Sources;
 use crate::input::{Input, Table};
 use crate::tables::Tables;
 use candidate_tables::{Candidates, read_candidates};
 use geo_base::NoMemory;
+use net_build::build;
 use point_tables::{Points, TableAnswer, read_points};
 use shelf_io::{ReadAnswer, Shelf};
 use std::alloc::Global;
@@ -55,33 +55,39 @@ fn read_table<H: Shelf>(
     }
 }
 
-/// What two accepted tables give for a redundancy.
+/// What two accepted tables give for a redundancy of at most 999.
 #[tactic(auto, unfolding(crate::specs::Input::accepted_input))]
 fn accept(
     alloc: Global,
-    redundancy: u64,
-    points: &Points,
+    redundancy: u32,
+    points: Points,
     candidates: Candidates,
 ) -> Result<Input, NoMemory>
-    requires { AreCandidates points.now candidates }
-    ensures input { IfOk result (λ given. given ≡ accepted_input redundancy points.now candidates) }
+    requires redundancy { redundancy ≤ 999 }
+    requires accepted { AreCandidates points candidates }
+    ensures input { IfOk result (λ given. given ≡ accepted_input redundancy points candidates) }
     ensures good { IfOk result IsGoodInput }
 {
-    let Some(new) = height_of(alloc, redundancy, points, &candidates)? else {
-        return Ok(Input::Outside);
-    };
-    let network = network_of(alloc, new, &candidates)?;
-    Ok(Input::Built(Tables::new(candidates, network)))
+    match build(alloc, &points, &candidates, redundancy) {
+        Ok(network) => {
+            // A network keeps its bounds.
+            let _bounded = network.unknowns();
+            Ok(Input::Built(Tables::new(points, candidates, network)))
+        }
+        Err(TableAnswer::Fault(fault)) => Ok(Input::Refused(fault)),
+        Err(TableAnswer::NoMemory) => Err(NoMemory),
+    }
 }
 
 /// What the bytes of two tables give for a redundancy.
 #[tactic(auto, unfolding(crate::specs::Input::judged_input))]
 fn judge(
     alloc: Global,
-    redundancy: u64,
+    redundancy: u32,
     points: &[u8],
     candidates: &[u8],
 ) -> Result<Input, NoMemory>
+    requires { redundancy ≤ 999 }
     ensures input { IfOk result (λ given. given ≡ judged_input redundancy points.now candidates.now) }
     ensures good { IfOk result IsGoodInput }
 {
@@ -95,29 +101,31 @@ fn judge(
         Err(TableAnswer::Fault(fault)) => return Ok(Input::Refused(fault)),
         Err(TableAnswer::NoMemory) => return Err(NoMemory),
     };
-    accept(alloc, redundancy, &points, candidates)
+    accept(alloc, redundancy, points, candidates)
 }
 
-/// Reads the tables of a command, the points first, and judges what they give.
+/// Reads the tables of a command, the points first, and judges what they give. The redundancy is at
+/// most 999.
 pub fn load<H: Shelf>(
     alloc: Global,
-    command: &Command<'_>,
+    sources: &Sources<'_>,
     shelf: &mut H,
 ) -> Result<Input, LoadFault>
-    ensures loaded { IfOk result (λ given. Loads (command_view command.now) given
+    requires { sources.now.redundancy ≤ 999 }
+    ensures loaded { IfOk result (λ given. Loads (sources_view sources.now) given
         (state_of H.held H.faults H.last_fault H.started shelf.old)
         (state_of H.held H.faults H.last_fault H.started shelf.new)) }
-    ensures fault { IfErr result (λ why. FailsLoad (command_view command.now) why
+    ensures fault { IfErr result (λ why. FailsLoad (sources_view sources.now) why
         (state_of H.held H.faults H.last_fault H.started shelf.old)
         (state_of H.held H.faults H.last_fault H.started shelf.new)) }
 {
-    let points = match read_table(alloc, shelf, command.points) {
+    let points = match read_table(alloc, shelf, sources.points) {
         Ok(Some(points)) => points,
         Ok(None) => return Ok(Input::TooLong(Table::Points)),
         Err(ReadFault::Failed) => return Err(LoadFault::Unread(Table::Points)),
         Err(ReadFault::NoMemory) => return Err(LoadFault::NoMemory),
     };
-    let candidates = match read_table(alloc, shelf, command.candidates) {
+    let candidates = match read_table(alloc, shelf, sources.candidates) {
         Ok(Some(candidates)) => candidates,
         Ok(None) => return Ok(Input::TooLong(Table::Candidates)),
         Err(ReadFault::Failed) => return Err(LoadFault::Unread(Table::Candidates)),
@@ -125,7 +133,7 @@ pub fn load<H: Shelf>(
     };
     match judge(
         alloc,
-        command.redundancy,
+        sources.redundancy,
         points.as_slice(),
         candidates.as_slice(),
     ) {

@@ -1,7 +1,7 @@
 //! The texts that are printed.
-ghost use Rattle.std.specs.Prelude.{◌≡◌, ◌≤◌, ◌++◌, if◌then◌else◌, [], List, Bool, length, codes, IfOk, OnOk};
+ghost use Rattle.std.specs.Prelude.{◌≡◌, ◌++◌, length, IfOk, OnOk};
 ghost use Rattle.candidate_tables.specs.CandidateTable.{names_of};
-ghost use Rattle.geoplan.specs.Texts.{words_text, not_built_text, cannot_read_text, too_long_text, table_word, kind_word, table_text, take_text, takes_text, plan_text, no_plan_text};
+ghost use Rattle.geoplan.specs.Texts.{words_text, cannot_read_text, too_long_text, table_word, kind_word, table_text, take_text, takes_text, price_text, plan_text, no_plan_text, undecided_text};
 
 use candidate_tables::Candidates;
 use geo_base::NoMemory;
@@ -34,8 +34,20 @@ fn put_takes(text: &mut Vec<u8>, candidates: &Candidates, plan: &Plan) -> Result
     Ok(())
 }
 
+/// Appends the line of a price, after a word and a space.
+fn put_price(text: &mut Vec<u8>, word: &[u8], price: u64) -> Result<(), NoMemory>
+    ensures { OnOk result (text.new.items ≡ text.old.items ++ price_text word.now price) }
+{
+    let mut buffer = Buffer::new();
+    text.extend_from_slice(word)?;
+    text.extend_from_slice(buffer.format(price).as_bytes())?;
+    text.extend_from_slice(b"\n")?;
+    Ok(())
+}
+
 /// The report of a plan of the candidates of a network.
-pub fn plan_report(
+#[tactic(auto, unfolding(crate::specs::Texts::plan_text))]
+pub fn found_report(
     alloc: Global,
     candidates: &Candidates,
     network: &Network,
@@ -45,15 +57,33 @@ pub fn plan_report(
     requires named { length candidates.now ≡ length network.now.candidates }
     ensures { IfOk result (λ text. text.items ≡ plan_text (names_of candidates.now) network.now.candidates plan.now) }
 {
-    let mut buffer = Buffer::new();
-    let digits = buffer.format(cost(network, plan)).as_bytes();
-    let mut text = Vec::from_slice(alloc, b"plan\ncost ")?;
-    text.extend_from_slice(digits)?;
-    text.extend_from_slice(b"\n")?;
+    let price = cost(network, plan);
+    let mut text = Vec::from_slice(alloc, b"plan\n")?;
+    put_price(&mut text, b"cost ", price)?;
     put_takes(&mut text, candidates, plan)?;
-    text.extend_from_slice(b"bound ")?;
-    text.extend_from_slice(digits)?;
-    text.extend_from_slice(b"\n")?;
+    put_price(&mut text, b"bound ", price)?;
+    Ok(text)
+}
+
+/// The report of a plan that is not decided, with the line of its open limit.
+#[tactic(auto, unfolding(crate::specs::Texts::undecided_text))]
+pub fn undecided_report(
+    alloc: Global,
+    candidates: &Candidates,
+    network: &Network,
+    plan: &Plan,
+    line: &[u8],
+) -> Result<Vec<u8>, NoMemory>
+    requires long { length plan.now ≡ length network.now.candidates }
+    requires named { length candidates.now ≡ length network.now.candidates }
+    ensures { IfOk result (λ text. text.items ≡ undecided_text (names_of candidates.now) network.now.candidates plan.now line.now) }
+{
+    let price = cost(network, plan);
+    let mut text = Vec::from_slice(alloc, b"undecided\n")?;
+    put_price(&mut text, b"cost ", price)?;
+    put_takes(&mut text, candidates, plan)?;
+    text.extend_from_slice(line)?;
+    put_price(&mut text, b"bound ", price)?;
     Ok(text)
 }
 
@@ -69,13 +99,6 @@ pub fn words_refusal(alloc: Global) -> Result<Vec<u8>, NoMemory>
     ensures { IfOk result (λ text. text.items ≡ words_text) }
 {
     Ok(Vec::from_slice(alloc, b"words not understood\n")?)
-}
-
-/// What is printed where the input is outside what is built so far.
-pub fn not_built_refusal(alloc: Global) -> Result<Vec<u8>, NoMemory>
-    ensures { IfOk result (λ text. text.items ≡ not_built_text) }
-{
-    Ok(Vec::from_slice(alloc, b"not built\n")?)
 }
 
 /// What is printed where a file can't be read.

@@ -3,7 +3,8 @@ ghost use Rattle.std.specs.Prelude.{◌≡◌};
 ghost use Rattle.branch_bound.specs.Explored.{state_of};
 ghost use Rattle.geoplan.specs.Printing.{sink_state_of, Prints, SaysWords, Runs};
 
-use crate::answer::{Outcome, answer};
+use crate::answer::answer;
+use crate::outcome::Outcome;
 use crate::command::Command;
 use crate::report::words_refusal;
 use crate::status::Status;

@@ -1,9 +1,7 @@
 //! Searching the network of the tables, and writing its log.
 ghost use Rattle.std.specs.Prelude.{◌≡◌, IfOk, IfErr};
 ghost use Rattle.branch_bound.specs.Explored.{state_of};
-ghost use Rattle.branch_bound.specs.Searched.{IsDecided};
 ghost use Rattle.geoplan.specs.Solving.{Solves, FailsSolve};
-ghost use Rattle.geoplan.specs.Standing.{IsGoodNetwork};
 
 use crate::tables::Tables;
 use branch_bound::{SearchDone, SearchFault, search};
@@ -17,11 +15,9 @@ pub fn solve<H: Shelf>(
     shelf: &mut H,
     log: &str,
 ) -> Result<SearchDone, SearchFault>
-    requires { IsGoodNetwork tables.now }
     ensures solved { IfOk result (λ done. Solves tables.now log.now done
         (state_of H.held H.faults H.last_fault H.started shelf.old)
         (state_of H.held H.faults H.last_fault H.started shelf.new)) }
-    ensures decided { IfOk result (λ done. IsDecided done.answer) }
     ensures fault { IfErr result (λ why. FailsSolve tables.now log.now why
         (state_of H.held H.faults H.last_fault H.started shelf.old)
         (state_of H.held H.faults H.last_fault H.started shelf.new)) }

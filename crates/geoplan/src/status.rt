@@ -7,11 +7,11 @@ pub enum Status {
     NoPlan,
     WordsRefused,
     TableRefused,
+    Undecided,
     ReadFault,
     WriteFault,
     NoMemory,
     FileTooLong,
-    NotBuilt,
 }
 
 impl Status {
@@ -26,11 +26,11 @@ impl Status {
             Status::NoPlan => 1,
             Status::WordsRefused => 2,
             Status::TableRefused => 3,
+            Status::Undecided => 4,
             Status::ReadFault => 5,
             Status::WriteFault => 6,
             Status::NoMemory => 7,
             Status::FileTooLong => 9,
-            Status::NotBuilt => 10,
         }
     }
 
@@ -40,7 +40,7 @@ impl Status {
         ensures { result ≡ after_failed_put self }
     {
         match self {
-            Status::Found | Status::NoPlan => Status::WriteFault,
+            Status::Found | Status::NoPlan | Status::Undecided => Status::WriteFault,
             other => other,
         }
     }

@@ -2,11 +2,14 @@ ghost use Rattle.std.specs.Prelude.{◌≡◌};
 
 use candidate_tables::Candidates;
 use geo_model::Network;
+use point_tables::Points;
 use std::marker::Model;
 
-/// What two accepted tables give: the candidates in their order, and the network of both.
+/// What two accepted tables give: the points and the candidates in their order, and the network of
+/// both.
 #[derive(Drop)]
 pub struct Tables {
+    points: Points,
     candidates: Candidates,
     network: Network,
 }
@@ -16,18 +19,26 @@ impl Model for Tables {
 
     ghost Value = { TablesOf };
 
-    ghost view = { λ tables. record { candidates = tables.candidates; network = tables.network } };
+    ghost view = { λ tables. record { points = tables.points; candidates = tables.candidates; network = tables.network } };
 }
 
 impl Tables {
-    /// Candidates with their network.
-    pub fn new(candidates: Candidates, network: Network) -> Tables
-        ensures { result ≡ record { candidates = candidates; network = network } }
+    /// Points and candidates with their network.
+    pub fn new(points: Points, candidates: Candidates, network: Network) -> Tables
+        ensures { result ≡ record { points = points; candidates = candidates; network = network } }
     {
         Tables {
+            points,
             candidates,
             network,
         }
+    }
+
+    /// The points, in their order.
+    pub fn points(&self) -> &Points
+        ensures { result.now ≡ self.now.points }
+    {
+        &self.points
     }
 
     /// The candidates, in their order.
