@@ -1,2 +1,5 @@
+pub mod GrammarLemmas
 pub mod NarrowLemmas
+pub mod NumberLemmas
 pub mod SoundLemmas
+pub mod TreeLemmas

@@ -1,8 +1,11 @@
 pub mod Bound
 pub mod Counted
+pub mod Grammar
+pub mod LogLines
 pub mod LogText
 pub mod LogTree
 pub mod Narrow
+pub mod Placed
 pub mod Sound
 pub mod Tree
 pub mod VerdictOf

@@ -165,3 +165,17 @@ placed_slices line front start (piece ∷ next ∷ rest) at is each =
 pub tokens_of-slices : (line : List ℕ) → All (IsSliceOf line) (tokens_of line)
 tokens_of-slices line =
     placed_slices line [] 0 (slice_split is_space line) refl (sym (join_with_byte-slice_split space line)) (pieces_lack is_space line)
+
+-- no other pieces without a space make the line
+pub tokens_of-only : (line first : List ℕ) (rest : List (List ℕ)) → All (λ piece. All (λ c. is_space c ≡ false) piece) (first ∷ rest) → line ≡ join_with_byte space (first ∷ rest) → map (λ token. token.text) (tokens_of line) ≡ first ∷ rest
+tokens_of-only line first rest each is = tokens_of-texts line ∙ ap (slice_split is_space) is ∙ split_joined first rest each
+  where
+    split_joined : (first : List ℕ) (rest : List (List ℕ)) → All (λ piece. All (λ c. is_space c ≡ false) piece) (first ∷ rest) → slice_split is_space (join_with_byte space (first ∷ rest)) ≡ first ∷ rest
+    split_joined first [] each = slice_split_none is_space first (All-head (All (λ c. is_space c ≡ false)) first [] each)
+    split_joined first (next ∷ rest) each =
+        slice_split_at is_space first space (join_with_byte space (next ∷ rest)) (All-head (All (λ c. is_space c ≡ false)) first (next ∷ rest) each) refl
+        ∙ ap (λ more. first ∷ more) (split_joined next rest (All-tail (All (λ c. is_space c ≡ false)) first (next ∷ rest) each))
+
+-- a text that begins with a line and its LF has that line first
+pub lines_of-more : (line rest : List ℕ) → All (λ c. is_line_feed c ≡ false) line → lines_of (line ++ line_feed ∷ rest) ≡ record { text = line; ended = true } ∷ lines_of rest
+lines_of-more line rest lacks = first_line (line ++ line_feed ∷ rest) line rest (slice_split_at is_line_feed line line_feed rest lacks refl)

@@ -2,14 +2,15 @@
 //! nothing.
 ghost use Rattle.std.specs.Prelude.{◌≡◌, ℕ, ◌<◌, List, [], ◌∷◌, ◌++◌, length, map, flat_map, All, IsFalse};
 ghost use Rattle.std.specs.List.{join_with_byte};
-ghost use Rattle.lent_parts.specs.Pieces.{TextLineOf, is_line_feed, line_bytes, lines_of, space, tokens_of};
+ghost use Rattle.lent_parts.specs.Pieces.{TextLineOf, is_line_feed, is_space, line_bytes, lines_of, space, tokens_of};
 ghost use Rattle.lent_parts.specs.PieceLaws.{IsSliceOf};
 
 /// Each token is the slice of its line at its start and has no space in it, and the tokens with a
-/// space between each two are the line.
+/// space between each two are the line. No other pieces without a space are.
 pub fn tokens_make_the_line()
     ensures slices { (line : List ℕ) → All (IsSliceOf line) (tokens_of line) }
     ensures joined { (line : List ℕ) → join_with_byte space (map (λ token. token.text) (tokens_of line)) ≡ line }
+    ensures only { (line first : List ℕ) (rest : List (List ℕ)) → All (λ piece. All (λ c. IsFalse (is_space c)) piece) (first ∷ rest) → line ≡ join_with_byte space (first ∷ rest) → map (λ token. token.text) (tokens_of line) ≡ first ∷ rest }
 {}
 
 /// The lines with their LFs are the text. No line has LF in it, and only a last line that isn't
