@@ -1,13 +1,12 @@
 -- Lines, their texts and their words.
-use Rattle.std.proofs.Common.{◌≡◌, ℕ, ◌+◌, ◌<◌, ◌^◌, true, false, List, [], ◌∷◌, ◌++◌, length, map, All, arith, refl, ap, ap₂, sym, ◌∙◌, subst, append-nil, append_assoc}
-use Rattle.std.specs.Prelude.{codes}
+use Rattle.std.proofs.Common.{◌≡◌, ℕ, ◌<◌, ◌^◌, true, false, List, [], ◌∷◌, ◌++◌, map, All, arith, refl, ap, sym, ◌∙◌, append-nil, append_assoc}
 use Rattle.std.specs.Fmt.{decimal}
 use Rattle.std.specs.Int.{IsInRange}
 use Rattle.std.specs.List.{join_with_byte}
 use Rattle.std.proofs.lemmas.Bool.{ne_eqb}
 use Rattle.std.proofs.lemmas.List.{same_from_push}
 use Rattle.std.proofs.lemmas.List.Elements.{All-nil, All-cons, All-head, All-tail, All-weaker}
-use Rattle.lent_parts.specs.Pieces.{TokenOf, is_space, space, is_line_feed, tokens_of, lines_of}
+use Rattle.lent_parts.specs.Pieces.{is_space, space, is_line_feed, tokens_of, lines_of}
 use Rattle.lent_parts.proofs.PieceLemmas.{tokens_of-joined, tokens_of-only, lines_of-more}
 use Rattle.bound_log.specs.Grammar.{number_bound, HasNumbersBelow, IsLine, line_words, line_body, text_line}
 use Rattle.bound_log.specs.LogLines.{words_of, BeginsWith}

@@ -1,7 +1,6 @@
 -- A text has one tree, and a tree is allowed line by line.
-use Rattle.std.proofs.Common.{◌≡◌, ℕ, ◌+◌, ◌<◌, ◌≤◌, true, List, [], ◌∷◌, ◌++◌, length, map, flat_map, All, arith, refl, ap, ap₂, sym, ◌∙◌, subst, append_assoc}
-use Rattle.std.specs.Prelude.{◌↔◌}
-use Rattle.std.proofs.lemmas.List.{append_cancel_left}
+use Rattle.std.proofs.Common.{◌≡◌, ℕ, ◌<◌, ◌≤◌, List, [], ◌∷◌, ◌++◌, length, map, All, arith, refl, ap, ap₂, sym, ◌∙◌, subst, append_assoc}
+use Rattle.std.proofs.lemmas.List.{append_cancel_left, map-append}
 use Rattle.std.proofs.lemmas.List.Elements.{All-nil, All-cons, All-head, All-tail, All-append}
 use Rattle.std.proofs.lemmas.Option.{slice_get_within}
 use Rattle.geo_model.specs.Network.{NetworkOf, IsNetwork}
@@ -13,7 +12,7 @@ use Rattle.bound_log.specs.LogText.{head_text, line_text, lines_text, log_text}
 use Rattle.bound_log.specs.LogTree.{root_of, with_chosen, without_chosen, IsAllowed, IsAllowedLine, bound_at, HasBound}
 use Rattle.bound_log.specs.Placed.{placed}
 use Rattle.bound_log.specs.Tree.{LineOf, split, leaf, cost, pivot, Tree, fork, tip, tree_lines}
-use Rattle.bound_log.proofs.GrammarLemmas.{IsLine-body, a_text_is_one, lines_of-line_text, line_text-body}
+use Rattle.bound_log.proofs.GrammarLemmas.{IsLine-body, a_text_is_one, lines_of-line_text}
 
 -- ---- a text has one list of lines
 
@@ -68,10 +67,6 @@ same_tree (fork c a1 a2) (fork d b1 b2) x y same =
     let one : a1 ≡ b1 = first.tree in
     let two : a2 ≡ b2 = second.tree in
     record { tree = cc; rest = second.rest }
-
-append_none : (xs : List LineOf) → xs ++ [] ≡ xs
-append_none [] = refl
-append_none (x ∷ xs) = ap (λ rest. x ∷ rest) (append_none xs)
 
 pub one_tree : (a b : Tree) → All (HasNumbersBelow number_bound) (tree_lines a) → All (HasNumbersBelow number_bound) (tree_lines b) → log_text a ≡ log_text b → a ≡ b
 one_tree a b small also same =
@@ -140,13 +135,9 @@ allowed_by_each network node (fork candidate with_it without_it) each =
       allowed_by_each network (without_chosen node candidate) without_it below.right,
     )
 
-map_append : {X Y : Type 0} (f : X → Y) (xs ys : List X) → map f (xs ++ ys) ≡ map f xs ++ map f ys
-map_append f [] ys = refl
-map_append f (x ∷ xs) ys = ap (λ rest. f x ∷ rest) (map_append f xs ys)
-
 pub placed_lines : (node : Node) (tree : Tree) → map {A = Node × LineOf} {B = LineOf} (λ at. at.1) (placed node tree) ≡ tree_lines tree
 placed_lines node (tip end) = refl
 placed_lines node (fork candidate with_it without_it) =
     ap (λ rest. split candidate ∷ rest)
-    (map_append (λ at. at.1) (placed (with_chosen node candidate) with_it) (placed (without_chosen node candidate) without_it)
+    (map-append (λ at. at.1) (placed (with_chosen node candidate) with_it) (placed (without_chosen node candidate) without_it)
     ∙ ap₂ (λ xs ys. xs ++ ys) (placed_lines (with_chosen node candidate) with_it) (placed_lines (without_chosen node candidate) without_it))

@@ -1,5 +1,5 @@
 use Rattle.std.proofs.Common.{◌≡◌, true, subst, sym}
-use Rattle.bound_log.specs.Grammar.{IsNumber, IsShortNumeral}
+use Rattle.bound_log.specs.Grammar.{IsNumber}
 use Rattle.bound_log.proofs.NumberLemmas.{numeral_digits, numeral_of, number_of_numeral}
 use Rattle.text_num.proofs.Digits.{test-from_AllDigits}
 use Rattle.bound_log.proofs.number.read_number.Goals as goal

@@ -1,4 +1,4 @@
-use Rattle.std.proofs.Common.{◌≡◌, [], ◌∷◌, ◌++◌, ap, sym, ◌∙◌, subst}
+use Rattle.std.proofs.Common.{[], ◌++◌, ap, sym, ◌∙◌, subst}
 use Rattle.bound_log.specs.Grammar.{line_words}
 use Rattle.bound_log.specs.LogLines.{BeginsWith, line_of, words_of}
 use Rattle.bound_log.proofs.GrammarLemmas.{begins_of_line, line_of_words, more_words, words_of_line}
