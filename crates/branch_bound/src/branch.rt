@@ -4,9 +4,8 @@ ghost use Rattle.pivot_chain.specs.Room.{IsRoomOf};
 ghost use Rattle.bound_log.specs.LogTree.{IsOpenAt};
 ghost use Rattle.branch_bound.specs.Explored.{IsNode};
 
-use crate::judge::verdict;
 use geo_model::{Candidate, Limit, Network, Node, Row, Verdict};
-use pivot_chain::ChainRoom;
+use pivot_chain::{ChainRoom, verdict};
 
 /// How much more a row counts at the wanted unknown than elsewhere.
 const AT_WANTED: u128 = 1024;

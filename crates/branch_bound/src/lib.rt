@@ -4,7 +4,6 @@
 mod answer;
 mod best;
 mod branch;
-mod judge;
 mod limit_tests;
 mod line;
 mod node_tests;

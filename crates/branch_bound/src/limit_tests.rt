@@ -6,9 +6,8 @@ ghost use Rattle.bound_log.specs.LogTree.{IsRefutedBy};
 ghost use Rattle.branch_bound.specs.Explored.{IsNode};
 ghost use Rattle.branch_bound.specs.Searched.{IsMetAt, IsOpenLimit};
 
-use crate::judge::verdict;
 use geo_model::{Network, Node, Plan, Verdict};
-use pivot_chain::ChainRoom;
+use pivot_chain::{ChainRoom, verdict};
 
 /// A limit whose verdict is open: its number, and the step and the interval of the verdict.
 #[derive(Clone, Copy, Debug, PartialEq, Eq)]
