@@ -1,1 +1,4 @@
+pub mod GrammarLemmas
+pub mod NumberLemmas
 pub mod SoundLemmas
+pub mod TreeLemmas

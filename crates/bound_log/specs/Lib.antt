@@ -1,6 +1,9 @@
 pub mod Bound
 pub mod Counted
+pub mod Grammar
+pub mod LogLines
 pub mod LogText
 pub mod LogTree
+pub mod Placed
 pub mod Sound
 pub mod Tree

@@ -2,12 +2,21 @@
 #![tactic(auto)]
 
 mod bound;
+mod grammar_laws;
 mod laws;
 mod line;
+mod log_line;
+mod number;
+mod read;
+mod tree_laws;
 
 pub use bound::Bound;
+pub use grammar_laws::{a_text_is_one_line, numbers_are_numerals, written_lines_are_read};
 pub use laws::checker_is_sound;
 pub use line::{put_cost, put_head, put_pivot, put_split};
+pub use log_line::LogLine;
+pub use read::read_line;
+pub use tree_laws::{a_text_has_one_bound, a_text_has_one_tree, trees_are_allowed_line_by_line};
 
 #[cfg(test)]
 mod tests;

@@ -1,5 +1,5 @@
 use Rattle.std.proofs.lemmas.Bool.{false≢true}
-use Rattle.std.proofs.Common.{replicate, ◌≡◌, ℕ, zero, suc, Bool, true, false, List, [], ◌∷◌, ◌++◌, length, set, refl, sym, ap, ap₂, ◌∙◌, subst, arith, Some, Option, if◌then◌else◌, ◌+◌, min, ◌-◌, ◌^◌}
+use Rattle.std.proofs.Common.{replicate, ◌≡◌, ℕ, zero, suc, Bool, true, false, List, [], ◌∷◌, ◌++◌, length, set, refl, sym, ap, ap₂, ◌∙◌, subst, arith, Some, if◌then◌else◌, ◌+◌, min, ◌-◌, ◌^◌}
 use Rattle.std.specs.Prelude.{slice_get, slice_set}
 use Rattle.std.proofs.lemmas.List.Concat.{flat_map-append}
 use Rattle.std.proofs.lemmas.List.{length-set, length-replicate, append-nil}
@@ -8,17 +8,18 @@ use Rattle.geo_model.specs.Energy.{IsWithin}
 use Rattle.geo_model.specs.Network.{NetworkOf}
 use Rattle.geo_model.specs.declared.answer.Counts.{Counts}
 use Rattle.geo_model.specs.declared.plan.Node.{Node}
-use Rattle.bound_log.specs.Bound.{lesser}
-use Rattle.bound_log.specs.declared.bound.Bound.{Bound}
-use Rattle.bound_log.specs.declared.bound.Bound.TheVariants.{NoPlan, AtLeast}
 use Rattle.bound_log.specs.Counted.{is_split, is_cost, is_pivot}
 use Rattle.bound_log.specs.LogText.{line_text, lines_text}
 use Rattle.bound_log.specs.LogTree.{root_of, IsOpenAt, with_chosen, without_chosen, bound_at}
-use Rattle.bound_log.specs.Tree.{LineOf, split, leaf, Leaf, cost, Tree, fork, tip, tree_lines}
+use Rattle.bound_log.specs.Tree.{LineOf, split, leaf, Leaf, cost, pivot, Tree, fork, tip, tree_lines}
+use Rattle.branch_bound.specs.declared.best.Best.{Best}
 use Rattle.branch_bound.specs.declared.line.Line.{Line}
+use Rattle.branch_bound.specs.declared.line.Line.TheVariants as line
 use Rattle.branch_bound.specs.declared.search_fault.SearchFault.{SearchFault}
 use Rattle.branch_bound.specs.declared.search_fault.SearchFault.TheVariants as fault
-use Rattle.branch_bound.specs.Explored.{ShelfState, Adds, Breaks, line_of, counted_on, counts_with, IsNode, IsKept, IsLeafAt, Explores, BreaksOff, best_bound}
+use Rattle.branch_bound.specs.Explored.{ShelfState, Adds, Breaks, line_of, counted_on, counts_with, IsNode, IsLineAt, Explores, BreaksOff}
+use Rattle.branch_bound.specs.Found.{IsKept}
+use Rattle.branch_bound.proofs.DoneLemmas.{IsDone-split}
 use Rattle.branch_bound.proofs.PieceLemmas.{Breaks-nothing, Adds-then, Breaks-after, Breaks-longer}
 
 -- How the parts of an exploration make the whole.
@@ -42,27 +43,26 @@ BreaksOff-nothing network node name state told = record {
   broken = Breaks-nothing name (lines_text (tree_lines (tip cost))) state told;
 }
 
--- the text of one line
-one_line : (found : Line) (end : Leaf) → line_of found ≡ leaf end → line_text (line_of found) ++ [] ≡ lines_text (tree_lines (tip end))
-one_line found end spelled = ap (λ l. line_text l ++ []) spelled
+-- the text of a tree of one leaf
+tip_text : (end : Leaf) → line_text (leaf end) ≡ lines_text (tree_lines (tip end))
+tip_text end = sym (append-nil (line_text (leaf end)))
 
 -- a leaf was written
-pub Explores-leaf : (network : NetworkOf) (node : Node) (name : List ℕ) (best best_now : Option (List Bool)) (counts counts_now : Counts) (before now : ShelfState) (found : Line) → IsLeafAt network node best best_now found → Adds name (line_text (line_of found)) before now → counts_now ≡ counts_with counts (line_of found ∷ []) → Explores network node name best best_now counts counts_now before now
-Explores-leaf network node name best best_now counts counts_now before now found end added counted = record {
-  tree = tip end.end;
-  allowed = end.allowed;
-  added = subst (λ text. Adds name text before now) (sym (append-nil (line_text (line_of found))) ∙ one_line found end.end end.spelled) added;
-  counted = counted ∙ ap (λ l. counts_with counts (l ∷ [])) end.spelled;
-  best = end.best;
-  kept = end.kept;
+pub Explores-leaf : (network : NetworkOf) (node : Node) (name : List ℕ) (best best_now : Best) (counts counts_now : Counts) (before now : ShelfState) (found : Line) → IsLineAt network node best best_now found → ((candidate : ℕ) → found ≡ line.Split candidate → ⊥) → Adds name (line_text (line_of found)) before now → counts_now ≡ counts_with counts (line_of found ∷ []) → Explores network node name best best_now counts counts_now before now
+Explores-leaf network node name best best_now counts counts_now before now (line.Split candidate) here not_split added counted = absurd (not_split candidate refl)
+Explores-leaf network node name best best_now counts counts_now before now line.Cost here not_split added counted = record {
+  tree = tip cost;
+  allowed = here.allowed;
+  added = subst (λ text. Adds name text before now) (tip_text cost) added;
+  counted = counted;
+  done = here.done;
 }
-
--- a leaf was begun
-pub BreaksOff-leaf : (network : NetworkOf) (node : Node) (name : List ℕ) (best best_now : Option (List Bool)) (why : SearchFault) (before now : ShelfState) (found : Line) → IsLeafAt network node best best_now found → Breaks name (line_text (line_of found)) why before now → BreaksOff network node name why before now
-BreaksOff-leaf network node name best best_now why before now found end broken = record {
-  tree = tip end.end;
-  allowed = end.allowed;
-  broken = subst (λ text. Breaks name text why before now) (sym (append-nil (line_text (line_of found))) ∙ one_line found end.end end.spelled) broken;
+Explores-leaf network node name best best_now counts counts_now before now (line.Pivot limit) here not_split added counted = record {
+  tree = tip (pivot limit);
+  allowed = here.allowed;
+  added = subst (λ text. Adds name text before now) (tip_text (pivot limit)) added;
+  counted = counted;
+  done = here.done;
 }
 
 -- the lines of a split
@@ -70,11 +70,25 @@ split_text : (candidate : ℕ) (with_it without_it : Tree) → lines_text (tree_
 split_text candidate with_it without_it = ap (λ text. line_text (split candidate) ++ text) (flat_map-append line_text (tree_lines with_it) (tree_lines without_it))
 
 -- a split was begun
-pub BreaksOff-split : (network : NetworkOf) (node : Node) (name : List ℕ) (candidate : ℕ) (why : SearchFault) (before now : ShelfState) → IsOpenAt network node candidate → Breaks name (line_text (split candidate)) why before now → BreaksOff network node name why before now
+BreaksOff-split : (network : NetworkOf) (node : Node) (name : List ℕ) (candidate : ℕ) (why : SearchFault) (before now : ShelfState) → IsOpenAt network node candidate → Breaks name (line_text (split candidate)) why before now → BreaksOff network node name why before now
 BreaksOff-split network node name candidate why before now is_open broken = record {
   tree = fork candidate (tip cost) (tip cost);
   allowed = (is_open, tt, tt);
   broken = Breaks-longer name (line_text (split candidate)) (lines_text (tree_lines (tip cost) ++ tree_lines (tip cost))) why before now broken;
+}
+
+-- a line of a node was begun
+pub BreaksOff-line : (network : NetworkOf) (node : Node) (name : List ℕ) (best best_now : Best) (why : SearchFault) (before now : ShelfState) (found : Line) → IsLineAt network node best best_now found → Breaks name (line_text (line_of found)) why before now → BreaksOff network node name why before now
+BreaksOff-line network node name best best_now why before now (line.Split candidate) here broken = BreaksOff-split network node name candidate why before now here.0 broken
+BreaksOff-line network node name best best_now why before now line.Cost here broken = record {
+  tree = tip cost;
+  allowed = here.allowed;
+  broken = subst (λ text. Breaks name text why before now) (tip_text cost) broken;
+}
+BreaksOff-line network node name best best_now why before now (line.Pivot limit) here broken = record {
+  tree = tip (pivot limit);
+  allowed = here.allowed;
+  broken = subst (λ text. Breaks name text why before now) (tip_text (pivot limit)) broken;
 }
 
 -- the first child was begun
@@ -88,7 +102,7 @@ BreaksOff-first network node name candidate why before middle now is_open added 
 }
 
 -- the second child was begun
-pub BreaksOff-second : (network : NetworkOf) (node : Node) (name : List ℕ) (candidate : ℕ) (why : SearchFault) (best best_now : Option (List Bool)) (counts counts_now : Counts) (before middle later now : ShelfState) → IsOpenAt network node candidate → Adds name (line_text (split candidate)) before middle → Explores network (with_chosen node candidate) name best best_now counts counts_now middle later → BreaksOff network (without_chosen node candidate) name why later now → BreaksOff network node name why before now
+pub BreaksOff-second : (network : NetworkOf) (node : Node) (name : List ℕ) (candidate : ℕ) (why : SearchFault) (best best_now : Best) (counts counts_now : Counts) (before middle later now : ShelfState) → IsOpenAt network node candidate → Adds name (line_text (split candidate)) before middle → Explores network (with_chosen node candidate) name best best_now counts counts_now middle later → BreaksOff network (without_chosen node candidate) name why later now → BreaksOff network node name why before now
 BreaksOff-second network node name candidate why best best_now counts counts_now before middle later now is_open added first second = record {
   tree = fork candidate first.tree second.tree;
   allowed = (is_open, first.allowed, second.allowed);
@@ -97,14 +111,8 @@ BreaksOff-second network node name candidate why best best_now counts counts_now
       (Breaks-after name (lines_text (tree_lines first.tree)) (lines_text (tree_lines second.tree)) why middle later now first.added second.broken));
 }
 
-lesser_assoc : (a b c : Bound) → lesser (lesser a b) c ≡ lesser a (lesser b c)
-lesser_assoc NoPlan b c = refl
-lesser_assoc (AtLeast x) NoPlan c = refl
-lesser_assoc (AtLeast x) (AtLeast y) NoPlan = refl
-lesser_assoc (AtLeast x) (AtLeast y) (AtLeast z) = ap AtLeast (omega arith)
-
 -- both children were explored
-pub Explores-split : (network : NetworkOf) (node : Node) (name : List ℕ) (candidate : ℕ) (best middle_best best_now : Option (List Bool)) (counts counts_split counts_first counts_now : Counts) (before middle later now : ShelfState) → IsOpenAt network node candidate → Adds name (line_text (split candidate)) before middle → counts_split ≡ counts_with counts (split candidate ∷ []) → Explores network (with_chosen node candidate) name best middle_best counts_split counts_first middle later → Explores network (without_chosen node candidate) name middle_best best_now counts_first counts_now later now → Explores network node name best best_now counts counts_now before now
+pub Explores-split : (network : NetworkOf) (node : Node) (name : List ℕ) (candidate : ℕ) (best middle_best best_now : Best) (counts counts_split counts_first counts_now : Counts) (before middle later now : ShelfState) → IsOpenAt network node candidate → Adds name (line_text (split candidate)) before middle → counts_split ≡ counts_with counts (split candidate ∷ []) → Explores network (with_chosen node candidate) name best middle_best counts_split counts_first middle later → Explores network (without_chosen node candidate) name middle_best best_now counts_first counts_now later now → Explores network node name best best_now counts counts_now before now
 Explores-split network node name candidate best middle_best best_now counts counts_split counts_first counts_now before middle later now is_open added counted first second = record {
   tree = fork candidate first.tree second.tree;
   allowed = (is_open, first.allowed, second.allowed);
@@ -114,10 +122,7 @@ Explores-split network node name candidate best middle_best best_now counts coun
   counted = second.counted
       ∙ ap (λ c. counts_with c (tree_lines second.tree)) (first.counted ∙ ap (λ c. counts_with c (tree_lines first.tree)) counted)
       ∙ counts_with-append (counts_with counts (split candidate ∷ [])) (tree_lines first.tree) (tree_lines second.tree);
-  best = second.best
-      ∙ ap (λ b. lesser b (bound_at network (without_chosen node candidate) second.tree)) first.best
-      ∙ lesser_assoc (best_bound network best) (bound_at network (with_chosen node candidate) first.tree) (bound_at network (without_chosen node candidate) second.tree);
-  kept = second.kept;
+  done = IsDone-split network node candidate (bound_at network (with_chosen node candidate) first.tree) (bound_at network (without_chosen node candidate) second.tree) best middle_best best_now is_open first.done second.done;
 }
 
 within_with : (inside upper : List Bool) (i : ℕ) → IsWithin inside upper → slice_get upper i ≡ Some true → IsWithin (slice_set inside i true) upper
@@ -174,8 +179,21 @@ node_back network node later candidate upper is_open same set_upper =
     (ap (λ (n : Node). n.inside) same)
     (set_upper ∙ ap (λ (n : Node). slice_set n.upper candidate true) same ∙ set_back node.upper candidate true false is_open.in_upper)
 
+-- what a line that is a split says
+pub IsOpenAt-line : (network : NetworkOf) (node : Node) (best best_now : Best) (found : Line) (candidate : ℕ) → found ≡ line.Split candidate → IsLineAt network node best best_now found → IsOpenAt network node candidate
+IsOpenAt-line network node best best_now found candidate is here = (subst (λ (l : Line). IsLineAt network node best best_now l) is here).0
+
+pub IsKept-line : (network : NetworkOf) (node : Node) (best best_now : Best) (found : Line) (candidate : ℕ) → found ≡ line.Split candidate → IsLineAt network node best best_now found → best_now ≡ best
+IsKept-line network node best best_now found candidate is here = (subst (λ (l : Line). IsLineAt network node best best_now l) is here).1
+
+pub Adds-line : (name : List ℕ) (found : Line) (candidate : ℕ) (before now : ShelfState) → found ≡ line.Split candidate → Adds name (line_text (line_of found)) before now → Adds name (line_text (split candidate)) before now
+Adds-line name found candidate before now is added = subst (λ (l : Line). Adds name (line_text (line_of l)) before now) is added
+
+pub Counts-line : (counts counts_now : Counts) (found : Line) (candidate : ℕ) → found ≡ line.Split candidate → counts_now ≡ counts_with counts (line_of found ∷ []) → counts_now ≡ counts_with counts (split candidate ∷ [])
+Counts-line counts counts_now found candidate is counted = subst (λ (l : Line). counts_now ≡ counts_with counts (line_of l ∷ [])) is counted
+
 -- what is known of the best plan stays known of an equal one
-pub IsKept-same : (network : NetworkOf) (before now : Option (List Bool)) → now ≡ before → IsKept network before → IsKept network now
+pub IsKept-same : (network : NetworkOf) (before now : Best) → now ≡ before → IsKept network before → IsKept network now
 IsKept-same network before now same kept = subst (λ best. IsKept network best) (sym same) kept
 
 pub IsNode-same : (network : NetworkOf) (node same_node : Node) → same_node ≡ node → IsNode network node → IsNode network same_node
@@ -184,7 +202,7 @@ IsNode-same network node same_node same is = subst (λ n. IsNode network n) (sym
 pub BreaksOff-same : (network : NetworkOf) (node same_node : Node) (name : List ℕ) (why : SearchFault) (before now : ShelfState) → same_node ≡ node → BreaksOff network same_node name why before now → BreaksOff network node name why before now
 BreaksOff-same network node same_node name why before now same broken = subst (λ n. BreaksOff network n name why before now) same broken
 
-pub Explores-same : (network : NetworkOf) (node same_node : Node) (name : List ℕ) (old_best best best_now : Option (List Bool)) (counts counts_now : Counts) (before now : ShelfState) → same_node ≡ node → old_best ≡ best → Explores network same_node name old_best best_now counts counts_now before now → Explores network node name best best_now counts counts_now before now
+pub Explores-same : (network : NetworkOf) (node same_node : Node) (name : List ℕ) (old_best best best_now : Best) (counts counts_now : Counts) (before now : ShelfState) → same_node ≡ node → old_best ≡ best → Explores network same_node name old_best best_now counts counts_now before now → Explores network node name best best_now counts counts_now before now
 Explores-same network node same_node name old_best best best_now counts counts_now before now same same_best explored =
     subst (λ b. Explores network node name b best_now counts counts_now before now) same_best
     (subst (λ n. Explores network n name old_best best_now counts counts_now before now) same explored)

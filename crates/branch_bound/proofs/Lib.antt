@@ -1,6 +1,7 @@
-pub mod EnergySteps
 pub mod PieceLemmas
 pub mod NodeLemmas
+pub mod VerdictLemmas
+pub mod DoneLemmas
 pub mod OpenCount
 pub mod ExploreLemmas
 pub mod SearchLemmas

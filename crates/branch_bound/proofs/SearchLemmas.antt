@@ -1,22 +1,27 @@
-use Rattle.std.proofs.Common.{true, false, ◌≡◌, ℕ, Bool, List, [], ◌∷◌, refl, sym, ap, ap₂, cond, zero-add, ◌∙◌, subst, Some, None, Option, min, ◌+◌, ◌-◌, ◌^◌, ◌≤◌, arith, if◌then◌else◌}
+use Rattle.std.proofs.Common.{replicate, true, false, ◌≡◌, ℕ, Bool, List, [], ◌∷◌, refl, sym, ap, ap₂, cond, zero-add, ◌∙◌, subst, Some, None, Option, min, ◌+◌, ◌-◌, ◌^◌, ◌≤◌, arith, if◌then◌else◌}
 use Rattle.std.specs.Prelude.{count_by}
 use Rattle.std.proofs.lemmas.List.Sums.{sum_by-cons}
 use Rattle.shelf_io.specs.Files.{Files, IsHeld}
 use Rattle.geo_model.specs.Network.{NetworkOf}
+use Rattle.geo_model.specs.Energy.{IsWithin}
+use Rattle.geo_model.specs.declared.answer.Answer.{Answer}
 use Rattle.geo_model.specs.declared.answer.Counts.{Counts}
 use Rattle.geo_model.specs.declared.answer.SearchDone.{SearchDone}
 use Rattle.geo_model.specs.declared.plan.Node.{Node}
+use Rattle.geo_model.proofs.PlanLemmas.{IsWithin-none, IsWithin-all}
 use Rattle.bound_log.specs.declared.bound.Bound.{Bound}
-use Rattle.bound_log.specs.Bound.{lesser}
 use Rattle.bound_log.specs.Counted.{counted, counts_of, is_split, is_cost, is_pivot}
 use Rattle.bound_log.specs.LogText.{head_text, lines_text, log_text}
 use Rattle.bound_log.specs.LogTree.{root_of, IsAllowed, bound_at}
 use Rattle.bound_log.specs.Tree.{LineOf, tip, cost, tree_lines}
 use Rattle.branch_bound.specs.declared.search_fault.SearchFault.{SearchFault}
 use Rattle.branch_bound.specs.declared.search_fault.SearchFault.TheVariants as fault
-use Rattle.branch_bound.specs.Explored.{ShelfState, Adds, Breaks, Explores, BreaksOff, IsKept, best_bound, counted_on, counts_with}
+use Rattle.branch_bound.specs.declared.best.Best.{Best}
+use Rattle.branch_bound.specs.declared.best.Best.TheVariants as best
+use Rattle.branch_bound.specs.Explored.{ShelfState, Adds, Breaks, Explores, BreaksOff, counted_on, counts_with}
+use Rattle.branch_bound.specs.Found.{IsDone, IsAnswerOf}
 use Rattle.branch_bound.specs.Logged.{Searches, BreaksLog}
-use Rattle.branch_bound.specs.Searched.{IsAnswer, answer_of, no_counts}
+use Rattle.branch_bound.specs.Searched.{IsAnswer, no_counts}
 use Rattle.branch_bound.proofs.PieceLemmas.{Breaks-nothing, Adds-then, Breaks-after, Breaks-longer}
 
 -- How the head and the exploration of the root make a search.
@@ -36,9 +41,20 @@ BreaksLog-tree network node name why before middle now root added broken =
     record { tree = at_root.tree; allowed = at_root.allowed; broken = Breaks-after name head_text (lines_text (tree_lines at_root.tree)) why before middle now added at_root.broken }
 
 -- the answer that the best plan makes fits its bound
-answer_fits : (network : NetworkOf) (bound : Bound) (best : Option (List Bool)) → IsKept network best → best_bound network best ≡ bound → IsAnswer network bound (answer_of best)
-answer_fits network bound None kept is = sym is
-answer_fits network bound (Some plan) kept is = record { certified = kept plan refl; price = sym is }
+answer_fits : (network : NetworkOf) (bound : Bound) (found : Best) (made : Answer) → IsDone network (root_of network) bound best.NoPlan found → IsAnswerOf network found made → IsAnswer network bound made
+answer_fits network bound best.NoPlan made done is = subst (λ a. IsAnswer network bound a) (sym is) (sym done.price)
+answer_fits network bound (best.Certified plan) made done is =
+    subst (λ a. IsAnswer network bound a) (sym is) (record { certified = done.kept; price = sym done.price })
+answer_fits network bound (best.Unsettled plan) made done is =
+    subst (λ a. IsAnswer network bound a) (sym is.says) (record {
+      long = done.kept.long;
+      unsettled = done.kept.unsettled;
+      price = sym done.price;
+      dearer = λ other certified. done.covered other certified
+          (subst (λ (n : ℕ). IsWithin (replicate n false) other) certified.long (IsWithin-none other))
+          (subst (λ (n : ℕ). IsWithin other (replicate n true)) certified.long (IsWithin-all other));
+      open_limit = is.open_limit;
+    })
 
 -- the last value of a counter
 abbrev last_count : ℕ
@@ -69,16 +85,17 @@ counts_with-none lines =
     ∙ ap (λ n. record { splits = counted is_split lines; costs = counted is_cost lines; pivots = n; cuts = 0; duals = 0 }) (counted_on-zero is_pivot lines)
 
 -- the search is done
-pub Searches-done : (network : NetworkOf) (node : Node) (name : List ℕ) (best best_now : Option (List Bool)) (counts counts_now : Counts) (done : SearchDone) (before middle now : ShelfState) → node ≡ root_of network → best ≡ None → counts ≡ no_counts → Adds name head_text before middle → Explores network node name best best_now counts counts_now middle now → done.answer ≡ answer_of best_now → done.counts ≡ counts_now → Searches network name done before now
-Searches-done network node name best best_now counts counts_now done before middle now root nothing none_counted added explored answered counted_all =
+pub Searches-done : (network : NetworkOf) (node : Node) (name : List ℕ) (found found_now : Best) (counts counts_now : Counts) (done : SearchDone) (before middle now : ShelfState) → node ≡ root_of network → found ≡ best.NoPlan → counts ≡ no_counts → Adds name head_text before middle → Explores network node name found found_now counts counts_now middle now → IsAnswerOf network found_now done.answer → done.counts ≡ counts_now → Searches network name done before now
+Searches-done network node name found found_now counts counts_now done before middle now root nothing none_counted added explored answered counted_all =
     record {
       tree = explored.tree;
       searched = record {
         allowed = subst (λ n. IsAllowed network n explored.tree) root explored.allowed;
         counted = counted_all ∙ explored.counted ∙ ap (λ c. counts_with c (tree_lines explored.tree)) none_counted ∙ counts_with-none (tree_lines explored.tree);
-        answered = subst (λ a. IsAnswer network (bound_at network (root_of network) explored.tree) a) (sym answered)
-            (answer_fits network (bound_at network (root_of network) explored.tree) best_now explored.kept
-            (explored.best ∙ ap₂ (λ b n. lesser (best_bound network b) (bound_at network n explored.tree)) nothing root));
+        answered = answer_fits network (bound_at network (root_of network) explored.tree) found_now done.answer
+            (subst (λ (f : Best). IsDone network (root_of network) (bound_at network (root_of network) explored.tree) f found_now) nothing
+            (subst (λ (n : Node). IsDone network n (bound_at network n explored.tree) found found_now) root explored.done))
+            answered;
       };
       added = Adds-then name head_text (lines_text (tree_lines explored.tree)) before middle now added explored.added;
     }

@@ -1,23 +1,20 @@
 use Rattle.std.specs.Prelude.{◌≡◌, ℕ, ◌+◌, ◌-◌, ◌^◌, ◌≤◌, min, if◌then◌else◌, Bool, List, [], ◌∷◌, ◌++◌, length, Option, Some, None}
-use Rattle.std.specs.Option.{ForSome}
 use Rattle.shelf_io.specs.Files.{Files, with_piece}
 use Rattle.shelf_io.specs.Faults.{LastFault, Rose, KeepsFaults, write_of}
-use Rattle.geo_model.specs.Energy.{cost_of, IsWithin}
+use Rattle.geo_model.specs.Energy.{IsWithin}
 use Rattle.geo_model.specs.Network.{NetworkOf}
 use Rattle.geo_model.specs.declared.answer.Counts.{Counts}
 use Rattle.geo_model.specs.declared.plan.Node.{Node}
-use Rattle.bound_log.specs.declared.bound.Bound.{Bound}
-use Rattle.bound_log.specs.declared.bound.Bound.TheVariants.{NoPlan, AtLeast}
-use Rattle.bound_log.specs.Bound.{lesser}
 use Rattle.bound_log.specs.Counted.{is_split, is_cost, is_pivot}
 use Rattle.bound_log.specs.LogText.{lines_text}
-use Rattle.bound_log.specs.LogTree.{IsAllowed, IsAllowedLine, leaf_bound, bound_at}
+use Rattle.bound_log.specs.LogTree.{IsOpenAt, IsAllowed, IsAllowedLine, leaf_bound, bound_at}
 use Rattle.bound_log.specs.Tree.{LineOf, split, leaf, Leaf, cost, pivot, Tree, tree_lines}
+use Rattle.branch_bound.specs.declared.best.Best.{Best}
 use Rattle.branch_bound.specs.declared.line.Line.{Line}
 use Rattle.branch_bound.specs.declared.line.Line.TheVariants as line
 use Rattle.branch_bound.specs.declared.search_fault.SearchFault.{SearchFault}
 use Rattle.branch_bound.specs.declared.search_fault.SearchFault.TheVariants as fault
-use Rattle.branch_bound.specs.Searched.{IsCertified}
+use Rattle.branch_bound.specs.Found.{IsDone}
 
 -- What the parts of a search do. This project's own.
 
@@ -75,32 +72,25 @@ pub record IsNode (network : NetworkOf) (node : Node) : Type 0 where
   pub upper_long : length node.upper ≡ length network.candidates
   pub within : IsWithin node.inside node.upper
 
--- the best plan so far, as a bound
-abbrev pub best_bound : NetworkOf → Option (List Bool) → Bound
-best_bound network None = NoPlan
-best_bound network (Some plan) = AtLeast (cost_of network.candidates plan)
-
--- the best plan so far is certified
-abbrev pub IsKept : NetworkOf → Option (List Bool) → Type 0
-IsKept network best = ForSome best (IsCertified network)
-
--- a leaf was found for a node: it is allowed there, and the best plan is as cheap as the leaf or the best one before
-pub record IsLeafAt (network : NetworkOf) (node : Node) (before now : Option (List Bool)) (found : Line) : Type 0 where
-  pub end : Leaf
-  pub spelled : line_of found ≡ leaf end
+-- a leaf ends a node: it is allowed there, and the best plan is brought up to the plans of the node
+pub record IsLeafAt (network : NetworkOf) (node : Node) (end : Leaf) (before now : Best) : Type 0 where
   pub allowed : IsAllowedLine network node (leaf end)
-  pub best : best_bound network now ≡ lesser (best_bound network before) (leaf_bound network node end)
-  pub kept : IsKept network now
+  pub done : IsDone network node (leaf_bound network node end) before now
 
--- the plans of a node were explored: the lines of a tree of it were added and counted, and the best plan is as cheap
--- as the tree's bound or the best one before
-pub record Explores (network : NetworkOf) (node : Node) (name : List ℕ) (best_before best_now : Option (List Bool)) (counts counts_now : Counts) (before now : ShelfState) : Type 0 where
+-- a line fits a node: a split on an open candidate, which leaves the best plan as it was, or a leaf
+abbrev pub IsLineAt : NetworkOf → Node → Best → Best → Line → Type 0
+IsLineAt network node before now (line.Split candidate) = IsOpenAt network node candidate × (now ≡ before)
+IsLineAt network node before now line.Cost = IsLeafAt network node cost before now
+IsLineAt network node before now (line.Pivot limit) = IsLeafAt network node (pivot limit) before now
+
+-- the plans of a node were explored: the lines of a tree of it were added and counted, and the best plan is brought up
+-- to the plans of the node, with the tree's bound
+pub record Explores (network : NetworkOf) (node : Node) (name : List ℕ) (best_before best_now : Best) (counts counts_now : Counts) (before now : ShelfState) : Type 0 where
   pub tree : Tree
   pub allowed : IsAllowed network node tree
   pub added : Adds name (lines_text (tree_lines tree)) before now
   pub counted : counts_now ≡ counts_with counts (tree_lines tree)
-  pub best : best_bound network best_now ≡ lesser (best_bound network best_before) (bound_at network node tree)
-  pub kept : IsKept network best_now
+  pub done : IsDone network node (bound_at network node tree) best_before best_now
 
 -- the lines of some tree of the node were begun, and then a fault came
 pub record BreaksOff (network : NetworkOf) (node : Node) (name : List ℕ) (why : SearchFault) (before now : ShelfState) : Type 0 where

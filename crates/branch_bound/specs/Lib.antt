@@ -1,4 +1,5 @@
 pub mod Searched
 pub mod Faults
+pub mod Found
 pub mod Explored
 pub mod Logged

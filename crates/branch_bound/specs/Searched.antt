@@ -7,13 +7,13 @@ use Rattle.geo_model.specs.declared.answer.Answer.{Answer}
 use Rattle.geo_model.specs.declared.answer.Answer.TheVariants as answer
 use Rattle.geo_model.specs.declared.answer.Counts.{Counts}
 use Rattle.geo_model.specs.declared.answer.SearchDone.{SearchDone}
-use Rattle.geo_model.specs.declared.verdict.Verdict.TheVariants.{Open}
+use Rattle.geo_model.specs.declared.verdict.Verdict.TheVariants.{Met, Open}
+use Rattle.pivot_chain.specs.Verdict.{verdict_of}
 use Rattle.bound_log.specs.declared.bound.Bound.{Bound}
 use Rattle.bound_log.specs.declared.bound.Bound.TheVariants.{NoPlan, AtLeast}
 use Rattle.bound_log.specs.Counted.{counts_of}
 use Rattle.bound_log.specs.LogTree.{root_of, IsAllowed, bound_at}
 use Rattle.bound_log.specs.Tree.{Tree, tree_lines}
-use Rattle.bound_log.specs.VerdictOf.{verdict_of}
 
 -- What a search answers, and what its log says. This project's own.
 
@@ -21,6 +21,23 @@ use Rattle.bound_log.specs.VerdictOf.{verdict_of}
 pub record IsCertified (network : NetworkOf) (plan : List Bool) : Type 0 where
   pub long : length plan ≡ length network.candidates
   pub certified : IsCertifiedBy (verdict_of network) network plan
+
+-- a plan of the network that is unsettled: neither certified nor refuted
+pub record IsUnsettled (network : NetworkOf) (plan : List Bool) : Type 0 where
+  pub long : length plan ≡ length network.candidates
+  pub unsettled : IsUnsettledBy (verdict_of network) network plan
+
+-- the limit of a number is met, or not in force for the plan
+abbrev pub IsMetAt : NetworkOf → List Bool → ℕ → Type 0
+IsMetAt network plan number =
+    (limit : LimitOf) → slice_get network.limits number ≡ Some limit → IsInForce limit plan → verdict_of network plan limit ≡ Met
+
+-- the limit of a number is in force for the plan, and its verdict is Open, with this step and interval
+pub record IsOpenLimit (network : NetworkOf) (plan : List Bool) (number step : ℕ) (lo hi : ℤ) : Type 0 where
+  pub limit : LimitOf
+  pub named : slice_get network.limits number ≡ Some limit
+  pub in_force : IsInForce limit plan
+  pub open_here : verdict_of network plan limit ≡ Open step lo hi
 
 -- a certified plan whose price is the bound
 pub record IsBest (network : NetworkOf) (bound : Bound) (plan : List Bool) : Type 0 where
@@ -56,17 +73,6 @@ pub record IsSearched (network : NetworkOf) (tree : Tree) (done : SearchDone) : 
   pub allowed : IsAllowed network (root_of network) tree
   pub counted : done.counts ≡ counts_of (tree_lines tree)
   pub answered : IsAnswer network (bound_at network (root_of network) tree) done.answer
-
--- an answer is decided: it isn't `Undecided`
-abbrev pub IsDecided : Answer → Type 0
-IsDecided (answer.Best plan) = Unit {0}
-IsDecided answer.NoPlan = Unit {0}
-IsDecided (answer.Undecided plan limit step lo hi) = ⊥
-
--- the answer that the best plan, if there is one, makes
-abbrev pub answer_of : Option (List Bool) → Answer
-answer_of None = answer.NoPlan
-answer_of (Some plan) = answer.Best plan
 
 -- no line is counted
 abbrev pub no_counts : Counts

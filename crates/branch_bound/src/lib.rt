@@ -1,7 +1,10 @@
 //! The search for the cheapest plan that meets the limits, which writes a log of bounds as it goes.
 #![tactic(auto)]
 
-mod energy;
+mod answer;
+mod best;
+mod branch;
+mod limit_tests;
 mod line;
 mod node_tests;
 mod run;
@@ -11,5 +14,3 @@ pub use geo_model::{Answer, SearchDone};
 pub use run::search;
 pub use search_fault::SearchFault;
 
-#[cfg(test)]
-mod tests;

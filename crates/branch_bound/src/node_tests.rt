@@ -1,124 +1,118 @@
 //! What the search asks of a node.
-ghost use Rattle.std.specs.Prelude.{◌≡◌, ◌≢◌, ◌↔◌, ◌<◌, Bool, true, false, Some, slice_get, length, All, IsTrue, IfSome, IfNone, IfOk, OnErr};
-ghost use Rattle.std.specs.Option.{ForSome};
-ghost use Rattle.std.specs.Bool.{OnTrue, OnFalse};
+ghost use Rattle.std.specs.Prelude.{◌≡◌, ◌↔◌, ◌<◌, ℕ, length, IsTrue, IfSome, IfNone, IfOk};
 ghost use Rattle.geo_model.specs.Energy.{cost_of};
-ghost use Rattle.geo_model.specs.Limit.{IsInForce};
-ghost use Rattle.geo_model.specs.Verdicts.{IsCertifiedBy};
-ghost use Rattle.geo_model.specs.declared.verdict.Verdict.TheVariants.{Refuted};
-ghost use Rattle.bound_log.specs.declared.bound.Bound.TheVariants.{AtLeast};
-ghost use Rattle.bound_log.specs.Bound.{lesser};
-ghost use Rattle.bound_log.specs.LogTree.{IsOpenAt, IsRefutedBy};
-ghost use Rattle.bound_log.specs.Narrow.{IsNarrow};
-ghost use Rattle.bound_log.specs.VerdictOf.{verdict_of};
-ghost use Rattle.branch_bound.specs.Explored.{IsNode, IsKept, IsLeafAt, best_bound};
+ghost use Rattle.geo_model.specs.Network.{IsNetwork};
+ghost use Rattle.pivot_chain.specs.Room.{IsRoomOf};
+ghost use Rattle.bound_log.specs.LogTree.{IsRefutedBy};
+ghost use Rattle.branch_bound.specs.Explored.{IsNode, IsLineAt};
+ghost use Rattle.branch_bound.specs.Found.{IsKept, IsCovered, IsBelow, best_bound};
+ghost use Rattle.branch_bound.specs.Searched.{IsMetAt, IsCertified};
 
-use crate::energy::verdict;
+use crate::best::Best;
+use crate::branch::branch_candidate;
+use crate::limit_tests::{is_met, refutes};
 use crate::line::Line;
 use geo_base::NoMemory;
-use geo_model::{Limit, Network, Node, Plan, Verdict, cost};
+use geo_model::{Network, Node, Plan, cost};
+use pivot_chain::ChainRoom;
 use std::alloc::Global;
 
-/// Whether a limit is in force for a plan: it has no owner, or its owner is chosen.
-fn is_in_force(limit: &Limit, plan: &Plan) -> bool
-    requires { ForSome limit.now.owner (λ owner. owner < length plan.now) }
-    ensures { IsTrue result ↔ IsInForce limit.now plan.now }
-{
-    match limit.owner {
-        None => true,
-        Some(owner) => plan.has(owner),
-    }
-}
-
-/// The number of the first limit in force for the inner plan that refutes the upper one.
-fn refuting_limit(network: &Network, node: &Node) -> Option<u32>
-    requires narrow { IsNarrow network.now }
+/// The number of the first limit that refutes a node.
+fn refuting_limit(room: &mut ChainRoom, network: &Network, node: &Node) -> Option<u32>
+    requires room { IsRoomOf network.now room.old }
     requires node { IsNode network.now node.now }
-    ensures found { IfSome result (λ number. IsRefutedBy network.now node.now number) }
-    ensures none { IfNone result (All (λ limit. IsInForce limit node.now.inside →
-        verdict_of network.now node.now.upper limit ≢ Refuted) network.now.limits) }
+    ensures found { IfSome result (λ limit. IsRefutedBy network.now node.now limit) }
+    ensures none { IfNone result ((k : ℕ) → IsRefutedBy network.now node.now k → ⊥) }
+    ensures bounds { IsNetwork network.now }
+    ensures room { IsRoomOf network.now room.new }
 {
-    let limits = network.limits();
-    for (number, limit) in limits.iter().enumerate() {
-        if is_in_force(limit, &node.inside)
-            && verdict(network, &node.upper, limit) == Verdict::Refuted
-        {
-            return Some(number as u32);
+    for limit in 0..network.limits().len() as u32 {
+        if refutes(room, network, node, limit) {
+            return Some(limit);
         }
     }
     None
 }
 
-/// Whether a plan is certified: each limit in force for it is met.
-fn is_certified(network: &Network, plan: &Plan) -> bool
-    requires narrow { IsNarrow network.now }
-    requires long { length plan.now ≡ length network.now.candidates }
-    ensures { IsTrue result ↔ IsCertifiedBy (verdict_of network.now) network.now plan.now }
+/// The number of the first limit in force for a plan on which it isn't met. There is none where the
+/// plan is certified.
+fn unmet_limit(room: &mut ChainRoom, network: &Network, plan: &Plan) -> Option<u32>
+    requires room { IsRoomOf network.now room.old }
+    requires plan { length plan.now ≡ length network.now.candidates }
+    ensures inside { IfSome result (λ limit. limit < length network.now.limits) }
+    ensures unmet { IfSome result (λ limit. IsMetAt network.now plan.now limit → ⊥) }
+    ensures none { IfNone result (IsCertified network.now plan.now) }
+    ensures room { IsRoomOf network.now room.new }
 {
-    let limits = network.limits();
-    for limit in limits {
-        if is_in_force(limit, plan) && verdict(network, plan, limit) != Verdict::Met {
-            return false;
-        }
-    }
-    true
-}
-
-/// The first candidate that the node leaves open.
-pub fn open_candidate(network: &Network, node: &Node) -> Option<u32>
-    requires { IsNode network.now node.now }
-    ensures found { IfSome result (λ candidate. IsOpenAt network.now node.now candidate) }
-    ensures none { IfNone result (node.now.inside ≡ node.now.upper) }
-{
-    let candidates = network.candidates();
-    for i in 0..candidates.len() as u32 {
-        if node.upper.has(i) && !node.inside.has(i) {
-            return Some(i);
+    for limit in 0..network.limits().len() as u32 {
+        if !is_met(room, network, plan, limit) {
+            return Some(limit);
         }
     }
     None
 }
 
-/// Whether a plan is cheaper than the best one so far.
-fn is_cheaper(network: &Network, plan: &Plan, best: &Option<Plan>) -> bool
-    requires long { length plan.now ≡ length network.now.candidates }
+/// Whether the best plan so far makes a certified plan of this price, or a higher one, needless: it
+/// costs no more, and where it is unsettled it costs less.
+fn is_cut_off(network: &Network, plan: &Plan, best: &Best) -> bool
+    requires plan { length plan.now ≡ length network.now.candidates }
     requires kept { IsKept network.now best.now }
-    ensures cheaper { OnTrue result (lesser (best_bound network.now best.now)
-        (AtLeast (cost_of network.now.candidates plan.now)) ≡ AtLeast (cost_of network.now.candidates plan.now)) }
-    ensures dearer { OnFalse result (lesser (best_bound network.now best.now)
-        (AtLeast (cost_of network.now.candidates plan.now)) ≡ best_bound network.now best.now) }
+    ensures { IsTrue result ↔ IsCovered network.now best.now plan.now }
 {
+    let price = cost(network, plan);
     match best {
-        None => true,
-        Some(best) => cost(network, plan) < cost(network, best),
+        Best::NoPlan => false,
+        Best::Certified(best) => cost(network, best) <= price,
+        Best::Unsettled(best) => cost(network, best) < price,
     }
 }
 
-/// The leaf that ends a node, if there is one. A certified plan that is cheaper becomes the best.
-/// Refused for memory, the best one stays.
-pub fn leaf_at(
+/// Whether a plan is cheaper than the best one so far, or there is none.
+fn is_cheaper(network: &Network, plan: &Plan, best: &Best) -> bool
+    requires plan { length plan.now ≡ length network.now.candidates }
+    requires kept { IsKept network.now best.now }
+    ensures { IsTrue result ↔ IsBelow (cost_of network.now.candidates plan.now) (best_bound network.now best.now) }
+{
+    let price = cost(network, plan);
+    match best {
+        Best::NoPlan => true,
+        Best::Certified(best) => price < cost(network, best),
+        Best::Unsettled(best) => price < cost(network, best),
+    }
+}
+
+/// The line of a node: a leaf, or a split on an open candidate. At a leaf the inner plan becomes the
+/// best one, where it is certified and not cut off, or where it is the node's only plan, unsettled,
+/// and cheaper than the best one.
+pub fn line_at(
     alloc: Global,
+    room: &mut ChainRoom,
     network: &Network,
     node: &Node,
-    best: &mut Option<Plan>,
-) -> Result<Option<Line>, NoMemory>
-    requires narrow { IsNarrow network.now }
+    best: &mut Best,
+) -> Result<Line, NoMemory>
+    requires room { IsRoomOf network.now room.old }
     requires node { IsNode network.now node.now }
     requires kept { IsKept network.now best.old }
-    ensures leaf { IfOk result (λ found. IfSome found (λ line. IsLeafAt network.now node.now best.old best.new line)) }
-    ensures none { IfOk result (λ found. IfNone found
-        ((node.now.inside ≢ node.now.upper) × (best.new ≡ best.old))) }
-    ensures refused { OnErr result (best.new ≡ best.old) }
+    ensures line { IfOk result (λ line. IsLineAt network.now node.now best.old best.new line) }
+    ensures room { IsRoomOf network.now room.new }
 {
-    if !is_cheaper(network, &node.inside, best) {
-        return Ok(Some(Line::Cost));
+    if is_cut_off(network, &node.inside, best) {
+        return Ok(Line::Cost);
     }
-    if let Some(limit) = refuting_limit(network, node) {
-        return Ok(Some(Line::Pivot(limit)));
+    if let Some(limit) = refuting_limit(room, network, node) {
+        return Ok(Line::Pivot(limit));
     }
-    if !is_certified(network, &node.inside) {
-        return Ok(None);
+    let Some(limit) = unmet_limit(room, network, &node.inside) else {
+        *best = Best::Certified(node.inside.copy(alloc)?);
+        return Ok(Line::Cost);
+    };
+    if let Some(candidate) = branch_candidate(room, network, node, limit) {
+        return Ok(Line::Split(candidate));
     }
-    *best = Some(node.inside.copy(alloc)?);
-    Ok(Some(Line::Cost))
+    if is_cheaper(network, &node.inside, best) {
+        *best = Best::Unsettled(node.inside.copy(alloc)?);
+        return Ok(Line::Cost);
+    }
+    Ok(Line::Cost)
 }

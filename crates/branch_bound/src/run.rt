@@ -1,37 +1,45 @@
 //! The search over the tree of nodes.
-ghost use Rattle.std.specs.Prelude.{◌≡◌, None, Some, OnOk, IfErr, IfOk};
+ghost use Rattle.std.specs.Prelude.{◌≡◌, Some, OnOk, IfErr, IfOk};
+ghost use Rattle.pivot_chain.specs.Room.{IsRoomOf};
 ghost use Rattle.bound_log.specs.LogText.{head_text};
 ghost use Rattle.bound_log.specs.LogTree.{root_of};
-ghost use Rattle.bound_log.specs.Narrow.{IsNarrow};
-ghost use Rattle.branch_bound.specs.Explored.{state_of, IsNode, IsKept, Adds, Breaks, Explores, BreaksOff};
+ghost use Rattle.branch_bound.specs.declared.best.Best.TheVariants as found;
+ghost use Rattle.branch_bound.specs.Explored.{state_of, IsNode, Adds, Breaks, Explores, BreaksOff};
+ghost use Rattle.branch_bound.specs.Found.{IsKept, IsAnswerOf};
 ghost use Rattle.branch_bound.specs.Logged.{Searches, BreaksLog};
-ghost use Rattle.branch_bound.specs.Searched.{IsDecided, answer_of, no_counts};
+ghost use Rattle.branch_bound.specs.Searched.{no_counts};
 
+use crate::answer::answer_of;
+use crate::best::Best;
 use crate::line::{Line, write_line, write_piece};
-use crate::node_tests::{leaf_at, open_candidate};
+use crate::node_tests::line_at;
 use crate::search_fault::SearchFault;
 use bound_log::put_head;
 use geo_base::NoMemory;
-use geo_model::{Answer, Counts, Network, Node, Plan, SearchDone};
+use geo_model::{Counts, Network, Node, Plan, SearchDone};
+use pivot_chain::ChainRoom;
 use shelf_io::Shelf;
 use std::alloc::Global;
 
-/// What a search has found so far: the best plan, the lines counted, and room for the next one.
+/// What a search has found so far: the best plan and the lines counted, with room for the next line
+/// and for verdicts.
 #[derive(Drop)]
 struct Progress {
-    best: Option<Plan>,
+    best: Best,
     counts: Counts,
     buffer: Vec<u8>,
+    room: ChainRoom,
 }
 
 impl Progress {
     /// Nothing has been found yet.
-    fn new(alloc: Global) -> Progress
-        ensures best { result.best ≡ None }
+    fn new(alloc: Global, room: ChainRoom) -> Progress
+        ensures best { result.best ≡ found.NoPlan }
         ensures counts { result.counts ≡ no_counts }
+        ensures room { result.room ≡ room }
     {
         Progress {
-            best: None,
+            best: Best::NoPlan,
             counts: Counts {
                 splits: 0,
                 costs: 0,
@@ -40,19 +48,24 @@ impl Progress {
                 duals: 0,
             },
             buffer: Vec::new(alloc),
+            room,
         }
     }
 
     /// The answer of a search that is over.
-    fn done(self) -> SearchDone
-        ensures answer { result.answer ≡ answer_of self.best }
+    fn done(self, network: &Network) -> SearchDone
+        requires room { IsRoomOf network.now self.room }
+        requires kept { IsKept network.now self.best }
+        ensures answer { IsAnswerOf network.now self.best result.answer }
         ensures counts { result.counts ≡ self.counts }
     {
-        let Progress { best, counts, .. } = self;
-        let answer = match best {
-            Some(plan) => Answer::Best(plan),
-            None => Answer::NoPlan,
-        };
+        let Progress {
+            best,
+            counts,
+            mut room,
+            ..
+        } = self;
+        let answer = answer_of(&mut room, network, best);
         SearchDone { answer, counts }
     }
 }
@@ -66,47 +79,42 @@ fn explore<H: Shelf>(
     progress: &mut Progress,
     node: &mut Node,
 ) -> Result<(), SearchFault>
-    requires narrow { IsNarrow network.now }
     requires started { H.started shelf.old ≡ Some name.now }
     requires node { IsNode network.now node.old }
+    requires room { IsRoomOf network.now progress.old.room }
     requires kept { IsKept network.now progress.old.best }
     ensures explored { OnOk result (Explores network.now node.old name.now
         progress.old.best progress.new.best progress.old.counts progress.new.counts
         (state_of H.held H.faults H.last_fault H.started shelf.old)
         (state_of H.held H.faults H.last_fault H.started shelf.new)) }
     ensures node { OnOk result (node.new ≡ node.old) }
+    ensures room { OnOk result (IsRoomOf network.now progress.new.room) }
     ensures refused { IfErr result (λ why. BreaksOff network.now node.old name.now why
         (state_of H.held H.faults H.last_fault H.started shelf.old)
         (state_of H.held H.faults H.last_fault H.started shelf.new)) }
 {
-    let leaf = match leaf_at(alloc, network, node, &mut progress.best) {
-        Ok(leaf) => leaf,
+    let line = match line_at(
+        alloc,
+        &mut progress.room,
+        network,
+        node,
+        &mut progress.best,
+    ) {
+        Ok(line) => line,
         Err(_) => return Err(SearchFault::NoMemory),
-    };
-    if let Some(line) = leaf {
-        if let Err(why) = write_line(
-            shelf,
-            name,
-            &mut progress.buffer,
-            &mut progress.counts,
-            line,
-        ) {
-            return Err(why);
-        }
-        return Ok(());
-    }
-    let Some(candidate) = open_candidate(network, node) else {
-        unreachable!()
     };
     if let Err(why) = write_line(
         shelf,
         name,
         &mut progress.buffer,
         &mut progress.counts,
-        Line::Split(candidate),
+        line,
     ) {
         return Err(why);
     }
+    let Line::Split(candidate) = line else {
+        return Ok(());
+    };
     node.inside.set(candidate, true);
     if let Err(why) = explore(alloc, network, shelf, name, progress, node) {
         return Err(why);
@@ -149,23 +157,19 @@ fn begin_log<H: Shelf>(shelf: &mut H, name: &str, buffer: &mut Vec<u8>) -> Resul
 }
 
 /// Searches for the cheapest plan that meets the limits, and appends a log that proves the answer to
-/// the started name, a line at a time. So far it takes networks of one new height.
+/// the started name, a line at a time.
 pub fn search<H: Shelf>(
     alloc: Global,
     network: &Network,
     shelf: &mut H,
     name: &str,
 ) -> Result<SearchDone, SearchFault>
-    requires narrow { IsNarrow network.now }
     requires started { H.started shelf.old ≡ Some name.now }
 
     // One whole log was added under the name, and the answer is what it says.
     ensures searched { IfOk result (λ done. Searches network.now name.now done
         (state_of H.held H.faults H.last_fault H.started shelf.old)
         (state_of H.held H.faults H.last_fault H.started shelf.new)) }
-
-    // With one new height each plan is certified or refuted.
-    ensures decided { IfOk result (λ done. IsDecided done.answer) }
 
     // The beginning of a log was added, and the fault has its cause.
     ensures refused { IfErr result (λ why. BreaksLog network.now name.now why
@@ -176,12 +180,16 @@ pub fn search<H: Shelf>(
         Ok(node) => node,
         Err(_) => return Err(SearchFault::NoMemory),
     };
-    let mut progress = Progress::new(alloc);
+    let room = match ChainRoom::new(alloc, network) {
+        Ok(room) => room,
+        Err(_) => return Err(SearchFault::NoMemory),
+    };
+    let mut progress = Progress::new(alloc, room);
     if let Err(why) = begin_log(shelf, name, &mut progress.buffer) {
         return Err(why);
     }
     if let Err(why) = explore(alloc, network, shelf, name, &mut progress, &mut node) {
         return Err(why);
     }
-    Ok(progress.done())
+    Ok(progress.done(network))
 }

@@ -1,3 +1,6 @@
 pub mod Triangle
 pub mod Lending
 pub mod TriLending
+pub mod Pieces
+pub mod PieceLaws
+pub mod Walks

@@ -1,4 +1,4 @@
-use crate::Tri;
+use crate::{Line, Token, Tri, lines, tokens};
 use geo_base::NoMemory;
 
 #[test]
@@ -12,4 +12,82 @@ fn rows_of_a_triangle(rt: HostRuntime) -> Result<(), NoMemory> {
     assert_eq!(rt; tri.row(1), [4i128, -5].as_slice());
     assert_eq!(rt; tri.row(2), [0i128].as_slice());
     Ok(())
+}
+
+#[test]
+fn tokens_between_single_spaces(rt: HostRuntime) {
+    let mut walk = tokens(b"d 17  x");
+    assert_eq!(rt;
+        walk.next(),
+        Some(Token {
+            text: b"d".as_slice(),
+            start: 0
+        })
+    );
+    assert_eq!(rt;
+        walk.next(),
+        Some(Token {
+            text: b"17".as_slice(),
+            start: 2
+        })
+    );
+    assert_eq!(rt;
+        walk.next(),
+        Some(Token {
+            text: b"".as_slice(),
+            start: 5
+        })
+    );
+    assert_eq!(rt;
+        walk.next(),
+        Some(Token {
+            text: b"x".as_slice(),
+            start: 6
+        })
+    );
+    assert_eq!(rt; walk.next(), None);
+    assert_eq!(rt; walk.next(), None);
+    assert_eq!(rt; tokens(b"").count(), 1);
+    assert_eq!(rt; tokens(b" ").count(), 2);
+}
+
+#[test]
+fn lines_cut_at_their_ends(rt: HostRuntime) {
+    let mut walk = lines(b"c\r\n\np 0");
+    assert_eq!(rt;
+        walk.next(),
+        Some(Line {
+            text: b"c\r".as_slice(),
+            ended: true
+        })
+    );
+    assert_eq!(rt;
+        walk.next(),
+        Some(Line {
+            text: b"".as_slice(),
+            ended: true
+        })
+    );
+    assert_eq!(rt;
+        walk.next(),
+        Some(Line {
+            text: b"p 0".as_slice(),
+            ended: false
+        })
+    );
+    assert_eq!(rt; walk.next(), None);
+    assert_eq!(rt; walk.next(), None);
+    assert_eq!(rt; lines(b"").count(), 0);
+    assert_eq!(rt; lines(b"c\n").count(), 1);
+}
+
+#[test]
+fn walks_in_a_loop(rt: HostRuntime) {
+    let mut last = 0;
+    for line in lines(b"s 1\nc\nx 0 1") {
+        for token in tokens(line.text) {
+            last = token.start;
+        }
+    }
+    assert_eq!(rt; last, 4);
 }

@@ -7,6 +7,11 @@ returns-in-Err-clause-refused g c =
     BreaksLog-nothing c.args.network.now c.args.name.now (state_of g.H.Shelf.held g.H.Shelf.faults g.H.Shelf.last_fault g.H.Shelf.started c.args.shelf.now)
     (λ files held. g.met.H.Shelf.started_is_held c.args.shelf.now files c.args.name.now held c.requires.started)
 
+pub returns-in-Err-new-clause-refused : goal.returns-in-Err-new-clause-refused
+returns-in-Err-new-clause-refused g c =
+    BreaksLog-nothing c.args.network.now c.args.name.now (state_of g.H.Shelf.held g.H.Shelf.faults g.H.Shelf.last_fault g.H.Shelf.started c.args.shelf.now)
+    (λ files held. g.met.H.Shelf.started_is_held c.args.shelf.now files c.args.name.now held c.requires.started)
+
 pub returns-in-Err-begin_log-clause-refused : goal.returns-in-Err-begin_log-clause-refused
 returns-in-Err-begin_log-clause-refused g c =
     BreaksLog-head c.args.network.now c.args.name.now c.in-Err-begin_log.why

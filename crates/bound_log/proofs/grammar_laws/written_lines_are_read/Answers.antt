@@ -1,0 +1,11 @@
+use Rattle.bound_log.proofs.GrammarLemmas.{line_text-body, IsLine-body, HasNumbersBelow-32, lines_of-lines_text}
+use Rattle.bound_log.proofs.grammar_laws.written_lines_are_read.Goals as goal
+
+pub returns-clause-ended : goal.returns-clause-ended
+returns-clause-ended c = line_text-body
+
+pub returns-clause-read : goal.returns-clause-read
+returns-clause-read c = λ line small. IsLine-body line (HasNumbersBelow-32 line small)
+
+pub returns-clause-cut : goal.returns-clause-cut
+returns-clause-cut c = lines_of-lines_text

@@ -1,0 +1,52 @@
+-- The grammar of the lines of a log: a kind and numbers, with one space between each two. This project's own.
+use Rattle.std.specs.Prelude.{◌≡◌, true, ℕ, ◌<◌, ◌≤◌, ◌^◌, ◌⊎◌, List, [], ◌∷◌, ◌++◌, length, codes}
+use Rattle.std.specs.Fmt.{decimal}
+use Rattle.std.specs.List.{join_with_byte}
+use Rattle.std.specs.Int.{IsInRange}
+use Rattle.std.specs.Str.Parse.{AllDigits}
+use Rattle.lent_parts.specs.Pieces.{TextLineOf, space}
+use Rattle.bound_log.specs.LogText.{line_text, line_end}
+use Rattle.bound_log.specs.Tree.{LineOf, split, leaf, cost, pivot}
+
+-- ---- numbers
+
+-- more than each number of 19 digits
+abbrev pub number_bound : ℕ
+number_bound = 10 ^ 19
+
+-- the text is that of a number of at most 19 digits
+pub record IsNumber (text : List ℕ) (number : ℕ) : Type 0 where
+  pub spelled : text ≡ decimal number
+  pub size : number < number_bound
+
+-- `0`, or a digit from 1 to 9 followed by at most 18 digits
+abbrev pub IsShortNumeral : List ℕ → Type 0
+IsShortNumeral [] = ⊥
+IsShortNumeral (c ∷ rest) = ((c ≡ 48) × (rest ≡ [])) ⊎ (IsInRange 49 57 c × AllDigits 10 rest × (length rest ≤ 18))
+
+-- ---- lines
+
+-- each number of the line is below the bound
+abbrev pub HasNumbersBelow : ℕ → LineOf → Type 0
+HasNumbersBelow bound (split candidate) = candidate < bound
+HasNumbersBelow bound (leaf cost) = Unit {0}
+HasNumbersBelow bound (leaf (pivot limit)) = limit < bound
+
+-- the text, without LF, is that of the line, and the line's numbers have at most 19 digits
+pub record IsLine (text : List ℕ) (line : LineOf) : Type 0 where
+  pub spelled : text ++ line_end ≡ line_text line
+  pub numbers : HasNumbersBelow number_bound line
+
+-- the words of a line
+abbrev pub line_words : LineOf → List (List ℕ)
+line_words (split candidate) = codes "s" ∷ decimal candidate ∷ []
+line_words (leaf cost) = codes "c" ∷ []
+line_words (leaf (pivot limit)) = codes "p" ∷ decimal limit ∷ []
+
+-- a line without its LF
+abbrev pub line_body : LineOf → List ℕ
+line_body line = join_with_byte space (line_words line)
+
+-- a line as it is cut from a text
+abbrev pub text_line : LineOf → TextLineOf
+text_line line = record { text = line_body line; ended = true }

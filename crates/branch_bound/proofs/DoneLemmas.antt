@@ -1,0 +1,171 @@
+use Rattle.std.proofs.Common.{◌≡◌, ◌<◌, ◌≤◌, ℕ, Bool, true, false, List, [], ◌∷◌, length, min, arith, refl, ap, sym, ◌∙◌, subst, Some, ◌⊎◌, inl, inr}
+use Rattle.std.specs.Prelude.{slice_get, slice_set}
+use Rattle.std.proofs.lemmas.Bool.{cases_lt, false≢true}
+use Rattle.std.proofs.lemmas.Option.{slice_get_within}
+use Rattle.geo_model.specs.Energy.{cost_of, IsWithin}
+use Rattle.geo_model.specs.Limit.{LimitOf, IsInForce}
+use Rattle.geo_model.specs.Network.{NetworkOf, IsNetwork, IsLimit}
+use Rattle.geo_model.specs.declared.plan.Node.{Node}
+use Rattle.geo_model.specs.declared.verdict.Verdict.TheVariants.{Met}
+use Rattle.geo_model.proofs.PlanLemmas.{cost_of-grows, IsWithin-with, IsWithin-without, IsWithin-length}
+use Rattle.pivot_chain.specs.Verdict.{verdict_of}
+use Rattle.pivot_chain.proofs.Verdicts.{met_sound, refuted_fails}
+use Rattle.bound_log.specs.declared.bound.Bound.{Bound}
+use Rattle.bound_log.specs.declared.bound.Bound.TheVariants.{NoPlan, AtLeast}
+use Rattle.bound_log.specs.Bound.{lesser}
+use Rattle.bound_log.specs.LogTree.{IsOpenAt, IsRefutedBy, with_chosen, without_chosen}
+use Rattle.bound_log.proofs.SoundLemmas.{entry_at, IsInForce-grows, at_place}
+use Rattle.branch_bound.specs.declared.best.Best.{Best}
+use Rattle.branch_bound.specs.declared.best.Best.TheVariants as best
+use Rattle.branch_bound.specs.Found.{best_bound, IsKept, IsCovered, IsBelow, IsDone}
+use Rattle.branch_bound.specs.Searched.{IsCertified, IsUnsettled}
+
+-- How the best plan is brought up to the plans of a node.
+
+not_le : (a b : ℕ) → (a ≤ b → ⊥) → b < a
+not_le a b not = elim (cases_lt b a) [ | inl less ↦ less | inr more ↦ absurd (not more) ]
+
+not_lt : (a b : ℕ) → (a < b → ⊥) → b ≤ a
+not_lt a b not = elim (cases_lt a b) [ | inl less ↦ absurd (not less) | inr more ↦ more ]
+
+first_least : (a b : ℕ) → a ≤ b → AtLeast a ≡ lesser (AtLeast a) (AtLeast b)
+first_least a b le = ap AtLeast (omega arith)
+
+second_least : (a b : ℕ) → b ≤ a → AtLeast b ≡ lesser (AtLeast a) (AtLeast b)
+second_least a b le = ap AtLeast (omega arith)
+
+less_than_bound : (a b : ℕ) → a < b → a ≤ b
+less_than_bound a b less = omega arith
+
+-- where no plan is left, the bound stays
+lesser-no_plan : (bound : Bound) → bound ≡ lesser bound NoPlan
+lesser-no_plan NoPlan = refl
+lesser-no_plan (AtLeast price) = refl
+
+lesser-assoc : (a b c : Bound) → lesser (lesser a b) c ≡ lesser a (lesser b c)
+lesser-assoc NoPlan b c = refl
+lesser-assoc (AtLeast x) NoPlan c = refl
+lesser-assoc (AtLeast x) (AtLeast y) NoPlan = refl
+lesser-assoc (AtLeast x) (AtLeast y) (AtLeast z) = ap AtLeast (omega arith)
+
+-- a plan that costs no less than a covered one is covered
+IsCovered-dearer : (network : NetworkOf) (found : Best) (plan other : List Bool) → cost_of network.candidates plan ≤ cost_of network.candidates other → IsCovered network found plan → IsCovered network found other
+IsCovered-dearer network best.NoPlan plan other le covered = covered
+IsCovered-dearer network (best.Certified kept) plan other le covered = omega arith
+IsCovered-dearer network (best.Unsettled kept) plan other le covered = omega arith
+
+covered_price : (network : NetworkOf) (found : Best) (plan : List Bool) → IsCovered network found plan → best_bound network found ≡ lesser (best_bound network found) (AtLeast (cost_of network.candidates plan))
+covered_price network best.NoPlan plan covered = absurd covered
+covered_price network (best.Certified kept) plan covered = first_least (cost_of network.candidates kept) (cost_of network.candidates plan) covered
+covered_price network (best.Unsettled kept) plan covered =
+    first_least (cost_of network.candidates kept) (cost_of network.candidates plan) (less_than_bound (cost_of network.candidates kept) (cost_of network.candidates plan) covered)
+
+uncovered_price : (network : NetworkOf) (found : Best) (plan : List Bool) → (IsCovered network found plan → ⊥) → AtLeast (cost_of network.candidates plan) ≡ lesser (best_bound network found) (AtLeast (cost_of network.candidates plan))
+uncovered_price network best.NoPlan plan uncovered = refl
+uncovered_price network (best.Certified kept) plan uncovered =
+    let less = not_le (cost_of network.candidates kept) (cost_of network.candidates plan) uncovered in
+    second_least (cost_of network.candidates kept) (cost_of network.candidates plan) (less_than_bound (cost_of network.candidates plan) (cost_of network.candidates kept) less)
+uncovered_price network (best.Unsettled kept) plan uncovered =
+    second_least (cost_of network.candidates kept) (cost_of network.candidates plan) (not_lt (cost_of network.candidates kept) (cost_of network.candidates plan) uncovered)
+
+-- a plan that isn't covered costs less than each one that is
+uncovered_less : (network : NetworkOf) (found : Best) (plan other : List Bool) → (IsCovered network found plan → ⊥) → IsCovered network found other → cost_of network.candidates plan < cost_of network.candidates other
+uncovered_less network best.NoPlan plan other uncovered covered = absurd covered
+uncovered_less network (best.Certified kept) plan other uncovered covered =
+    let less = not_le (cost_of network.candidates kept) (cost_of network.candidates plan) uncovered in omega arith
+uncovered_less network (best.Unsettled kept) plan other uncovered covered =
+    let less = not_lt (cost_of network.candidates kept) (cost_of network.candidates plan) uncovered in omega arith
+
+above_price : (network : NetworkOf) (found : Best) (plan : List Bool) → (IsBelow (cost_of network.candidates plan) (best_bound network found) → ⊥) → best_bound network found ≡ lesser (best_bound network found) (AtLeast (cost_of network.candidates plan))
+above_price network best.NoPlan plan above = absurd (above tt)
+above_price network (best.Certified kept) plan above =
+    first_least (cost_of network.candidates kept) (cost_of network.candidates plan) (not_lt (cost_of network.candidates plan) (cost_of network.candidates kept) above)
+above_price network (best.Unsettled kept) plan above =
+    first_least (cost_of network.candidates kept) (cost_of network.candidates plan) (not_lt (cost_of network.candidates plan) (cost_of network.candidates kept) above)
+
+-- a node is cut off by its price
+pub IsDone-cut_off : (network : NetworkOf) (node : Node) (found : Best) → IsKept network found → IsCovered network found node.inside → IsDone network node (AtLeast (cost_of network.candidates node.inside)) found found
+IsDone-cut_off network node found kept cut = record {
+  price = covered_price network found node.inside cut;
+  kept = kept;
+  covered = λ other certified above below. IsCovered-dearer network found node.inside other (cost_of-grows network.candidates node.inside other above) cut;
+  still = λ other covered. covered;
+}
+
+-- no plan of a node that a limit refutes is certified
+refuted_empty : (network : NetworkOf) (node : Node) (number : ℕ) (other : List Bool) → IsNetwork network → IsRefutedBy network node number → IsCertified network other → IsWithin node.inside other → IsWithin other node.upper → ⊥
+refuted_empty network node number other bounds refuted certified above below =
+    let met : verdict_of network other refuted.limit ≡ Met =
+    at_place (λ l. IsInForce l other → verdict_of network other l ≡ Met) network.limits number refuted.limit certified.certified refuted.named (IsInForce-grows refuted.limit node.inside other above refuted.owned) in
+    let kept : IsLimit network refuted.limit = at_place (IsLimit network) network.limits number refuted.limit bounds.each_limit refuted.named in
+    refuted_fails network other node.upper refuted.limit bounds kept below refuted.refuted (met_sound network other refuted.limit bounds kept met)
+
+-- a limit refutes a node
+pub IsDone-refuted : (network : NetworkOf) (node : Node) (number : ℕ) (found : Best) → IsNetwork network → IsKept network found → IsRefutedBy network node number → IsDone network node NoPlan found found
+IsDone-refuted network node number found bounds kept refuted = record {
+  price = lesser-no_plan (best_bound network found);
+  kept = kept;
+  covered = λ other certified above below. absurd (refuted_empty network node number other bounds refuted certified above below);
+  still = λ other covered. covered;
+}
+
+-- the inner plan is certified, and becomes the best one
+pub IsDone-certified : (network : NetworkOf) (node : Node) (found : Best) (plan : List Bool) → plan ≡ node.inside → IsCertified network node.inside → (IsCovered network found node.inside → ⊥) → IsDone network node (AtLeast (cost_of network.candidates node.inside)) found (best.Certified plan)
+IsDone-certified network node found plan same certified uncovered =
+    subst (λ (p : List Bool). IsDone network node (AtLeast (cost_of network.candidates node.inside)) found (best.Certified p)) (sym same)
+    (record {
+      price = uncovered_price network found node.inside uncovered;
+      kept = certified;
+      covered = λ other _ above below. cost_of-grows network.candidates node.inside other above;
+      still = λ other covered. less_than_bound (cost_of network.candidates node.inside) (cost_of network.candidates other) (uncovered_less network found node.inside other uncovered covered);
+    })
+
+-- plans within one another are the same
+within_both : (a b : List Bool) → IsWithin a b → IsWithin b a → a ≡ b
+within_both [] [] below above = refl
+within_both [] (y ∷ b) below above = absurd below
+within_both (x ∷ a) [] below above = absurd below
+within_both (true ∷ a) (true ∷ b) below above = ap (λ rest. true ∷ rest) (within_both a b below.1 above.1)
+within_both (true ∷ a) (false ∷ b) below above = absurd (false≢true (below.0 refl))
+within_both (false ∷ a) (true ∷ b) below above = absurd (false≢true (above.0 refl))
+within_both (false ∷ a) (false ∷ b) below above = ap (λ rest. false ∷ rest) (within_both a b below.1 above.1)
+
+-- a node of one plan that is unsettled has no certified one
+unsettled_empty : (network : NetworkOf) (node : Node) (other : List Bool) → node.inside ≡ node.upper → IsUnsettled network node.inside → IsCertified network other → IsWithin node.inside other → IsWithin other node.upper → ⊥
+unsettled_empty network node other same unsettled certified above below =
+    let alike : other ≡ node.inside = within_both other node.inside (subst (λ (p : List Bool). IsWithin other p) (sym same) below) above in
+    unsettled.unsettled.0 (subst (λ (p : List Bool). IsCertified network p) alike certified).certified
+
+-- the inner plan is the node's only one and unsettled, and becomes the best one
+pub IsDone-unsettled : (network : NetworkOf) (node : Node) (found : Best) (plan : List Bool) → plan ≡ node.inside → node.inside ≡ node.upper → IsUnsettled network node.inside → (IsCovered network found node.inside → ⊥) → IsDone network node (AtLeast (cost_of network.candidates node.inside)) found (best.Unsettled plan)
+IsDone-unsettled network node found plan copied same unsettled uncovered =
+    subst (λ (p : List Bool). IsDone network node (AtLeast (cost_of network.candidates node.inside)) found (best.Unsettled p)) (sym copied)
+    (record {
+      price = uncovered_price network found node.inside uncovered;
+      kept = unsettled;
+      covered = λ other certified above below. absurd (unsettled_empty network node other same unsettled certified above below);
+      still = λ other covered. uncovered_less network found node.inside other uncovered covered;
+    })
+
+-- .. or stays behind one that is as cheap
+pub IsDone-undercut : (network : NetworkOf) (node : Node) (found : Best) → IsKept network found → node.inside ≡ node.upper → IsUnsettled network node.inside → (IsBelow (cost_of network.candidates node.inside) (best_bound network found) → ⊥) → IsDone network node (AtLeast (cost_of network.candidates node.inside)) found found
+IsDone-undercut network node found kept same unsettled above_it = record {
+  price = above_price network found node.inside above_it;
+  kept = kept;
+  covered = λ other certified above below. absurd (unsettled_empty network node other same unsettled certified above below);
+  still = λ other covered. covered;
+}
+
+-- both children are done
+pub IsDone-split : (network : NetworkOf) (node : Node) (candidate : ℕ) (first second : Bound) (before middle now : Best) → IsOpenAt network node candidate → IsDone network (with_chosen node candidate) first before middle → IsDone network (without_chosen node candidate) second middle now → IsDone network node (lesser first second) before now
+IsDone-split network node candidate first second before middle now is_open one two = record {
+  price = two.price ∙ ap (λ b. lesser b second) one.price ∙ lesser-assoc (best_bound network before) first second;
+  kept = two.kept;
+  covered = λ other certified above below.
+      let inside : candidate < length other = omega (arith, IsWithin-length other node.upper below, slice_get_within node.upper candidate true is_open.in_upper) in
+      elim (entry_at other candidate inside) [
+        | inl has ↦ two.still other (one.covered other certified (IsWithin-with node.inside other candidate above has) below)
+        | inr lacks ↦ two.covered other certified above (IsWithin-without other node.upper candidate below lacks)
+      ];
+  still = λ other covered. two.still other (one.still other covered);
+}

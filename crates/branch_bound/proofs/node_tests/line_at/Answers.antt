@@ -1,0 +1,39 @@
+use Rattle.std.proofs.Common.{refl, sym, ◌∙◌}
+use Rattle.std.proofs.lemmas.Bool.{iff_false}
+use Rattle.branch_bound.proofs.VerdictLemmas.{unsettled_by}
+use Rattle.branch_bound.proofs.DoneLemmas.{IsDone-cut_off, IsDone-refuted, IsDone-certified, IsDone-unsettled, IsDone-undercut}
+use Rattle.branch_bound.proofs.node_tests.line_at.Goals as goal
+
+pub returns-then-is_cut_off-clause-line : goal.returns-then-is_cut_off-clause-line
+returns-then-is_cut_off-clause-line c = record {
+  allowed = tt;
+  done = IsDone-cut_off c.args.network.now c.args.node.now c.args.best.now c.requires.kept (c.is_cut_off.ensures.0 c.if-is_cut_off.true);
+}
+
+pub returns-in-Some-clause-line : goal.returns-in-Some-clause-line
+returns-in-Some-clause-line c = record {
+  allowed = c.in-Some.ensures.found;
+  done = IsDone-refuted c.args.network.now c.args.node.now c.in-Some.limit c.args.best.now c.in-Some.ensures.bounds c.requires.kept c.in-Some.ensures.found;
+}
+
+pub returns-in_default-unmet_limit-clause-line : goal.returns-in_default-unmet_limit-clause-line
+returns-in_default-unmet_limit-clause-line c = record {
+  allowed = tt;
+  done = IsDone-certified c.args.network.now c.args.node.now c.args.best.now c.in_ok-copy.field-0 c.in_ok-copy.ensures c.in_default-unmet_limit.ensures.none (iff_false c.is_cut_off.ensures c.if-is_cut_off.false);
+}
+
+pub returns-then-is_cheaper-clause-line : goal.returns-then-is_cheaper-clause-line
+returns-then-is_cheaper-clause-line c = record {
+  allowed = tt;
+  done = IsDone-unsettled c.args.network.now c.args.node.now c.args.best.now c.in_ok-copy-2.field-0 c.in_ok-copy-2.ensures c.in_default-branch_candidate.ensures.none
+      (unsettled_by c.args.network.now c.args.node.now c.in-Some-unmet_limit.limit c.requires.node c.in_default-branch_candidate.ensures.none c.in_default.ensures.none c.in-Some-unmet_limit.ensures.unmet)
+      (iff_false c.is_cut_off.ensures c.if-is_cut_off.false);
+}
+
+pub returns-clause-line : goal.returns-clause-line
+returns-clause-line c = record {
+  allowed = tt;
+  done = IsDone-undercut c.args.network.now c.args.node.now c.args.best.now c.requires.kept c.in_default-branch_candidate.ensures.none
+      (unsettled_by c.args.network.now c.args.node.now c.in-Some-unmet_limit.limit c.requires.node c.in_default-branch_candidate.ensures.none c.in_default.ensures.none c.in-Some-unmet_limit.ensures.unmet)
+      (iff_false c.is_cheaper.ensures c.if-is_cheaper.false);
+}

@@ -1,0 +1,8 @@
+use Rattle.std.proofs.Common.{◌<◌, length, ap, arith}
+use Rattle.branch_bound.proofs.VerdictLemmas.{certified_by}
+use Rattle.branch_bound.proofs.node_tests.unmet_limit.Goals as goal
+
+pub returns-clause-none : goal.returns-clause-none
+returns-clause-none c =
+    certified_by c.args.network.now c.args.plan.now c.requires.plan
+    (λ k within. let inside : k < c.loop-limit.limit = omega (arith, ap length c.limits.ensures.value) in c.loop-limit.invariant.met k inside)

@@ -1,0 +1,60 @@
+use Rattle.std.specs.Prelude.{◌≡◌, ℕ, ◌<◌, ◌≤◌, ℤ, Bool, List}
+use Rattle.geo_model.specs.Energy.{cost_of, IsWithin}
+use Rattle.geo_model.specs.Network.{NetworkOf}
+use Rattle.geo_model.specs.declared.answer.Answer.{Answer}
+use Rattle.geo_model.specs.declared.answer.Answer.TheVariants as answer
+use Rattle.geo_model.specs.declared.plan.Node.{Node}
+use Rattle.bound_log.specs.declared.bound.Bound.{Bound}
+use Rattle.bound_log.specs.declared.bound.Bound.TheVariants.{NoPlan, AtLeast}
+use Rattle.bound_log.specs.Bound.{lesser}
+use Rattle.branch_bound.specs.declared.best.Best.{Best}
+use Rattle.branch_bound.specs.declared.best.Best.TheVariants as best
+use Rattle.branch_bound.specs.Searched.{IsCertified, IsUnsettled, IsFirstOpen}
+
+-- What the best plan so far says of the plans that were looked at. This project's own.
+
+-- the price of the best plan, as a bound
+abbrev pub best_bound : NetworkOf → Best → Bound
+best_bound network best.NoPlan = NoPlan
+best_bound network (best.Certified plan) = AtLeast (cost_of network.candidates plan)
+best_bound network (best.Unsettled plan) = AtLeast (cost_of network.candidates plan)
+
+-- the best plan is what it is called
+abbrev pub IsKept : NetworkOf → Best → Type 0
+IsKept network best.NoPlan = Unit {0}
+IsKept network (best.Certified plan) = IsCertified network plan
+IsKept network (best.Unsettled plan) = IsUnsettled network plan
+
+-- a plan is covered by the best one: it costs no less, and where the best one is unsettled it costs more
+abbrev pub IsCovered : NetworkOf → Best → List Bool → Type 0
+IsCovered network best.NoPlan other = ⊥
+IsCovered network (best.Certified plan) other = cost_of network.candidates plan ≤ cost_of network.candidates other
+IsCovered network (best.Unsettled plan) other = cost_of network.candidates plan < cost_of network.candidates other
+
+-- a price is below a bound
+abbrev pub IsBelow : ℕ → Bound → Type 0
+IsBelow price NoPlan = Unit {0}
+IsBelow price (AtLeast least) = price < least
+
+-- The best plan is brought up to the plans of a node, for which a log proves this bound: its price is the bound, or that
+-- of the best plan before where that is less; every certified plan of the node is covered, and so is each plan that was.
+pub record IsDone (network : NetworkOf) (node : Node) (bound : Bound) (before now : Best) : Type 0 where
+  pub price : best_bound network now ≡ lesser (best_bound network before) bound
+  pub kept : IsKept network now
+  pub covered : (other : List Bool) → IsCertified network other → IsWithin node.inside other → IsWithin other node.upper → IsCovered network now other
+  pub still : (other : List Bool) → IsCovered network before other → IsCovered network now other
+
+-- an unsettled plan is answered with the first limit in force that is open
+pub record IsLeftOpen (network : NetworkOf) (plan : List Bool) (made : Answer) : Type 0 where
+  pub limit : ℕ
+  pub step : ℕ
+  pub lo : ℤ
+  pub hi : ℤ
+  pub says : made ≡ answer.Undecided plan limit step lo hi
+  pub open_limit : IsFirstOpen network plan limit step lo hi
+
+-- an answer is the one that the best plan makes
+abbrev pub IsAnswerOf : NetworkOf → Best → Answer → Type 0
+IsAnswerOf network best.NoPlan made = made ≡ answer.NoPlan
+IsAnswerOf network (best.Certified plan) made = made ≡ answer.Best plan
+IsAnswerOf network (best.Unsettled plan) made = IsLeftOpen network plan made

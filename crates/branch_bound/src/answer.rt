@@ -1,0 +1,46 @@
+//! The answer of a search that is over.
+ghost use Rattle.std.specs.Prelude.{◌≡◌};
+ghost use Rattle.pivot_chain.specs.Room.{IsRoomOf};
+ghost use Rattle.branch_bound.specs.Found.{IsKept, IsAnswerOf};
+ghost use Rattle.branch_bound.specs.Searched.{IsUnsettled, IsFirstOpen};
+
+use crate::best::Best;
+use crate::limit_tests::{OpenLimit, open_limit};
+use geo_model::{Answer, Network, Plan};
+use pivot_chain::ChainRoom;
+
+/// The first limit in force for an unsettled plan whose verdict is open.
+fn first_open(room: &mut ChainRoom, network: &Network, plan: &Plan) -> OpenLimit
+    requires room { IsRoomOf network.now room.old }
+    requires unsettled { IsUnsettled network.now plan.now }
+    ensures { IsFirstOpen network.now plan.now result.limit result.step result.lo result.hi }
+{
+    for limit in 0..network.limits().len() as u32 {
+        if let Some(found) = open_limit(room, network, plan, limit) {
+            return found;
+        }
+    }
+    unreachable!()
+}
+
+/// The answer that the best plan makes.
+pub fn answer_of(room: &mut ChainRoom, network: &Network, best: Best) -> Answer
+    requires room { IsRoomOf network.now room.old }
+    requires kept { IsKept network.now best }
+    ensures { IsAnswerOf network.now best result }
+{
+    match best {
+        Best::NoPlan => Answer::NoPlan,
+        Best::Certified(plan) => Answer::Best(plan),
+        Best::Unsettled(plan) => {
+            let found = first_open(room, network, &plan);
+            Answer::Undecided {
+                plan,
+                limit: found.limit,
+                step: found.step,
+                lo: found.lo,
+                hi: found.hi,
+            }
+        }
+    }
+}
