@@ -32,12 +32,7 @@ fn square_on(
 }
 
 // The limit on the axes of a point's error ellipse, in tenths of a millimetre.
-fn axis_limit(
-    alloc: Global,
-    columns: &Columns,
-    point: u32,
-    tenths: u32,
-) -> Result<Limit, NoMemory>
+fn axis_limit(alloc: Global, columns: &Columns, point: u32, tenths: u32) -> Result<Limit, NoMemory>
     requires { tenths ≤ 1000 }
     ensures { IfOk result (λ limit. limit ≡ axis_limit columns.now point tenths) }
 {

@@ -7,10 +7,10 @@ pub returns : goal.returns
 returns c =
     elim c.match-find.branch [
       | in-Some+in_ok-push w ↦
-        square-some c.args.columns.now (record { point = c.args.point; component = c.args.component }) w.in-Some.column c.find.result c.match-find.entries.items
-        c.find.ensures.found w.in-Some.is
-        (ap (λ v. v.items) w.entries-is ∙ w.in_ok-push.ensures.items ∙ ap (λ (l : List (ℕ × ℤ)). l ++ (w.in-Some.column, pos 1) ∷ []) c.new-entries.ensures.items)
+          square-some c.args.columns.now (record { point = c.args.point; component = c.args.component }) w.in-Some.column c.find.result c.match-find.entries.items
+          c.find.ensures.found w.in-Some.is
+          (ap (λ v. v.items) w.entries-is ∙ w.in_ok-push.ensures.items ∙ ap (λ (l : List (ℕ × ℤ)). l ++ (w.in-Some.column, pos 1) ∷ []) c.new-entries.ensures.items)
       | in_default w ↦
-        square-none c.args.columns.now (record { point = c.args.point; component = c.args.component }) c.find.result c.match-find.entries.items
-        c.find.ensures.found w.in_default.is (ap (λ v. v.items) w.entries-is ∙ c.new-entries.ensures.items)
+          square-none c.args.columns.now (record { point = c.args.point; component = c.args.component }) c.find.result c.match-find.entries.items
+          c.find.ensures.found w.in_default.is (ap (λ v. v.items) w.entries-is ∙ c.new-entries.ensures.items)
     ]
