@@ -5,3 +5,4 @@ pub mod RedundancyFacts
 pub mod NetworkFacts
 pub mod StepFacts
 pub mod EntryFacts
+pub mod PartFacts

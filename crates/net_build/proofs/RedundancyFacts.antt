@@ -134,8 +134,13 @@ unfolding limits_of_candidate
 candidates-count q n [] = refl
 candidates-count q n (candidate ∷ candidates) =
     let rest = flat_map (limits_of_candidate q) (enumerate_from (n + 1) candidates) in
-    omega (arith, length-append (limits_of_candidate q (n, candidate)) rest, length-numbered (redundancy_limit q n) 0 candidate.rows, candidates-count q (n + 1) candidates,
-    sum_by-cons (λ (c : CandidateOf). length c.rows) candidate candidates)
+    omega (
+      arith,
+      length-append (limits_of_candidate q (n, candidate)) rest,
+      length-numbered (redundancy_limit q n) 0 candidate.rows,
+      candidates-count q (n + 1) candidates,
+      sum_by-cons (λ (c : CandidateOf). length c.rows) candidate candidates,
+    )
 
 pub redundancies-count : (q : ℕ) (candidates : List CandidateOf) → length (redundancy_limits q candidates) ≡ sum_by (λ candidate. length candidate.rows) candidates
 unfolding redundancy_limits

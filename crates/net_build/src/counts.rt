@@ -2,29 +2,16 @@
 ghost use Rattle.std.specs.Prelude.{ℕ, ◌≡◌, ◌≤◌, List, length};
 ghost use Rattle.geo_model.specs.declared.network.Unknown.{Unknown};
 ghost use Rattle.point_tables.specs.declared.record.PointRecord.{PointRecord};
-ghost use Rattle.design_rows.specs.Unknowns.{unknowns_of};
 ghost use Rattle.design_rows.specs.Rows.{rows_of};
 ghost use Rattle.net_build.specs.Build.{count_fault, row_count};
 
 use candidate_tables::{CandidateRecord, Candidates, Kind};
-use design_rows::Columns;
-use point_tables::{FaultKind, Points};
+use point_tables::FaultKind;
 
 // The largest counts of a network.
 const MOST_UNKNOWNS: u32 = 64;
 
 const MOST_ROWS: u32 = 512;
-
-// How many unknowns there are.
-pub(crate) fn unknown_count(points: &Points, candidates: &Candidates, columns: &Columns) -> u32
-    requires { columns.now ≡ unknowns_of points.now candidates.now }
-    ensures { result ≡ length columns.now }
-{
-    // At most 1000 points have at most 4 unknowns each.
-    let _most = points.len();
-    let _ = candidates;
-    columns.unknowns().len() as u32
-}
 
 // How many rows a candidate has, wherever its points lie.
 fn rows_by(candidate: &CandidateRecord) -> u32

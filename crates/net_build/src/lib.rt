@@ -10,3 +10,6 @@ mod redundancy;
 
 pub use laws::built_networks_are_networks;
 pub use network::build;
+
+#[cfg(test)]
+mod tests;

@@ -1,14 +1,13 @@
 ghost use Rattle.std.specs.Prelude.{◌≡◌, ◌^◌, ◌<◌, ◌≤◌, length, sum_by, All, IfOk, OnOk, None};
-ghost use Rattle.std.specs.List.{IsDistinct};
 ghost use Rattle.point_tables.specs.Accepted.{IsAccepted};
 ghost use Rattle.point_tables.specs.declared.fault.TableName.TheVariants as table;
 ghost use Rattle.point_tables.specs.Columns.{Answers};
 ghost use Rattle.candidate_tables.specs.Accepted.{AreCandidates};
-ghost use Rattle.design_rows.specs.Unknowns.{is_same, unknowns_of};
+ghost use Rattle.design_rows.specs.Unknowns.{unknowns_of};
 ghost use Rattle.net_build.specs.Build.{limits_of, network_fault, network_of};
 
 use crate::candidates::candidates_of;
-use crate::counts::{count_rows, fault_of, unknown_count};
+use crate::counts::{count_rows, fault_of};
 use crate::point_limits::point_limits;
 use crate::redundancy::push_redundancies;
 use candidate_tables::Candidates;
@@ -27,7 +26,6 @@ fn limits_of(
     candidates: &[Candidate],
     q: u32,
 ) -> Result<Vec<Limit>, NoMemory>
-    requires apart { IsDistinct is_same columns.now }
     requires few { length candidates.now < 2 ^ 32 }
     requires rows { sum_by (λ candidate. length candidate.rows) candidates.now < 2 ^ 32 }
     requires redundancy { q ≤ 999 }
@@ -81,7 +79,7 @@ pub fn build(
         Ok(columns) => columns,
         Err(_) => return Err(TableAnswer::NoMemory),
     };
-    let unknowns = unknown_count(points, candidates, &columns);
+    let unknowns = columns.unknowns().len() as u32;
     if let Some((number, kind)) = fault_of(unknowns, count_rows(candidates)) {
         return Err(TableAnswer::Fault(TableFault {
             table: TableName::Network,

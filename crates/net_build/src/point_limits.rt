@@ -1,8 +1,6 @@
 //! The limits of new points: on the axes of their error ellipses, and on their heights.
 ghost use Rattle.std.specs.Prelude.{◌≡◌, ◌≤◌, ◌++◌, All, IfOk, OnOk};
-ghost use Rattle.std.specs.List.{IsDistinct};
 ghost use Rattle.point_tables.specs.Accepted.{IsAccepted, IsPart};
-ghost use Rattle.design_rows.specs.Unknowns.{is_same};
 ghost use Rattle.net_build.specs.Build.{axis_limit, height_limit, limits_of_part, limits_of_point, point_limits, square_on};
 
 use design_rows::Columns;
@@ -21,7 +19,6 @@ fn square_on(
     point: u32,
     component: Component,
 ) -> Result<Square, NoMemory>
-    requires { IsDistinct is_same columns.now }
     ensures { IfOk result (λ square. square ≡ square_on columns.now (record { point = point; component = component })) }
 {
     let mut entries = Vec::new(alloc);
@@ -35,14 +32,8 @@ fn square_on(
 }
 
 // The limit on the axes of a point's error ellipse, in tenths of a millimetre.
-fn axis_limit(
-    alloc: Global,
-    columns: &Columns,
-    point: u32,
-    tenths: u32,
-) -> Result<Limit, NoMemory>
-    requires apart { IsDistinct is_same columns.now }
-    requires size { tenths ≤ 1000 }
+fn axis_limit(alloc: Global, columns: &Columns, point: u32, tenths: u32) -> Result<Limit, NoMemory>
+    requires { tenths ≤ 1000 }
     ensures { IfOk result (λ limit. limit ≡ axis_limit columns.now point tenths) }
 {
     let mut squares = Vec::new(alloc);
@@ -64,8 +55,7 @@ fn height_limit(
     point: u32,
     tenths: u32,
 ) -> Result<Limit, NoMemory>
-    requires apart { IsDistinct is_same columns.now }
-    requires size { tenths ≤ 1000 }
+    requires { tenths ≤ 1000 }
     ensures { IfOk result (λ limit. limit ≡ height_limit columns.now point tenths) }
 {
     let mut squares = Vec::new(alloc);
@@ -87,8 +77,7 @@ fn push_axis(
     place: u32,
     plane: Part,
 ) -> Result<(), NoMemory>
-    requires apart { IsDistinct is_same columns.now }
-    requires accepted { IsPart plane }
+    requires { IsPart plane }
     ensures { OnOk result (limits.new.items ≡ limits.old.items ++ limits_of_part (axis_limit columns.now place) plane) }
 {
     if let Part::New(tenths) = plane {
@@ -105,8 +94,7 @@ fn push_height(
     place: u32,
     height: Part,
 ) -> Result<(), NoMemory>
-    requires apart { IsDistinct is_same columns.now }
-    requires accepted { IsPart height }
+    requires { IsPart height }
     ensures { OnOk result (limits.new.items ≡ limits.old.items ++ limits_of_part (height_limit columns.now place) height) }
 {
     if let Part::New(tenths) = height {
@@ -123,8 +111,7 @@ fn push_limits(
     place: u32,
     point: &PointRecord,
 ) -> Result<(), NoMemory>
-    requires apart { IsDistinct is_same columns.now }
-    requires accepted { IsAccepted point.now }
+    requires { IsAccepted point.now }
     ensures { OnOk result (limits.new.items ≡ limits.old.items ++ limits_of_point columns.now (place, point.now)) }
 {
     push_axis(limits, alloc, columns, place, point.plane)?;
@@ -138,7 +125,6 @@ pub(crate) fn point_limits(
     points: &Points,
     columns: &Columns,
 ) -> Result<Vec<Limit>, NoMemory>
-    requires { IsDistinct is_same columns.now }
     ensures limits { IfOk result (λ limits. limits.items ≡ point_limits points.now columns.now) }
     ensures accepted { OnOk result (All IsAccepted points.now) }
 {

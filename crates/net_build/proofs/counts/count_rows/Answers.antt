@@ -1,5 +1,5 @@
 use Rattle.std.proofs.Common.{arith}
-use Rattle.net_build.proofs.EntryFacts.{no-rows}
+use Rattle.net_build.proofs.PartFacts.{no-rows}
 use Rattle.net_build.proofs.StepFacts.{rows-one}
 use Rattle.net_build.proofs.counts.count_rows.Goals as goal
 

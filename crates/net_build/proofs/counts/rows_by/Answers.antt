@@ -1,6 +1,6 @@
 use Rattle.std.proofs.Common.{inl, inr, arith}
 use Rattle.candidate_tables.specs.declared.kind.Kind.TheVariants as kind
-use Rattle.net_build.proofs.EntryFacts.{rows-by, rows-single}
+use Rattle.net_build.proofs.PartFacts.{rows-by, rows-single}
 use Rattle.net_build.proofs.counts.rows_by.Goals as goal
 
 pub returns-in-Vector-clause-rows : goal.returns-in-Vector-clause-rows

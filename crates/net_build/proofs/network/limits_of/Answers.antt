@@ -1,7 +1,7 @@
 use Rattle.std.proofs.Common.{◌∙◌, ◌++◌, List, ap}
 use Rattle.geo_model.specs.Limit.{LimitOf}
 use Rattle.net_build.specs.Build.{redundancy_limits}
-use Rattle.net_build.proofs.EntryFacts.{limits-none, limits-some}
+use Rattle.net_build.proofs.PartFacts.{limits-none, limits-some}
 use Rattle.net_build.proofs.network.limits_of.Goals as goal
 
 pub returns-then-q-eq0-clause-limits : goal.returns-then-q-eq0-clause-limits

@@ -1,6 +1,6 @@
 use Rattle.std.proofs.Common.{◌∙◌, ◌++◌, [], ◌∷◌, List, ap₂, FitsSigned, rules, w64}
 use Rattle.geo_model.specs.Limit.{SquareOf}
-use Rattle.net_build.proofs.EntryFacts.{owned-is, owned-square, redundancy-is}
+use Rattle.net_build.proofs.PartFacts.{owned-is, owned-square, redundancy-is}
 use Rattle.net_build.proofs.redundancy.redundancy_limit.Goals as goal
 
 pub returns : goal.returns
