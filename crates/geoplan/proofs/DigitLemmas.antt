@@ -1,5 +1,5 @@
 -- How digits are tested and read.
-use Rattle.std.proofs.Common.{◌≡◌, ℕ, ◌+◌, ◌-◌, ◌*◌, ◌^◌, ◌<◌, ◌≤◌, List, [], ◌∷◌, ◌++◌, length, true, false, arith, refl, get_or, add_assoc, lit<}
+use Rattle.std.proofs.Common.{◌≡◌, ℕ, ◌+◌, ◌-◌, ◌*◌, ◌^◌, ◌<◌, ◌≤◌, List, [], ◌∷◌, ◌++◌, length, true, false, arith, refl, get_or, lit<}
 use Rattle.std.proofs.Math.Nat.{pow-le-pow_right}
 use Rattle.std.proofs.lemmas.Bool.{and_parts, leb-true, true_from_ne_false, both_ways}
 use Rattle.std.proofs.lemmas.Grind.{pow_more}
@@ -60,3 +60,7 @@ step_size value i digit small low = rw pow_more (omega arith)
 
 pub step_fits : (value i : ℕ) → value < 10 ^ i → i < 10 → value < 10 ^ 10
 step_fits value i small few = omega (arith, pow-le-pow_right {n = 10} (lit< tt) {i = i} {j = 10} (omega arith))
+
+-- a number below one power of ten is below a larger one
+pub below_power : (n i most : ℕ) → n < 10 ^ i → i ≤ most → n < 10 ^ most
+below_power n i most small le = omega (arith, pow-le-pow_right {n = 10} (lit< tt) {i = i} {j = most} le)

@@ -2,4 +2,12 @@ pub mod DigitLemmas
 pub mod CommandLemmas
 pub mod TextLemmas
 pub mod InputLemmas
+pub mod LoadLemmas
+pub mod SolveLemmas
+pub mod StandLemmas
 pub mod PrintLemmas
+pub mod CodeLemmas
+pub mod AnswerLemmas
+pub mod TopLemmas
+pub mod FaultLemmas
+pub mod MemoryLemmas

@@ -5,6 +5,7 @@ use Rattle.std.proofs.lemmas.List.{append-nil, length-map, take_all}
 use Rattle.std.proofs.lemmas.Option.{slice_get-map}
 use Rattle.candidate_tables.specs.declared.record.CandidateRecord.{CandidateRecord}
 use Rattle.candidate_tables.specs.CandidateTable.{names_of}
+use Rattle.plan_report.proofs.Numbered.{before}
 use Rattle.geoplan.specs.Texts.{take_text, takes_text}
 
 step : (n : ℕ) (names : List (List ℕ)) (plan : List Bool) (name : List ℕ) (chosen : Bool) → slice_get names n ≡ Some name → slice_get plan n ≡ Some chosen → takes_text (take (suc n) names) plan ≡ takes_text (take n names) plan ++ (if chosen then take_text name else [])
@@ -43,3 +44,9 @@ takes_text-left n candidates plan candidate chosen here flag is =
 pub takes_text-all : (n : ℕ) (candidates : List CandidateRecord) (plan : List Bool) → length candidates ≤ n → takes_text (take n (names_of candidates)) plan ≡ takes_text (names_of candidates) plan
 takes_text-all n candidates plan past =
     ap (λ names. takes_text names plan) (take_all n (names_of candidates) (omega (arith, length-map candidates (λ (c : CandidateRecord). c.name))))
+
+-- a text of six pieces, put one after another
+pub six_pieces : (t1 t2 t3 t4 t5 t6 p1 p2 p3 p4 p5 p6 : List ℕ) → t1 ≡ p1 → t2 ≡ t1 ++ p2 → t3 ≡ t2 ++ p3 → t4 ≡ t3 ++ p4 → t5 ≡ t4 ++ p5 → t6 ≡ t5 ++ p6 → t6 ≡ p1 ++ (p2 ++ (p3 ++ (p4 ++ (p5 ++ p6))))
+six_pieces t1 t2 t3 t4 t5 t6 p1 p2 p3 p4 p5 p6 e1 e2 e3 e4 e5 e6 =
+    before t1 t2 t6 p2 (p3 ++ (p4 ++ (p5 ++ p6))) e2 (before t2 t3 t6 p3 (p4 ++ (p5 ++ p6)) e3 (before t3 t4 t6 p4 (p5 ++ p6) e4 (before t4 t5 t6 p5 p6 e5 e6)))
+    ∙ ap (λ t. t ++ (p2 ++ (p3 ++ (p4 ++ (p5 ++ p6))))) e1

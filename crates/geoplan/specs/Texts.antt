@@ -93,10 +93,13 @@ which_text points names (limit.Height place) = codes "height," ++ get_or points 
 which_text points names (limit.Redundancy owner row) = codes "redundancy," ++ (get_or names owner [] ++ (codes "," ++ decimal (row + 1)))
 which_text points names (limit.Added number) = codes "added," ++ decimal number
 
+-- an interval, at the end of a line
+abbrev pub interval_text : ℤ → ℤ → List ℕ
+interval_text lo hi = whole_text lo ++ (codes "," ++ (whole_text hi ++ codes "\n"))
+
 -- the line of an open limit, its name given: the step of its chain, and the interval there
 abbrev pub open_text : List ℕ → ℕ → ℤ → ℤ → List ℕ
-open_text which step lo hi =
-    codes "open," ++ (which ++ (codes "," ++ (decimal step ++ (codes "," ++ (whole_text lo ++ (codes "," ++ (whole_text hi ++ codes "\n")))))))
+open_text which step lo hi = codes "open," ++ (which ++ (codes "," ++ (decimal step ++ (codes "," ++ interval_text lo hi))))
 
 -- the report of a plan that is not decided, with the line of its open limit
 unfoldable pub undecided_text : List (List ℕ) → List CandidateOf → List Bool → List ℕ → List ℕ

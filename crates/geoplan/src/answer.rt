@@ -73,13 +73,13 @@ fn report(alloc: Global, tables: &Tables, done: &SearchDone) -> Outcome
         Answer::NoPlan => Outcome::made(alloc, Status::NoPlan, no_plan_report(alloc)),
         Answer::Undecided {
             plan,
-            limit,
+            limit: number,
             step,
             lo,
             hi,
         } => {
-            let kind = tables.network().limits()[*limit as usize].kind;
-            let text = undecided_text(alloc, tables, plan, kind, *step, *lo, *hi);
+            let limit = &tables.network().limits()[*number as usize];
+            let text = undecided_text(alloc, tables, plan, limit.kind, *step, *lo, *hi);
             Outcome::made(alloc, Status::Undecided, text)
         }
     }

@@ -1,8 +1,9 @@
 //! The line of an open limit.
 ghost use Rattle.std.specs.Prelude.{◌≡◌, ◌++◌, [], get_or, IfOk, OnOk};
+ghost use Rattle.std.specs.Fmt.{decimal};
 ghost use Rattle.candidate_tables.specs.CandidateTable as candidate;
 ghost use Rattle.point_tables.specs.PointTable as point;
-ghost use Rattle.geoplan.specs.Texts.{which_text, open_text};
+ghost use Rattle.geoplan.specs.Texts.{which_text, interval_text, open_text};
 
 use candidate_tables::Candidates;
 use geo_base::NoMemory;
@@ -67,6 +68,26 @@ fn which(
     Ok(text)
 }
 
+/// Appends the digits of a count.
+fn put_count(text: &mut Vec<u8>, count: u32) -> Result<(), NoMemory>
+    ensures { OnOk result (text.new.items ≡ text.old.items ++ decimal count) }
+{
+    let mut buffer = Buffer::new();
+    text.extend_from_slice(buffer.format(count).as_bytes())?;
+    Ok(())
+}
+
+/// Appends an interval, and ends its line.
+fn put_interval(text: &mut Vec<u8>, lo: i128, hi: i128) -> Result<(), NoMemory>
+    ensures { OnOk result (text.new.items ≡ text.old.items ++ interval_text lo hi) }
+{
+    put_whole(text, lo)?;
+    text.extend_from_slice(b",")?;
+    put_whole(text, hi)?;
+    text.extend_from_slice(b"\n")?;
+    Ok(())
+}
+
 /// The line of an open limit, its name given: the step of its chain, and the interval there.
 fn line_of(
     alloc: Global,
@@ -77,16 +98,12 @@ fn line_of(
 ) -> Result<Vec<u8>, NoMemory>
     ensures { IfOk result (λ text. text.items ≡ open_text which.now step lo hi) }
 {
-    let mut buffer = Buffer::new();
     let mut text = Vec::from_slice(alloc, b"open,")?;
     text.extend_from_slice(which)?;
     text.extend_from_slice(b",")?;
-    text.extend_from_slice(buffer.format(step).as_bytes())?;
+    put_count(&mut text, step)?;
     text.extend_from_slice(b",")?;
-    put_whole(&mut text, lo)?;
-    text.extend_from_slice(b",")?;
-    put_whole(&mut text, hi)?;
-    text.extend_from_slice(b"\n")?;
+    put_interval(&mut text, lo, hi)?;
     Ok(text)
 }
 

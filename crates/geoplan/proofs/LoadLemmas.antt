@@ -1,0 +1,108 @@
+-- Laws of reading the tables and of what they give.
+use Rattle.std.proofs.Common.{◌≡◌, ◌+◌, ◌<◌, ◌≤◌, ℕ, Bool, true, false, if◌then◌else◌, List, [], ◌∷◌, ◌++◌, length, refl, sym, ◌∙◌, subst, arith, Some, None}
+use Rattle.std.specs.Prelude.{All}
+use Rattle.std.specs.List.{AllByRecursion, enumerate_from, flat_map}
+use Rattle.std.proofs.lemmas.List.{length-map}
+use Rattle.geo_model.specs.Network.{NetworkOf, IsNetwork}
+use Rattle.geo_model.specs.declared.network.Component.TheVariants as component
+use Rattle.geo_model.specs.declared.network.Unknown.{Unknown}
+use Rattle.branch_bound.specs.Explored.{ShelfState}
+use Rattle.point_tables.specs.declared.record.PointRecord.{PointRecord}
+use Rattle.candidate_tables.specs.declared.record.CandidateRecord.{CandidateRecord}
+use Rattle.design_rows.specs.Unknowns.{coordinates, is_new, is_station, orientation, unknown, unknowns_of}
+use Rattle.design_rows.proofs.EntryFacts.{all-of}
+use Rattle.design_rows.proofs.UnknownFacts.{every-append, every-weaker}
+use Rattle.net_build.specs.Build.{candidate_of, network_of}
+use Rattle.geoplan.specs.CommandOf.{SourcesOf}
+use Rattle.geoplan.specs.Input.{most_bytes, judged_input}
+use Rattle.geoplan.specs.Loading.{ReadsTable, IsGoodInput, Loads}
+use Rattle.geoplan.specs.Standing.{IsGoodNetwork}
+use Rattle.geoplan.specs.Tables.{TablesOf}
+use Rattle.geoplan.specs.declared.input.Input.{Input}
+use Rattle.geoplan.specs.declared.input.Input.TheVariants as input
+use Rattle.geoplan.specs.declared.input.Table.TheVariants as table
+use Rattle.geoplan.proofs.InputLemmas.{input_from-long_points, input_from-long_candidates, input_from-judged}
+
+-- ---- reading
+
+-- the points are too long
+pub Loads-long_points : (sources : SourcesOf) (before now : ShelfState) → ReadsTable sources.points None before now → Loads sources (input.TooLong table.Points) before now
+Loads-long_points sources before now read = record {
+  input = λ files told. sym (input_from-long_points sources.redundancy _ _ (read.has files told));
+  good = λ tables is. absurd (cc);
+  held = read.held;
+  quiet = read.quiet;
+}
+
+-- the candidates are
+pub Loads-long_candidates : (sources : SourcesOf) (points : List ℕ) (before middle now : ShelfState) → ReadsTable sources.points (Some points) before middle → ReadsTable sources.candidates None middle now → Loads sources (input.TooLong table.Candidates) before now
+Loads-long_candidates sources points before middle now one two = record {
+  input = λ files told.
+      sym (input_from-long_candidates sources.redundancy _ _ (subst (λ bytes. length bytes ≤ most_bytes) (one.has.1 files told) one.has.0) (two.has files (one.held ∙ told)));
+  good = λ tables is. absurd (cc);
+  held = two.held ∙ one.held;
+  quiet = record { same_count = two.quiet.same_count ∙ one.quiet.same_count; same_last = two.quiet.same_last ∙ one.quiet.same_last };
+}
+
+-- neither is, and they are judged
+pub Loads-judged : (sources : SourcesOf) (points candidates : List ℕ) (given : Input) (before middle now : ShelfState) → ReadsTable sources.points (Some points) before middle → ReadsTable sources.candidates (Some candidates) middle now → given ≡ judged_input sources.redundancy points candidates → IsGoodInput given → Loads sources given before now
+Loads-judged sources points candidates given before middle now one two is good = record {
+  input = λ files told.
+      is ∙ sym (rw (← one.has.1 files told, ← two.has.1 files (one.held ∙ told)) (input_from-judged sources.redundancy points candidates one.has.0 two.has.0));
+  good = good;
+  held = two.held ∙ one.held;
+  quiet = record { same_count = two.quiet.same_count ∙ one.quiet.same_count; same_last = two.quiet.same_last ∙ one.quiet.same_last };
+}
+
+-- ---- the network
+
+-- what is numbered by the points of a table is of one of them
+placed-from : (f : ℕ × PointRecord → List Unknown) → ((k : ℕ) (point : PointRecord) → AllByRecursion (λ u. u.point ≡ k) (f (k, point)))
+    → (n most : ℕ) (points : List PointRecord) → n + length points ≤ most → AllByRecursion (λ u. u.point < most) (flat_map f (enumerate_from n points))
+placed-from f each n most [] le = tt
+placed-from f each n most (point ∷ points) le =
+    every-append (λ (u : Unknown). u.point < most) (f (n, point)) (flat_map f (enumerate_from (n + 1) points))
+    (every-weaker (λ (u : Unknown). u.point ≡ n) (λ (u : Unknown). u.point < most) (λ u e. omega arith) (f (n, point)) (each n point))
+    (placed-from f each (n + 1) most points (omega arith))
+
+coordinates-at : (plane height : Bool) (k : ℕ) →
+    AllByRecursion (λ (u : Unknown). u.point ≡ k)
+    ((if plane then unknown k component.X ∷ unknown k component.Y ∷ [] else []) ++ (if height then unknown k component.Z ∷ [] else []))
+coordinates-at true true k = (refl, (refl, (refl, tt)))
+coordinates-at true false k = (refl, (refl, tt))
+coordinates-at false true k = (refl, tt)
+coordinates-at false false k = tt
+
+orientation-at : (station : Bool) (k : ℕ) → AllByRecursion (λ (u : Unknown). u.point ≡ k) (if station then unknown k component.Turn ∷ [] else [])
+orientation-at true k = (refl, tt)
+orientation-at false k = tt
+
+-- each unknown is of a point of the table
+unknowns-placed : (points : List PointRecord) (candidates : List CandidateRecord) → All (λ unknown. unknown.point < length points) (unknowns_of points candidates)
+unfolding unknowns_of
+unknowns-placed points candidates =
+    all-of (λ (u : Unknown). u.point < length points) (unknowns_of points candidates)
+    (every-append (λ (u : Unknown). u.point < length points) (flat_map coordinates (enumerate_from 0 points)) (flat_map (orientation candidates) (enumerate_from 0 points))
+    (placed-from coordinates (λ k point. coordinates-at (is_new point.plane) (is_new point.height) k) 0 (length points) points (omega arith))
+    (placed-from (orientation candidates) (λ k point. orientation-at (is_station candidates k) k) 0 (length points) points (omega arith)))
+
+-- the network of two tables has their candidates, and its unknowns are of their points
+good_network : (redundancy : ℕ) (points : List PointRecord) (candidates : List CandidateRecord) → IsNetwork (network_of points candidates redundancy) →
+    IsGoodNetwork (record { points = points; candidates = candidates; network = network_of points candidates redundancy })
+unfolding network_of
+good_network redundancy points candidates bounds = record {
+  bounds = bounds;
+  named = sym (length-map candidates (candidate_of points (unknowns_of points candidates)));
+  placed = unknowns-placed points candidates;
+}
+
+-- so what is built is good
+pub good_tables : (redundancy : ℕ) (points : List PointRecord) (candidates : List CandidateRecord) (network : NetworkOf) (tables : TablesOf) →
+    tables ≡ record { points = points; candidates = candidates; network = network } → network ≡ network_of points candidates redundancy → IsNetwork network →
+    IsGoodInput (input.Built tables)
+good_tables redundancy points candidates network tables are is bounds other same =
+    let good = good_network redundancy points candidates (subst IsNetwork is bounds) in
+    let built : IsGoodNetwork (record { points = points; candidates = candidates; network = network }) =
+    subst (λ (n : NetworkOf). IsGoodNetwork (record { points = points; candidates = candidates; network = n })) (sym is) good in
+    let e : tables ≡ other = cc in
+    subst IsGoodNetwork e (subst IsGoodNetwork (sym are) built)

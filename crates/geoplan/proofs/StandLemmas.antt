@@ -1,0 +1,70 @@
+-- What stands once the network of the tables is searched and its answer is reported.
+use Rattle.std.proofs.Common.{◌≡◌, ◌⊎◌, inl, inr, ◌≤◌, ℕ, List, [], refl, sym, ap, ◌∙◌, subst, arith}
+use Rattle.std.proofs.lemmas.List.{append-nil}
+use Rattle.shelf_io.specs.Files.{with_bytes}
+use Rattle.shelf_io.specs.Faults.{KeepsFaults}
+use Rattle.geo_model.specs.declared.answer.Answer.{Answer}
+use Rattle.geo_model.specs.declared.answer.Answer.TheVariants as answer
+use Rattle.geo_model.specs.declared.answer.SearchDone.{SearchDone}
+use Rattle.bound_log.specs.LogText.{log_text}
+use Rattle.bound_log.specs.LogTree.{root_of, bound_at}
+use Rattle.bound_log.specs.Tree.{Tree}
+use Rattle.branch_bound.specs.Explored.{ShelfState}
+use Rattle.branch_bound.specs.Searched.{IsAnswer}
+use Rattle.geoplan.specs.CommandOf.{JobOf}
+use Rattle.geoplan.specs.Loading.{HasTables}
+use Rattle.geoplan.specs.Reporting.{Ends, Reports}
+use Rattle.geoplan.specs.Solving.{Solves}
+use Rattle.geoplan.specs.Standing.{LeavesLog, PlanStands}
+use Rattle.geoplan.specs.Tables.{TablesOf}
+use Rattle.geoplan.specs.Texts.{tables_plan_text, no_plan_text, tables_undecided_text}
+use Rattle.geoplan.specs.declared.status.Status.{Status}
+use Rattle.geoplan.specs.declared.status.Status.TheVariants as status
+
+-- the log of a search that is done
+leaves_log : (job : JobOf) (tables : TablesOf) (done : SearchDone) (before middle now : ShelfState) → HasTables job.sources tables before middle → (solved : Solves tables job.log done middle now) → LeavesLog job before now tables solved.tree
+leaves_log job tables done before middle now has solved = record {
+  input = has.input;
+  good = has.good;
+  allowed = solved.searched.allowed;
+  written = solved.written ∙ ap (λ held. with_bytes held job.log (log_text solved.tree)) has.held;
+  quiet = record { same_count = solved.quiet.same_count ∙ has.quiet.same_count; same_last = solved.quiet.same_last ∙ has.quiet.same_last };
+}
+
+-- with a whole log memory ran out
+out_after : (job : JobOf) (before now : ShelfState) (tables : TablesOf) (tree : Tree) (ends : Status) (text : List ℕ) → LeavesLog job before now tables tree → ends ≡ status.NoMemory → text ≡ [] → PlanStands job before now ends text
+out_after job before now tables tree ends text log is none = subst (λ s. PlanStands job before now s text) (sym is) (record {
+  held = inr (record {
+    tables = tables;
+    tree = tree;
+    piece = log_text tree;
+    rest = [];
+    input = log.input;
+    allowed = log.allowed;
+    begins = sym (append-nil (log_text tree));
+    written = log.written;
+  });
+  later = omega (arith, log.quiet.same_count);
+  printed = none;
+})
+
+module _ (job : JobOf) (before now : ShelfState) (tables : TablesOf) (tree : Tree) (log : LeavesLog job before now tables tree) (ends : Status) (text : List ℕ) where
+  -- a status with its text, or that memory ran out
+  ended : (meant : Status) (words : List ℕ) → (text ≡ words → PlanStands job before now meant text) → Ends meant words ends text → PlanStands job before now ends text
+  ended meant words stands (inl (is, said)) = subst (λ s. PlanStands job before now s text) (sym is) (stands said)
+  ended meant words stands (inr (is, none)) = out_after job before now tables tree ends text log is none
+
+  by_answer : (given : Answer) → IsAnswer tables.network (bound_at tables.network (root_of tables.network) tree) given → Reports tables given ends text → PlanStands job before now ends text
+  by_answer (answer.Best plan) is reports =
+      ended status.Found (tables_plan_text tables plan) (λ said. record { tables = tables; tree = tree; plan = plan; log = log; best = is; printed = said }) reports
+  by_answer answer.NoPlan is reports =
+      ended status.NoPlan no_plan_text (λ said. record { tables = tables; tree = tree; log = log; none = is; printed = said }) reports
+  by_answer (answer.Undecided plan number step lo hi) is reports =
+      ended status.Undecided (tables_undecided_text tables plan is.open_limit.limit.kind step lo hi)
+      (λ said. record { tables = tables; tree = tree; plan = plan; number = number; step = step; lo = lo; hi = hi; log = log; undecided = is; printed = said })
+      (reports is.open_limit.limit is.open_limit.named)
+
+-- what stands once the search is done and its answer is reported
+pub PlanStands-reported : (job : JobOf) (tables : TablesOf) (done : SearchDone) (before middle now : ShelfState) (ends : Status) (text : List ℕ) → HasTables job.sources tables before middle → Solves tables job.log done middle now → Reports tables done.answer ends text → PlanStands job before now ends text
+PlanStands-reported job tables done before middle now ends text has solved reports =
+    by_answer job before now tables solved.tree (leaves_log job tables done before middle now has solved) ends text done.answer solved.searched.answered reports

@@ -1,0 +1,11 @@
+use Rattle.std.specs.Prelude.{codes}
+use Rattle.std.specs.Fmt.{decimal}
+use Rattle.geoplan.specs.Texts.{interval_text}
+use Rattle.geoplan.proofs.TextLemmas.{six_pieces}
+use Rattle.geoplan.proofs.open_line.line_of.Goals as goal
+
+pub returns : goal.returns
+returns c =
+    six_pieces c.in_ok-text.text.items c.extend_from_slice.new.self.items c.extend_from_slice-2.new.self.items c.put_count.new.text.items c.extend_from_slice-3.new.self.items c.put_interval.new.text.items
+    (codes "open,") c.args.which.now (codes ",") (decimal c.args.step) (codes ",") (interval_text c.args.lo c.args.hi)
+    c.in_ok-text.ensures.items c.in_ok-extend_from_slice.ensures.items c.in_ok-extend_from_slice-2.ensures.items c.in_ok-put_count.ensures c.in_ok-extend_from_slice-3.ensures.items c.in_ok-put_interval.ensures
