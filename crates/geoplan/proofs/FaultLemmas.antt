@@ -140,6 +140,7 @@ module _ (words : List (List ℕ)) (ended : Status) (before now : ShelfState) (s
   }
 
   open_fails : (job : JobOf) (text : List ℕ) → Rose sink.faults sink_now.faults → WritesPrefix text sink sink_now → LeavesOpen job before now text → PrintFails job before now sink sink_now
+  unfolding HoldsUndecided-of
   open_fails job text rose began left = record {
     text = text;
     rose = rose;

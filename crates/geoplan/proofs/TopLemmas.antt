@@ -55,7 +55,7 @@ HoldsNone-of job before now text files after told told_now found =
     }
 
 -- a whole log and a plan that is not decided
-pub HoldsUndecided-of : (job : JobOf) (before now : ShelfState) (text : List ℕ) (files after : Files) → before.held ≡ Some files → now.held ≡ Some after → (left : LeavesOpen job before now text) → HoldsUndecided job files after left.tables left.plan left.number left.step left.lo left.hi
+unfoldable pub HoldsUndecided-of : (job : JobOf) (before now : ShelfState) (text : List ℕ) (files after : Files) → before.held ≡ Some files → now.held ≡ Some after → (left : LeavesOpen job before now text) → HoldsUndecided job files after left.tables left.plan left.number left.step left.lo left.hi
 HoldsUndecided-of job before now text files after told told_now left =
     let log : HasBound left.tables.network (bytes_of after job.log) (AtLeast (cost_of left.tables.network.candidates left.plan)) =
     record {
@@ -123,6 +123,7 @@ module _ (words : List (List ℕ)) (ended : Status) (before now : ShelfState) (s
 
   -- the clause of status 4
   open_in : (text : List ℕ) → WritesAll text sink sink_now → OnPlan words (λ job. LeavesOpen job before now text) → OnPlan words (λ job. WhereHeld before.held now.held (λ files after. IsLeftOpen job files after sink sink_now))
+  unfolding HoldsUndecided-of
   open_in text all (job, of, left) = (
     job,
     of,
