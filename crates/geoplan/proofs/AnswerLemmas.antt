@@ -1,7 +1,7 @@
 -- The answer of a command from the status that it has.
 use Rattle.std.proofs.Common.{◌≡◌, ◌⊎◌, inl, inr, ℕ, List, sym, ◌∙◌, subst, None, Some}
 use Rattle.branch_bound.specs.Explored.{ShelfState}
-use Rattle.geoplan.specs.CommandOf.{JobOf, CommandOf, plan_command, rows_command, plain_sources, command_of, OnCommand, OnPlan}
+use Rattle.geoplan.specs.CommandOf.{CommandOf, plan_command, rows_command, plain_sources, command_of, OnCommand, OnPlan}
 use Rattle.geoplan.specs.Printing.{SaysWords, Answered}
 use Rattle.geoplan.specs.Standing.{PlanStands, RowsStand, Stands}
 use Rattle.geoplan.specs.declared.status.Status.{Status}

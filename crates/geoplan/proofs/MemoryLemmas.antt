@@ -12,7 +12,7 @@ use Rattle.geoplan.specs.Input.{input_of, name_of}
 use Rattle.geoplan.specs.Tables.{TablesOf}
 use Rattle.geoplan.specs.Printing.{SinkState, WritesPrefix, WritesAll, Prints, SaysWords, Answered, Runs}
 use Rattle.geoplan.specs.Promises.{IsText, RanOut, IsStatusOf, IsComplete}
-use Rattle.geoplan.specs.Standing.{LeavesLog, BeganLog, KeepsOrBegan, PlanStands, RowsStand, Stands, Refuses}
+use Rattle.geoplan.specs.Standing.{LeavesLog, BeganLog, KeepsOrBegan, PlanStands, RowsStand, Stands}
 use Rattle.geoplan.specs.declared.input.Input.{Input}
 use Rattle.geoplan.specs.declared.input.Input.TheVariants as input
 use Rattle.geoplan.specs.declared.status.Status.{Status}

@@ -1,5 +1,5 @@
 -- How the clauses on answers and refusals follow from a run.
-use Rattle.std.proofs.Common.{◌≡◌, ◌⊎◌, inl, inr, ℕ, List, sym, ◌∙◌, subst, None, Some}
+use Rattle.std.proofs.Common.{◌≡◌, inl, inr, ℕ, List, sym, subst, None, Some}
 use Rattle.shelf_io.specs.Files.{Files, bytes_of}
 use Rattle.shelf_io.proofs.FileLaws.{bytes_of-with_bytes}
 use Rattle.geo_model.specs.Energy.{cost_of}
@@ -10,14 +10,14 @@ use Rattle.bound_log.proofs.SoundLemmas.{HasBound-below}
 use Rattle.bound_log.specs.declared.bound.Bound.TheVariants.{NoPlan, AtLeast}
 use Rattle.branch_bound.specs.Explored.{ShelfState}
 use Rattle.geoplan.specs.Codes.{code_of}
-use Rattle.geoplan.specs.CommandOf.{SourcesOf, JobOf, CommandOf, plan_command, rows_command, plain_sources, sources_of, command_of, OnCommand, OnPlan, IfPlan, IfRows}
+use Rattle.geoplan.specs.CommandOf.{SourcesOf, JobOf, plan_command, rows_command, plain_sources, sources_of, command_of, OnCommand, OnPlan, IfPlan, IfRows}
 use Rattle.geoplan.specs.Printing.{SinkState, WritesAll, Answered, SaysWords, Runs}
 use Rattle.geoplan.specs.Promises.{WhereHeld, HoldsPlan, HoldsNone, HoldsUndecided, IsFound, IsNone, IsLeftOpen, AreListed, IsTableRefused, IsUnread, IsTooLong, Says}
 use Rattle.geoplan.specs.Standing.{FindsPlan, FindsNone, LeavesOpen, ListsRows, RefusesTable, FailsToRead, RefusesLength, Stands}
 use Rattle.geoplan.specs.Texts.{words_text}
 use Rattle.geoplan.specs.declared.status.Status.{Status}
 use Rattle.geoplan.specs.declared.status.Status.TheVariants as status
-use Rattle.geoplan.proofs.AnswerLemmas.{by_command, by_plan, stands_for, not_refused}
+use Rattle.geoplan.proofs.AnswerLemmas.{by_command, by_plan, stands_for}
 use Rattle.geoplan.proofs.CodeLemmas.{from_code, says-of, whole-of}
 
 -- ---- what stands with a report
