@@ -1,5 +1,6 @@
 //! Networks of four unknowns for the tests, a candidate and a limit at a time.
 ghost use Rattle.std.specs.Prelude.{◌≡◌, ◌≢◌, ◌<◌, ◌≤◌, ◌^◌, [], ◌∷◌, ℤ, pos, negsuc, ◌≤ℤ◌, List, length, IfOk, None, Some};
+ghost use Rattle.std.specs.Option.{ForSome};
 ghost use Rattle.geo_model.specs.Candidate.{CandidateOf, IsCandidate};
 ghost use Rattle.geo_model.specs.Limit.{IsLoad};
 
@@ -16,7 +17,7 @@ pub struct Draft {
 }
 
 impl Model for Draft {
-    ghost use Rattle.branch_bound.proofs.Drafts.{DraftOf, IsDraft};
+    ghost use Rattle.branch_bound.specs.Drafts.{DraftOf, IsDraft};
 
     ghost Value = { DraftOf };
 
@@ -73,22 +74,36 @@ impl Draft {
         Ok(())
     }
 
-    /// Adds a limit, owned by the latest candidate or by none. There are at most 1000.
-    fn push_limit(&mut self, alpha: i64, squares: Vec<Square>, owned: bool) -> Result<(), NoMemory>
+    /// Adds a limit. There are at most 1000.
+    fn push_limit(
+        &mut self,
+        owner: Option<u32>,
+        alpha: i64,
+        squares: Vec<Square>,
+    ) -> Result<(), NoMemory>
+        requires load { (candidates : List CandidateOf) → IsLoad 4 candidates alpha squares.items }
+        requires owner { ForSome owner (λ number. number < length self.old.candidates) }
+    {
+        if self.limits.len() < 1000 {
+            self.limits.push(Limit {
+                kind: LimitKind::Added(1),
+                owner,
+                alpha,
+                squares,
+            })?;
+        }
+        Ok(())
+    }
+
+    /// Adds a limit that the latest candidate owns.
+    fn push_owned(&mut self, alpha: i64, squares: Vec<Square>) -> Result<(), NoMemory>
         requires { (candidates : List CandidateOf) → IsLoad 4 candidates alpha squares.items }
     {
         let count = self.candidates.len() as u32;
-        if self.limits.len() >= 1000 || count == 0 && owned {
+        if count == 0 {
             return Ok(());
         }
-        let owner = if owned { Some(count - 1) } else { None };
-        self.limits.push(Limit {
-            kind: LimitKind::Added(1),
-            owner,
-            alpha,
-            squares,
-        })?;
-        Ok(())
+        self.push_limit(Some(count - 1), alpha, squares)
     }
 
     /// Adds a limit on one unknown.
@@ -98,7 +113,7 @@ impl Draft {
         requires high { alpha ≤ℤ pos 1000000 }
     {
         let squares = vec![in alloc; square(alloc, unknown)?]?;
-        self.push_limit(alpha, squares, false)
+        self.push_limit(None, alpha, squares)
     }
 
     /// Adds a limit on the first two unknowns together.
@@ -107,7 +122,7 @@ impl Draft {
         requires high { alpha ≤ℤ pos 1000000 }
     {
         let squares = vec![in alloc; square(alloc, 0)?, square(alloc, 1)?]?;
-        self.push_limit(alpha, squares, false)
+        self.push_limit(None, alpha, squares)
     }
 
     /// Adds a candidate of one row with one entry, as a level from a fixed height.
@@ -185,7 +200,7 @@ impl Draft {
     {
         let entries = vec![in alloc; (unknown, 10000)]?;
         let squares = vec![in alloc; Square { beta, entries }]?;
-        self.push_limit(alpha, squares, true)
+        self.push_owned(alpha, squares)
     }
 
     /// Adds a redundancy limit on the latest candidate's row of two entries.
@@ -206,7 +221,7 @@ impl Draft {
     {
         let entries = vec![in alloc; (from, -10000), (to, 10000)]?;
         let squares = vec![in alloc; Square { beta, entries }]?;
-        self.push_limit(alpha, squares, true)
+        self.push_owned(alpha, squares)
     }
 
     /// The network of the draft.
