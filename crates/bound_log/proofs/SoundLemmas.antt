@@ -1,22 +1,19 @@
-use Rattle.std.proofs.Common.{◌≡◌, ◌<◌, ℕ, zero, suc, ℤ, pos, ◌*ℤ◌, ◌-ℤ◌, ◌≤ℤ◌, ◌<ℤ◌, Bool, true, false, List, [], ◌∷◌, length, replicate, arith, refl, ap, sym, Some, subst, ◌⊎◌, inl, inr}
-use Rattle.std.specs.Prelude.{slice_get, All, int_le, if◌then◌else◌}
-use Rattle.std.proofs.lemmas.Int.{ints}
+use Rattle.std.proofs.Common.{◌≡◌, ◌<◌, ℕ, zero, suc, Bool, true, false, List, [], ◌∷◌, length, replicate, arith, refl, ap, sym, Some, subst, ◌⊎◌, inl, inr}
+use Rattle.std.specs.Prelude.{slice_get, All}
 use Rattle.std.proofs.lemmas.Option.{get_or_from_slice_get, slice_get_within}
-use Rattle.geo_model.specs.Energy.{energy, cost_of, IsWithin}
-use Rattle.geo_model.specs.Limit.{LimitOf, load, IsInForce}
-use Rattle.geo_model.specs.Meeting.{MeetsLimits, MeetsLimit, Breaks}
+use Rattle.geo_model.specs.Energy.{cost_of, IsWithin}
+use Rattle.geo_model.specs.Limit.{LimitOf, IsInForce}
+use Rattle.geo_model.specs.Meeting.{MeetsLimits, MeetsLimit}
 use Rattle.geo_model.specs.Network.{NetworkOf, IsNetwork, IsLimit}
 use Rattle.geo_model.specs.declared.plan.Node.{Node}
-use Rattle.geo_model.specs.declared.verdict.Verdict.TheVariants.{Met, Refuted}
-use Rattle.geo_model.proofs.EnergyLemmas.{MeetsLimit-grows}
 use Rattle.geo_model.proofs.PlanLemmas.{cost_of-grows, IsWithin-with, IsWithin-without, IsWithin-none, IsWithin-all, IsWithin-length}
+use Rattle.pivot_chain.proofs.Verdicts.{refuted_fails}
 use Rattle.bound_log.specs.declared.bound.Bound.{Bound}
 use Rattle.bound_log.specs.declared.bound.Bound.TheVariants.{NoPlan, AtLeast}
 use Rattle.bound_log.specs.Bound.{lesser, IsAtMost}
 use Rattle.bound_log.specs.LogTree.{root_of, with_chosen, without_chosen, IsAllowed, bound_at, HasBound}
 use Rattle.bound_log.specs.Sound.{IsLowerBound}
 use Rattle.bound_log.specs.Tree.{cost, pivot, Tree, fork, tip}
-use Rattle.bound_log.specs.VerdictOf.{verdict_of, form_at_one, ones}
 
 -- Why the bound of a log is a lower bound.
 
@@ -31,32 +28,6 @@ pub IsAtMost-lesser_right : (a b : Bound) (price : ℕ) → IsAtMost b price →
 IsAtMost-lesser_right NoPlan b price below = below
 IsAtMost-lesser_right (AtLeast x) NoPlan price below = absurd below
 IsAtMost-lesser_right (AtLeast x) (AtLeast y) price below = omega arith
-
--- a verdict by a test is Refuted only where the test fails
-refuted_test : (test : Bool) → (if test then Met else Refuted) ≡ Refuted → test ≡ false
-refuted_test true refuted = absurd (cc)
-refuted_test false refuted = refl
-
--- a number that isn't at least 0 is negative
-negative : (z : ℤ) → int_le (pos 0) z ≡ false → z <ℤ pos 0
-negative z test = grind (arith, ints)
-
-below_by : (a b : ℤ) → (a -ℤ b) <ℤ pos 0 → a <ℤ b
-below_by a b difference = omega (arith, ints)
-
--- a refuted limit is broken by the displacement of 1
-pub refuted_breaks : (network : NetworkOf) (plan : List Bool) (limit : LimitOf) → verdict_of network plan limit ≡ Refuted → Breaks network plan limit ones
-refuted_breaks network plan limit refuted =
-    below_by (limit.alpha *ℤ energy network.candidates plan ones) (load limit.squares ones)
-    (negative (form_at_one network plan limit) (refuted_test (int_le (pos 0) (form_at_one network plan limit)) refuted))
-
--- a plan within the upper plan of a refuted limit doesn't meet it
-pub refuted_below : (network : NetworkOf) (plan upper : List Bool) (limit : LimitOf) → IsNetwork network → pos 1 ≤ℤ limit.alpha → IsWithin plan upper → verdict_of network upper limit ≡ Refuted → MeetsLimit network plan limit → ⊥
-refuted_below network plan upper limit bounds alpha within refuted meets =
-    let met : load limit.squares ones ≤ℤ (limit.alpha *ℤ energy network.candidates upper ones) =
-    MeetsLimit-grows network limit plan upper bounds.each_candidate alpha within meets ones in
-    let broken : (limit.alpha *ℤ energy network.candidates upper ones) <ℤ load limit.squares ones = refuted_breaks network upper limit refuted in
-    omega (arith, ints)
 
 -- an entry of a list at a place within it
 entry_at : (plan : List Bool) (i : ℕ) → i < length plan → (slice_get plan i ≡ Some true) ⊎ (slice_get plan i ≡ Some false)
@@ -99,7 +70,7 @@ bound_at-below network node (tip (pivot number)) bounds allowed plan above below
     let kept : IsLimit network limit = each_named network number limit bounds.each_limit allowed.named in
     let met : MeetsLimit network plan limit =
     each_named_meets network number limit plan meets allowed.named (IsInForce-grows limit node.inside plan above allowed.owned) in
-    absurd (refuted_below network plan node.upper limit bounds kept.bounded.alpha_low below allowed.refuted met)
+    absurd (refuted_fails network plan node.upper limit bounds kept below allowed.refuted met)
 bound_at-below network node (fork candidate with_it without_it) bounds allowed plan above below meets =
     let inside : candidate < length plan = omega (arith, IsWithin-length plan node.upper below, slice_get_within node.upper candidate true allowed.0.in_upper) in
     elim (entry_at plan candidate inside) [

@@ -4,8 +4,6 @@ pub mod Grammar
 pub mod LogLines
 pub mod LogText
 pub mod LogTree
-pub mod Narrow
 pub mod Placed
 pub mod Sound
 pub mod Tree
-pub mod VerdictOf

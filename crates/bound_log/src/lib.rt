@@ -12,7 +12,7 @@ mod tree_laws;
 
 pub use bound::Bound;
 pub use grammar_laws::{a_text_is_one_line, numbers_are_numerals, written_lines_are_read};
-pub use laws::{checker_is_sound, met_is_sound};
+pub use laws::checker_is_sound;
 pub use line::{put_cost, put_head, put_pivot, put_split};
 pub use log_line::LogLine;
 pub use read::read_line;
