@@ -1,17 +1,13 @@
-use Rattle.std.proofs.Common.{◌≡◌, ◌≢◌, ℕ, zero, suc, ◌+◌, ◌*◌, ◌^◌, ◌<◌, ◌≤◌, Bool, true, false, cond, List, [], ◌∷◌, ◌++◌, length, get_or, Some, None, refl, sym, subst, ap, ◌∙◌, arith, ℤ, pos, ◌+ℤ◌, ◌*ℤ◌, ◌≤ℤ◌, unsigned_abs, length-append}
-use Rattle.std.specs.Prelude.{All, AllPairs, sum_by, count_by, int_lt, ◌&&◌, Option}
-use Rattle.std.specs.Option.{ForSome}
-use Rattle.std.specs.Int.{int_max}
-use Rattle.std.proofs.lemmas.Int.{ints, clamps}
+use Rattle.std.proofs.Common.{◌≡◌, ◌≢◌, ℕ, ◌+◌, ◌^◌, ◌<◌, ◌≤◌, Bool, true, false, cond, List, [], ◌∷◌, ◌++◌, length, get_or, sym, subst, ◌∙◌, arith, ℤ, pos, ◌≤ℤ◌, unsigned_abs, length-append}
+use Rattle.std.specs.Prelude.{All, count_by, int_lt, ◌&&◌}
+use Rattle.std.proofs.lemmas.Int.{ints}
 use Rattle.std.proofs.lemmas.List.Elements.{All-nil, All-cons, All-push}
 use Rattle.std.proofs.lemmas.List.Sums.{sum_by-le}
 use Rattle.geo_model.specs.Row.{RowOf, IsRow, IsSparse, unit_at}
 use Rattle.geo_model.specs.Candidate.{CandidateOf, IsCandidate}
-use Rattle.geo_model.specs.Energy.{full_energy}
-use Rattle.geo_model.specs.Limit.{SquareOf, LimitOf, IsLoad, load, is_point_limit}
-use Rattle.geo_model.specs.Network.{NetworkOf, IsNetwork, IsLimit}
+use Rattle.geo_model.specs.Limit.{LimitOf, IsLoad, load, is_point_limit}
+use Rattle.geo_model.specs.Network.{IsNetwork}
 use Rattle.geo_model.specs.declared.limit.LimitKind.{LimitKind}
-use Rattle.geo_model.specs.declared.limit.LimitKind.TheVariants.{Added}
 use Rattle.geo_model.specs.declared.network.Unknown.{Unknown}
 use Rattle.branch_bound.specs.Drafts.{IsDraftLimit, IsDraft}
 

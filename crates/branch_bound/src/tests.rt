@@ -4,7 +4,7 @@ ghost use Rattle.std.specs.Prelude.{◌≤◌, ℤ, pos, ◌≤ℤ◌};
 use super::*;
 use crate::draft::Draft;
 use geo_base::NoMemory;
-use geo_model::{Network, Plan, cost};
+use geo_model::{Network, cost};
 use shelf_io::{Shelf, SureShelf};
 use std::alloc::Global;
 use std::test::Fail;
