@@ -1,13 +1,13 @@
 -- The bounds of the network of a new height and the levels to it.
-use Rattle.std.proofs.Common.{◌≡◌, ◌≢◌, ℕ, ◌+◌, ◌*◌, ◌^◌, ◌<◌, ◌≤◌, ℤ, pos, negsuc, ◌*ℤ◌, ◌≤ℤ◌, List, [], ◌∷◌, length, map, arith, refl, suc, zero, inl, inr, ◌&&◌, ◌==◌, Bool, true, false, if◌then◌else◌, Option, Some, None, subst, sym, ap, ◌∙◌, ◌++◌, drop, add-one, append_assoc, drop-cons, length-drop, lit<, lit≤}
+use Rattle.std.proofs.Common.{◌≡◌, ◌≢◌, ℕ, ◌+◌, ◌*◌, ◌^◌, ◌<◌, ◌≤◌, ℤ, pos, negsuc, ◌*ℤ◌, ◌≤ℤ◌, List, [], ◌∷◌, length, map, arith, refl, suc, zero, inl, inr, ◌&&◌, ◌==◌, Bool, true, false, if◌then◌else◌, Some, None, sym, ap, ◌∙◌, ◌++◌, drop, add-one, append_assoc, drop-cons, length-drop, lit<, lit≤}
 use Rattle.std.proofs.Math.Nat.{mul-le-mul}
 use Rattle.std.proofs.lemmas.Bool.{leb-true, and_parts}
 use Rattle.std.proofs.lemmas.Int.{ints, clamps}
-use Rattle.std.proofs.lemmas.Option.{none-some, same_Some, slice_get_within, get_or_from_slice_get}
+use Rattle.std.proofs.lemmas.Option.{none-some, slice_get_within, get_or_from_slice_get}
 use Rattle.std.proofs.lemmas.List.{length-map, append-nil, nil_from_length}
 use Rattle.std.specs.Prelude.{slice_get, nat_le}
 use Rattle.std.specs.List.{list_all}
-use Rattle.std.proofs.lemmas.List.Elements.{All-nil, All-cons, All-map, All-head, All-weaker}
+use Rattle.std.proofs.lemmas.List.Elements.{All-nil, All-cons, All-map, All-weaker}
 use Rattle.std.proofs.lemmas.List.Sums.{sum_by-le, count_by-le-length}
 use Rattle.std.specs.Prelude.{All, AllPairs, IsNone, unsigned_abs, int_lt, sum_by}
 use Rattle.std.specs.Int.{int_max}

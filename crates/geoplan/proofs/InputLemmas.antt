@@ -1,12 +1,8 @@
 -- What two tables give, case by case.
-use Rattle.std.proofs.Common.{◌≡◌, ◌<◌, ◌≤◌, ℕ, true, false, List, length, refl, arith, Option, Some, None}
+use Rattle.std.proofs.Common.{◌≡◌, ◌<◌, ◌≤◌, ℕ, true, false, List, length, refl, arith}
 use Rattle.std.specs.Prelude.{nat_lt}
 use Rattle.std.proofs.lemmas.Bool.Decides.{nat_tests}
-use Rattle.point_tables.specs.declared.fault.FaultKind.{FaultKind}
-use Rattle.point_tables.specs.declared.fault.TableName.TheVariants as fault_table
-use Rattle.point_tables.specs.PointTable.{points_fault, points_of}
-use Rattle.candidate_tables.specs.CandidateTable.{candidates_fault, candidates_of}
-use Rattle.geoplan.specs.Input.{most_bytes, accepted_input, judged_input, input_from}
+use Rattle.geoplan.specs.Input.{most_bytes, judged_input, input_from}
 use Rattle.geoplan.specs.declared.input.Input.TheVariants as input
 use Rattle.geoplan.specs.declared.input.Table.TheVariants as table
 

@@ -1,5 +1,5 @@
 -- Laws of reading the tables and of what they give.
-use Rattle.std.proofs.Common.{◌≡◌, ◌≤◌, ℕ, List, length, map, sym, ◌∙◌, subst, arith, Option, Some, None}
+use Rattle.std.proofs.Common.{◌≡◌, ◌≤◌, ℕ, List, length, sym, ◌∙◌, subst, Some, None}
 use Rattle.std.proofs.lemmas.List.{length-map}
 use Rattle.branch_bound.specs.Explored.{ShelfState}
 use Rattle.point_tables.specs.declared.record.PointRecord.{PointRecord}
@@ -7,7 +7,7 @@ use Rattle.candidate_tables.specs.Accepted.{AreCandidates}
 use Rattle.candidate_tables.specs.declared.record.CandidateRecord.{CandidateRecord}
 use Rattle.geoplan.specs.CommandOf.{CommandOf}
 use Rattle.geoplan.specs.Heights.{IsNew, height_of, level_of, network_of}
-use Rattle.geoplan.specs.Input.{most_bytes, judged_input, input_of}
+use Rattle.geoplan.specs.Input.{most_bytes, judged_input}
 use Rattle.geoplan.specs.Loading.{ReadsTable, IsGoodInput, Loads}
 use Rattle.geoplan.specs.Standing.{IsGoodNetwork}
 use Rattle.geoplan.specs.Tables.{TablesOf}

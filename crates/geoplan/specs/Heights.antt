@@ -55,16 +55,16 @@ is_level kind.Vector = false
 unfoldable pub are_few_levels : List CandidateRecord → Bool
 are_few_levels candidates = nat_le (length candidates) 20 && list_all (λ candidate. is_level candidate.kind) candidates
 
--- the new height of accepted tables, where they are within what is built so far: no redundancy is asked for, there are at
--- most 20 candidates, all of them levels, and the points have one new part, which is a height
+-- the new height of accepted tables, where they are within what is built so far: no redundancy is asked for, there are
+-- at most 20 candidates, all of them levels, and the points have one new part, which is a height
 unfoldable pub height_of : ℕ → List PointRecord → List CandidateRecord → Option NewPart
 height_of redundancy points candidates =
     if redundancy == 0 && are_few_levels candidates then only_height (new_parts 0 points) else None
 
 -- ---- its network
 
--- the entries of a level from one point to another, by their numbers, where the new height is the unknown 0: 10000 where
--- it ends at the new height, -10000 where it starts there, and none between two heights that are fixed
+-- the entries of a level from one point to another, by their numbers, where the new height is the unknown 0: 10000
+-- where it ends at the new height, -10000 where it starts there, and none between two heights that are fixed
 abbrev pub level_entries : ℕ → ℕ → ℕ → Entries
 level_entries new from to =
     if to == new then (0, pos 10000) ∷ [] else (if from == new then (0, negsuc 9999) ∷ [] else [])

@@ -1,4 +1,4 @@
-use Rattle.std.specs.Prelude.{◌≡◌, ◌≢◌, ◌⊎◌, ℕ, ◌≤◌, Bool, List, [], ◌∷◌, length, nat_eq, IsTrue, Option, Some, None}
+use Rattle.std.specs.Prelude.{◌≡◌, ◌≢◌, ◌⊎◌, ℕ, ◌≤◌, Bool, List, [], ◌∷◌, length, nat_eq, IsTrue, Option, Some}
 use Rattle.std.specs.List.{list_any}
 use Rattle.std.specs.Option.{ForSome}
 use Rattle.std.specs.FinMap.{get}
@@ -92,7 +92,8 @@ pub record PrintFails (command : CommandOf) (before now : ShelfState) (sink sink
   pub quiet : KeepsFaults before.faults now.faults before.last_fault now.last_fault
   pub stands : WhereHeld before.held now.held (ReportBegan command sink sink_now)
 
--- the command is refused for what its tables give, where the shelf tells it: the shelf holds what it held, and it is said so
+-- the command is refused for what its tables give, where the shelf tells it: the shelf holds what it held, and the
+-- refusal is said
 pub record IsRefused (command : CommandOf) (given : Input) (text : List ℕ) (before now : ShelfState) (sink sink_now : SinkState) : Type 0 where
   pub input : ForSome before.held (λ files. input_of command files ≡ given)
   pub held : now.held ≡ before.held

@@ -1,4 +1,4 @@
-use Rattle.std.specs.Prelude.{◌≡◌, ◌⊎◌, ℕ, ◌≤◌, Bool, List, [], ◌++◌, length, Option, Some, None}
+use Rattle.std.specs.Prelude.{◌≡◌, ◌⊎◌, ℕ, ◌≤◌, Bool, List, [], ◌++◌, length, Option, Some}
 use Rattle.std.specs.Option.{ForSome}
 use Rattle.shelf_io.specs.Files.{Files, with_bytes}
 use Rattle.shelf_io.specs.Faults.{Rose, KeepsFaults, read_of, write_of}
@@ -97,7 +97,8 @@ pub record RunsOut (command : CommandOf) (before now : ShelfState) (text : List 
   pub later : before.faults ≤ now.faults
   pub printed : text ≡ []
 
--- the command is refused for what its tables give, where the shelf tells it: nothing was written, and no fault was counted
+-- the command is refused for what its tables give, where the shelf tells it: nothing was written, and no fault was
+-- counted
 pub record Refuses (command : CommandOf) (given : Input) (before now : ShelfState) : Type 0 where
   pub input : ForSome before.held (λ files. input_of command files ≡ given)
   pub held : now.held ≡ before.held

@@ -3,9 +3,8 @@ use super::*;
 use crate::command::Command;
 use crate::input::Input;
 use crate::load::load;
-use crate::tables::Tables;
 use geo_base::NoMemory;
-use geo_model::{Candidate, Limit};
+use geo_model::{Candidate, Limit, Network};
 use shelf_io::{FileShelf, MemShelf, MemSink, OutSink, Shelf, Sink};
 use std::alloc::Global;
 use std::process::Abort;
@@ -467,23 +466,28 @@ fn tables_have_at_most_1048576_bytes(rt: HostRuntime) -> Result<(), Fail> {
     let alloc = rt.alloc();
     let most = lengthened(alloc, POINTS, 1048576)?;
     let longer = lengthened(alloc, POINTS, 1048577)?;
-    let (most, longer) = (most.as_slice(), longer.as_slice());
     let candidates = ONE_LEVEL.as_bytes();
     let plan = (0, "plan\ncost 5\ntake,l1\nbound 5\n");
-    expect_run(&rt, alloc, (most, candidates), PLAN, plan)?;
+    expect_run(&rt, alloc, (most.as_slice(), candidates), PLAN, plan)?;
     expect_run(
         &rt,
         alloc,
-        (longer, candidates),
+        (longer.as_slice(), candidates),
         PLAN,
         (9, "too long p.csv\n"),
     )?;
-    expect_run(&rt, alloc, (b"", longer), PLAN, (9, "too long c.csv\n"))?;
+    expect_run(
+        &rt,
+        alloc,
+        (b"", longer.as_slice()),
+        PLAN,
+        (9, "too long c.csv\n"),
+    )?;
     let elsewhere = "geoplan plan p.csv x.csv 0 l.log";
     expect_run(
         &rt,
         alloc,
-        (longer, candidates),
+        (longer.as_slice(), candidates),
         elsewhere,
         (9, "too long p.csv\n"),
     )?;
@@ -600,21 +604,14 @@ fn put_limit(alloc: Global, out: &mut Vec<u8>, limit: &Limit) -> Result<(), Fail
     Ok(())
 }
 
-/// What two tables give, as a text: the price, the weight and the entries of each candidate, then
-/// the limit.
-fn shown(alloc: Global, tables: &Tables) -> Result<Vec<u8>, Fail> {
+/// A network as a text: the price, the weight and the entries of each candidate, then the limits.
+fn shown(alloc: Global, network: &Network) -> Result<Vec<u8>, Fail> {
     let mut out = Vec::new(alloc);
-    for (candidate, k) in tables
-        .network()
-        .candidates()
-        .iter()
-        .zip(0..tables.candidates().len())
-    {
-        out.extend_from_slice(tables.candidates().get(k).name.bytes())?;
+    for candidate in network.candidates() {
         put_candidate(alloc, &mut out, candidate)?;
         out.extend_from_slice(b"; ".as_slice())?;
     }
-    for limit in tables.network().limits() {
+    for limit in network.limits() {
         put_limit(alloc, &mut out, limit)?;
     }
     Ok(out)
@@ -636,8 +633,11 @@ fn levels_give_rows_by_the_new_height(rt: HostRuntime) -> Result<(), Fail> {
         return Err(Fail::from(NoMemory));
     };
     let expected =
-        "u 1 10000; v 2 5030 (0, 10000); w 3 1111 (0, -10000); Height(2) 400 100000000000000 (0, 1)";
-    assert_eq!(&rt; shown(alloc, &tables)?.as_slice(), expected.as_bytes());
+        " 1 10000;  2 5030 (0, 10000);  3 1111 (0, -10000); Height(2) 400 100000000000000 (0, 1)";
+    assert_eq!(&rt;
+        shown(alloc, tables.network())?.as_slice(),
+        expected.as_bytes()
+    );
     Ok(())
 }
 

@@ -1,6 +1,5 @@
-use Rattle.std.proofs.Common.{◌∷◌, []}
 use Rattle.geoplan.specs.Heights.{level_of}
-use Rattle.geoplan.proofs.HeightLemmas.{map-step, map-end}
+use Rattle.geoplan.proofs.HeightLemmas.{map-step}
 use Rattle.geoplan.proofs.heights.levels_of.Goals as goal
 
 pub loop-k-preserved : goal.loop-k-preserved

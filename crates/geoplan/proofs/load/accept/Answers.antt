@@ -1,6 +1,4 @@
 use Rattle.std.proofs.Common.{◌∙◌, sym}
-use Rattle.geoplan.specs.Heights.{network_of}
-use Rattle.geoplan.proofs.HeightLemmas.{network_bounds, accepted_levels, height_of-few}
 use Rattle.geoplan.proofs.LoadLemmas.{good_network, good_built}
 use Rattle.geoplan.proofs.load.accept.Goals as goal
 

@@ -1,4 +1,3 @@
-use Rattle.std.proofs.Common.{◌∙◌}
 use Rattle.branch_bound.specs.Explored.{state_of}
 use Rattle.geoplan.specs.CommandView.{command_view}
 use Rattle.geoplan.proofs.LoadLemmas.{Loads-long_points, Loads-long_candidates, Loads-judged}
