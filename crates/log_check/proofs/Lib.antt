@@ -1,3 +1,4 @@
+pub mod HeightNetworks
 pub mod PlaceLemmas
 pub mod ReachLemmas
 pub mod RuleLemmas
