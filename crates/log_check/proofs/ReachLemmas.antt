@@ -12,7 +12,7 @@ use Rattle.geo_model.specs.declared.answer.Counts.{Counts}
 use Rattle.geo_model.specs.declared.plan.Node.{Node}
 use Rattle.bound_log.specs.Bound.{lesser}
 use Rattle.bound_log.specs.Counted.{counted, counts_of, is_split, is_cost, is_pivot}
-use Rattle.bound_log.specs.Grammar.{IsLine, line_body, text_line}
+use Rattle.bound_log.specs.Grammar.{IsLine, text_line}
 use Rattle.bound_log.specs.LogText.{head_text, line_end, line_text, lines_text}
 use Rattle.bound_log.specs.LogTree.{root_of, IsAllowedLine}
 use Rattle.bound_log.specs.Tree.{LineOf, split, leaf, cost, pivot}
@@ -20,12 +20,11 @@ use Rattle.bound_log.proofs.GrammarLemmas.{IsLine-body, lines_of-line_text}
 use Rattle.log_check.specs.declared.fault.LogKind.{LogKind}
 use Rattle.log_check.specs.declared.fault.LogKind.TheVariants.{Form, Short}
 use Rattle.log_check.specs.declared.progress.Progress.{Progress}
-use Rattle.log_check.specs.declared.replaying.Replayed.{Replayed}
 use Rattle.log_check.specs.FirstFault.{IsWhole, BeginsWithLine, IsFaultAfter, extra, short, form, rule, IsFirstFault, headless, later}
 use Rattle.log_check.specs.Places.{IsReady}
 use Rattle.log_check.specs.Reaching.{head_body, head_line, Reaches, EndsWhole}
 use Rattle.log_check.specs.Replayed.{IsReplayed}
-use Rattle.log_check.specs.Running.{opened, line_bound, LeadsTo, bound_along, StandsAt}
+use Rattle.log_check.specs.Running.{line_bound, LeadsTo, bound_along, StandsAt}
 use Rattle.log_check.specs.Taking.{raised, counts_with, Takes, TakesText, Stops, no_node, no_line, no_rule}
 use Rattle.log_check.proofs.PlaceLemmas.{room_along, room_at_root}
 use Rattle.log_check.proofs.RunLemmas.{lesser_none, LeadsTo-then, bound_along-then, one_final, leads_begins, whole_leads, leads_whole, leads_stands, whole_tree}

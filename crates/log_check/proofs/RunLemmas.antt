@@ -67,8 +67,8 @@ tree_leads network node (tip end) nodes allowed = (allowed, refl)
 tree_leads network node (fork candidate with_it without_it) nodes allowed = (
   allowed.0,
   LeadsTo-then network (with_chosen node candidate ∷ without_chosen node candidate ∷ nodes) (without_chosen node candidate ∷ nodes) nodes (tree_lines with_it) (tree_lines without_it)
-  (tree_leads network (with_chosen node candidate) with_it (without_chosen node candidate ∷ nodes) allowed.1)
-  (tree_leads network (without_chosen node candidate) without_it nodes allowed.2),
+      (tree_leads network (with_chosen node candidate) with_it (without_chosen node candidate ∷ nodes) allowed.1)
+      (tree_leads network (without_chosen node candidate) without_it nodes allowed.2),
 )
 
 -- the same with each line's node
@@ -89,9 +89,9 @@ placed_along network node (fork candidate with_it without_it) nodes allowed = (
   refl,
   allowed.0,
   PlacedAlong-then network (with_chosen node candidate ∷ without_chosen node candidate ∷ nodes) (without_chosen node candidate ∷ nodes) nodes
-  (placed (with_chosen node candidate) with_it) (placed (without_chosen node candidate) without_it)
-  (placed_along network (with_chosen node candidate) with_it (without_chosen node candidate ∷ nodes) allowed.1)
-  (placed_along network (without_chosen node candidate) without_it nodes allowed.2),
+      (placed (with_chosen node candidate) with_it) (placed (without_chosen node candidate) without_it)
+      (placed_along network (with_chosen node candidate) with_it (without_chosen node candidate ∷ nodes) allowed.1)
+      (placed_along network (without_chosen node candidate) without_it nodes allowed.2),
 )
 
 -- after the lines of some, the node of the next is the first open one

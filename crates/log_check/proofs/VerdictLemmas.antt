@@ -5,14 +5,14 @@ use Rattle.geo_model.specs.Network.{NetworkOf, IsNetwork}
 use Rattle.geo_model.specs.declared.plan.Node.{Node}
 use Rattle.bound_log.specs.Grammar.{HasNumbersBelow, number_bound}
 use Rattle.bound_log.specs.LogText.{head_text, lines_text}
-use Rattle.bound_log.specs.LogTree.{root_of, IsAllowedLine, IsLog}
+use Rattle.bound_log.specs.LogTree.{root_of, IsLog}
 use Rattle.bound_log.specs.Tree.{LineOf, Tree, tree_lines}
 use Rattle.log_check.specs.declared.fault.LogFault.{LogFault}
 use Rattle.log_check.specs.declared.fault.LogKind.{LogKind}
 use Rattle.log_check.specs.declared.fault.LogKind.TheVariants.{Extra, Form, Short}
 use Rattle.log_check.specs.FirstFault.{LogBegins, IsWhole, StandsNext, BeginsWithLine, IsFaultAfter, extra, short, form, rule, IsFirstFault, headless, later}
 use Rattle.log_check.specs.Rules.{IsFirstBroken}
-use Rattle.log_check.specs.Running.{opened, LeadsTo}
+use Rattle.log_check.specs.Running.{LeadsTo}
 use Rattle.log_check.proofs.RuleLemmas.{broken_not_allowed, one_broken}
 use Rattle.log_check.proofs.RunLemmas.{LeadsTo-parts, one_final, begins_leads, whole_leads, stands_leads, stands_not_whole, one_node, lines_numbers}
 use Rattle.log_check.proofs.TextLemmas.{one_beginning, begins_some, Order, same, further, behind, order}

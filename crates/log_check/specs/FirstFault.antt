@@ -44,7 +44,8 @@ pub record BeginsWithLine (text : List ℕ) (line : LineOf) (left : List ℕ) : 
   pub spelled : text ≡ line_text line ++ left
   pub numbers : HasNumbersBelow number_bound line
 
--- what is wrong where these right lines are followed by this text
+-- What is wrong where these right lines are followed by this text: the tree is whole and text is left; or it isn't
+-- whole, and no text is left, or no line of the grammar comes next, or one comes that breaks a rule at its node.
 pub data IsFaultAfter (network : NetworkOf) (lines : List LineOf) (text : List ℕ) (kind : LogKind) : Type 0 where
   extra : kind ≡ Extra → IsWhole network lines → (text ≡ [] → ⊥) → IsFaultAfter network lines text kind
   short : kind ≡ Short → (IsWhole network lines → ⊥) → text ≡ [] → IsFaultAfter network lines text kind
@@ -53,8 +54,8 @@ pub data IsFaultAfter (network : NetworkOf) (lines : List LineOf) (text : List �
 
 -- ---- the first fault
 
--- Either the text doesn't begin with the first line of a log. Or some right lines follow that, and what is wrong is
--- wrong after them: the first line has the number 1.
+-- Lines are counted from 1. Either the text doesn't begin with the first line of a log. Or some right lines follow that
+-- one, and what comes after them is wrong.
 pub data IsFirstFault (network : NetworkOf) (text : List ℕ) (fault : LogFault) : Type 0 where
   headless : fault.line ≡ 1 → fault.kind ≡ Form → ((left : List ℕ) → text ≡ head_text ++ left → ⊥) → IsFirstFault network text fault
   later : (lines : List LineOf) (left : List ℕ) → text ≡ head_text ++ (lines_text lines ++ left) → LogBegins network lines → fault.line ≡ length lines + 2 → IsFaultAfter network lines left fault.kind → IsFirstFault network text fault

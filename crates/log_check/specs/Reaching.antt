@@ -1,5 +1,5 @@
 -- How far the text of a log has been replayed. This project's own.
-use Rattle.std.specs.Prelude.{◌≡◌, ℕ, ◌+◌, true, List, [], ◌∷◌, ◌++◌, length, codes}
+use Rattle.std.specs.Prelude.{◌≡◌, ℕ, ◌+◌, true, List, [], ◌++◌, length, codes}
 use Rattle.lent_parts.specs.Pieces.{TextLineOf, lines_of}
 use Rattle.geo_model.specs.Network.{NetworkOf}
 use Rattle.bound_log.specs.LogText.{head_text, lines_text}

@@ -15,7 +15,12 @@ use geo_model::{Limit, Network, Node, Plan, Verdict};
 use pivot_chain::{ChainRoom, verdict};
 
 /// The first rule that a line breaks at a node; `None` where it is allowed there. It takes no memory.
-pub fn broken_rule(network: &Network, room: &mut ChainRoom, node: &Node, line: LogLine) -> Option<LogKind>
+pub fn broken_rule(
+    network: &Network,
+    room: &mut ChainRoom,
+    node: &Node,
+    line: LogLine,
+) -> Option<LogKind>
     requires room { IsRoomOf network.now room.old }
     requires node { HasEntries (length network.now.candidates) node.now }
     ensures broken { IfSome result (λ kind. IsFirstBroken network.now node.now (line_of line) kind) }
@@ -50,7 +55,12 @@ fn broken_by_split(network: &Network, node: &Node, candidate: u64) -> Option<Log
 }
 
 // The first rule that a leaf which names a limit breaks.
-fn broken_by_pivot(network: &Network, room: &mut ChainRoom, node: &Node, number: u64) -> Option<LogKind>
+fn broken_by_pivot(
+    network: &Network,
+    room: &mut ChainRoom,
+    node: &Node,
+    number: u64,
+) -> Option<LogKind>
     requires room { IsRoomOf network.now room.old }
     requires node { HasEntries (length network.now.candidates) node.now }
     ensures broken { IfSome result (λ kind. IsFirstBroken network.now node.now (leaf (pivot number)) kind) }
