@@ -54,10 +54,12 @@ held_stands : (words : List (List ℕ)) (command : CommandOf) (before now : Shel
 held_stands words command before now status.Found text is found = inr (command, is, (log_text found.tree, found.log.written))
 held_stands words command before now status.NoPlan text is found = inr (command, is, (log_text found.tree, found.log.written))
 held_stands words command before now status.WordsRefused text is never = absurd never
+held_stands words command before now status.TableRefused text is refused = inl refused.refuses.held
 held_stands words command before now status.ReadFault text is unread = inl unread.held
 held_stands words command before now status.WriteFault text is unwritten = held_or_began words command before.held now.held is unwritten.held
 held_stands words command before now status.NoMemory text is out = held_or_began words command before.held now.held is out.held
-held_stands words command before now status.NotBuilt text is outside = inl outside.held
+held_stands words command before now status.FileTooLong text is refused = inl refused.refuses.held
+held_stands words command before now status.NotBuilt text is refused = inl refused.refuses.held
 
 held_answered : (words : List (List ℕ)) (before now : ShelfState) (begun : Status) (text : List ℕ) → Answered words before now begun text → HeldOrLog words before.held now.held
 held_answered words before now begun text (inl (command, is, stands)) = held_stands words command before now begun text is stands
@@ -128,9 +130,11 @@ put_fails : (words : List (List ℕ)) (begun : Status) (before now : ShelfState)
 put_fails words status.Found before now text sink sink_now after rose begun answered = plan_fails words before now text sink sink_now rose begun answered
 put_fails words status.NoPlan before now text sink sink_now after rose begun answered = none_fails words before now text sink sink_now rose begun answered
 put_fails words status.WordsRefused before now text sink sink_now after rose begun answered = absurd (cc)
+put_fails words status.TableRefused before now text sink sink_now after rose begun answered = absurd (cc)
 put_fails words status.ReadFault before now text sink sink_now after rose begun answered = absurd (cc)
 put_fails words status.WriteFault before now text sink sink_now after rose begun answered = log_fails words before now text sink sink_now (λ none. silent_prefix text sink sink_now none begun) answered
 put_fails words status.NoMemory before now text sink sink_now after rose begun answered = absurd (cc)
+put_fails words status.FileTooLong before now text sink sink_now after rose begun answered = absurd (cc)
 put_fails words status.NotBuilt before now text sink sink_now after rose begun answered = absurd (cc)
 
 unwritten_by : (words : List (List ℕ)) (begun ended : Status) (before now : ShelfState) (text : List ℕ) (sink sink_now : SinkState) → code_of ended ≡ 6 → Answered words before now begun text → Prints begun text ended sink sink_now → OnCommand words (λ command. LogFails command before now sink sink_now ⊎ PrintFails command before now sink sink_now)

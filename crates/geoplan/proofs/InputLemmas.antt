@@ -1,25 +1,28 @@
-use Rattle.std.proofs.Common.{◌≡◌, ◌<◌, ℕ, Bool, true, false, ◌&&◌, nat_le, ◌==◌, if◌then◌else◌, List, length, refl, arith, Option, None}
-use Rattle.geoplan.specs.Input.{most_bytes, input_from}
-use Rattle.geoplan.specs.Narrow.{NarrowOf, narrow_tables}
+-- What two tables give, case by case.
+use Rattle.std.proofs.Common.{◌≡◌, ◌<◌, ◌≤◌, ℕ, true, false, List, length, refl, arith}
+use Rattle.std.specs.Prelude.{nat_lt}
+use Rattle.std.proofs.lemmas.Bool.Decides.{nat_tests}
+use Rattle.geoplan.specs.Input.{most_bytes, judged_input, input_from}
+use Rattle.geoplan.specs.declared.input.Input.TheVariants as input
+use Rattle.geoplan.specs.declared.input.Table.TheVariants as table
 
--- Laws of what two tables give.
+is_long : (n : ℕ) → most_bytes < n → nat_lt most_bytes n ≡ true
+is_long n long = grind (arith, nat_tests)
 
-fails : (n : ℕ) → most_bytes < n → nat_le n most_bytes ≡ false
-fails n long = grind arith
+fits : (n : ℕ) → n ≤ most_bytes → nat_lt most_bytes n ≡ false
+fits n short = grind (arith, nat_tests)
 
-none_by : (a b c : Bool) (given : Option NarrowOf) → a ≡ false → (if a && b && c then given else None) ≡ None
-none_by a b c given fails = rw fails refl
-
-none_by_second : (a b c : Bool) (given : Option NarrowOf) → b ≡ false → (if a && b && c then given else None) ≡ None
-none_by_second true b c given fails = rw fails refl
-none_by_second false b c given fails = refl
-
--- too long a table of points gives nothing
-pub input_from-long_points : (redundancy : ℕ) (points candidates : List ℕ) → most_bytes < length points → input_from redundancy points candidates ≡ None
+-- too long a table of points
+pub input_from-long_points : (redundancy : ℕ) (points candidates : List ℕ) → most_bytes < length points → input_from redundancy points candidates ≡ input.TooLong table.Points
 unfolding input_from
-input_from-long_points redundancy points candidates long = none_by (nat_le (length points) most_bytes) (nat_le (length candidates) most_bytes) (redundancy == 0) (narrow_tables points candidates) (fails (length points) long)
+input_from-long_points redundancy points candidates long = rw (is_long (length points) long) refl
 
--- too long a table of candidates gives nothing
-pub input_from-long_candidates : (redundancy : ℕ) (points candidates : List ℕ) → most_bytes < length candidates → input_from redundancy points candidates ≡ None
+-- too long a table of candidates
+pub input_from-long_candidates : (redundancy : ℕ) (points candidates : List ℕ) → length points ≤ most_bytes → most_bytes < length candidates → input_from redundancy points candidates ≡ input.TooLong table.Candidates
 unfolding input_from
-input_from-long_candidates redundancy points candidates long = none_by_second (nat_le (length points) most_bytes) (nat_le (length candidates) most_bytes) (redundancy == 0) (narrow_tables points candidates) (fails (length candidates) long)
+input_from-long_candidates redundancy points candidates short long = rw (fits (length points) short, is_long (length candidates) long) refl
+
+-- neither is too long
+pub input_from-judged : (redundancy : ℕ) (points candidates : List ℕ) → length points ≤ most_bytes → length candidates ≤ most_bytes → input_from redundancy points candidates ≡ judged_input redundancy points candidates
+unfolding input_from
+input_from-judged redundancy points candidates short few = rw (fits (length points) short, fits (length candidates) few) refl

@@ -1,4 +1,4 @@
-use Rattle.std.proofs.Common.{◌≡◌, ◌⊎◌, inl, inr, ℕ, List, [], refl, sym, ap, ◌∙◌, subst, Option, Some, None}
+use Rattle.std.proofs.Common.{◌≡◌, ◌⊎◌, inl, inr, ℕ, List, [], refl, sym, ap, ◌∙◌, subst, Some, None}
 use Rattle.std.proofs.lemmas.List.{append-nil}
 use Rattle.shelf_io.specs.Files.{Files}
 use Rattle.shelf_io.specs.Faults.{Rose}
@@ -7,11 +7,13 @@ use Rattle.bound_log.specs.Tree.{Tree}
 use Rattle.branch_bound.specs.Explored.{ShelfState}
 use Rattle.geoplan.specs.Codes.{code_of}
 use Rattle.geoplan.specs.CommandOf.{CommandOf, command_of}
-use Rattle.geoplan.specs.Input.{OnCommand, input_of}
-use Rattle.geoplan.specs.Narrow.{NarrowOf}
+use Rattle.geoplan.specs.Input.{OnCommand, input_of, name_of}
+use Rattle.geoplan.specs.Tables.{TablesOf}
 use Rattle.geoplan.specs.Printing.{SinkState, WritesPrefix, WritesAll, Prints, SaysWords, Answered, Runs}
-use Rattle.geoplan.specs.Promises.{IsText, RanOut, IsComplete}
+use Rattle.geoplan.specs.Promises.{IsText, RanOut, IsStatusOf, IsComplete}
 use Rattle.geoplan.specs.Standing.{LeavesLog, KeepsOrBegan, Stands}
+use Rattle.geoplan.specs.declared.input.Input.{Input}
+use Rattle.geoplan.specs.declared.input.Input.TheVariants as input
 use Rattle.geoplan.specs.declared.status.Status.{Status}
 use Rattle.geoplan.specs.declared.status.Status.TheVariants as status
 use Rattle.geoplan.proofs.FaultLemmas.{silent_prefix}
@@ -21,7 +23,7 @@ use Rattle.geoplan.proofs.FaultLemmas.{silent_prefix}
 -- ---- status 7
 
 -- a whole log is a beginning of a log
-whole_began : (command : CommandOf) (before now : ShelfState) (tables : NarrowOf) (tree : Tree) → LeavesLog command before now tables tree → KeepsOrBegan command before.held now.held
+whole_began : (command : CommandOf) (before now : ShelfState) (tables : TablesOf) (tree : Tree) → LeavesLog command before now tables tree → KeepsOrBegan command before.held now.held
 whole_began command before now tables tree log = inr (record {
   tables = tables;
   tree = tree;
@@ -37,10 +39,12 @@ stands_keeps : (command : CommandOf) (before now : ShelfState) (begun : Status) 
 stands_keeps command before now status.Found text found = whole_began command before now found.tables found.tree found.log
 stands_keeps command before now status.NoPlan text found = whole_began command before now found.tables found.tree found.log
 stands_keeps command before now status.WordsRefused text never = absurd never
+stands_keeps command before now status.TableRefused text refused = inl refused.refuses.held
 stands_keeps command before now status.ReadFault text unread = inl unread.held
 stands_keeps command before now status.WriteFault text unwritten = unwritten.held
 stands_keeps command before now status.NoMemory text out = out.held
-stands_keeps command before now status.NotBuilt text outside = inl outside.held
+stands_keeps command before now status.FileTooLong text refused = inl refused.refuses.held
+stands_keeps command before now status.NotBuilt text refused = inl refused.refuses.held
 
 answered_keeps : (words : List (List ℕ)) (before now : ShelfState) (begun : Status) (text : List ℕ) → Answered words before now begun text → (now.held ≡ before.held) ⊎ OnCommand words (λ command. KeepsOrBegan command before.held now.held)
 answered_keeps words before now begun text (inl (command, is, stands)) = inr (command, is, stands_keeps command before now begun text stands)
@@ -48,13 +52,15 @@ answered_keeps words before now begun text (inr (none, refused)) = inl (ap (λ (
 
 -- a text is none, or one that the program prints
 text_stands : (words : List (List ℕ)) (command : CommandOf) (before now : ShelfState) (begun : Status) (text : List ℕ) → Stands command before now begun text → (text ≡ []) ⊎ IsText words text
-text_stands words command before now status.Found text found = inr (inr (inr (inr (inl (found.tables, found.plan, found.printed)))))
-text_stands words command before now status.NoPlan text found = inr (inr (inr (inr (inr found.printed))))
+text_stands words command before now status.Found text found = inr (inr (inr (inr (inr (inl (found.tables, found.plan, found.printed))))))
+text_stands words command before now status.NoPlan text found = inr (inr (inr (inr (inr (inr found.printed)))))
 text_stands words command before now status.WordsRefused text never = absurd never
-text_stands words command before now status.ReadFault text unread = inr (inr (inr (inl (unread.name, unread.printed))))
+text_stands words command before now status.TableRefused text refused = inr (inr (inr (inl (refused.fault, refused.printed))))
+text_stands words command before now status.ReadFault text unread = inr (inr (inr (inr (inl (unread.name, inl unread.printed)))))
 text_stands words command before now status.WriteFault text unwritten = inl unwritten.printed
 text_stands words command before now status.NoMemory text out = inl out.printed
-text_stands words command before now status.NotBuilt text outside = inr (inr (inl outside.printed))
+text_stands words command before now status.FileTooLong text refused = inr (inr (inr (inr (inl (name_of command refused.table, inr refused.printed)))))
+text_stands words command before now status.NotBuilt text refused = inr (inr (inl refused.printed))
 
 text_words : (words : List (List ℕ)) (begun : Status) (text : List ℕ) → SaysWords begun text → (text ≡ []) ⊎ IsText words text
 text_words words begun text (inl (e, is)) = inr (inl is)
@@ -87,19 +93,27 @@ ran_out-of words ended before now sink sink_now runs = record {
 
 -- ---- complete answers
 
--- want of memory completes any input
-memory_completes : (command : CommandOf) (files : Files) (code : ℕ) → code ≡ 7 → (given : Option NarrowOf) → input_of command files ≡ given → IsComplete command files code
-memory_completes command files code is None input = inl (input, inr is)
-memory_completes command files code is (Some tables) input = inr (tables, input, inr (inr is))
+-- want of memory is a status of any input
+memory_status : (given : Input) (code : ℕ) → code ≡ 7 → IsStatusOf given code
+memory_status (input.TooLong table) code is = inr is
+memory_status (input.Refused fault) code is = inr is
+memory_status input.Outside code is = inr is
+memory_status (input.Built tables) code is = inr (inr is)
+
+-- a status of what the tables give completes them
+completes : (command : CommandOf) (files : Files) (given : Input) (code : ℕ) → input_of command files ≡ given → IsStatusOf given code → IsComplete command files code
+completes command files given code is status_of = subst (λ g. IsStatusOf g code) (sym is) status_of
 
 stands_completes : (command : CommandOf) (files : Files) (before now : ShelfState) (begun : Status) (text : List ℕ) → before.held ≡ Some files → (Rose before.faults now.faults → ⊥) → Stands command before now begun text → IsComplete command files (code_of begun)
-stands_completes command files before now status.Found text told quiet found = inr (found.tables, found.log.input files told, inl refl)
-stands_completes command files before now status.NoPlan text told quiet found = inr (found.tables, found.log.input files told, inr (inl refl))
+stands_completes command files before now status.Found text told quiet found = completes command files (input.Built found.tables) 0 (found.log.input files told) (inl refl)
+stands_completes command files before now status.NoPlan text told quiet found = completes command files (input.Built found.tables) 1 (found.log.input files told) (inr (inl refl))
 stands_completes command files before now status.WordsRefused text told quiet never = absurd never
+stands_completes command files before now status.TableRefused text told quiet refused = completes command files (input.Refused refused.fault) 3 (refused.refuses.input files told) (inl refl)
 stands_completes command files before now status.ReadFault text told quiet unread = absurd (quiet unread.rose)
 stands_completes command files before now status.WriteFault text told quiet unwritten = absurd (quiet unwritten.rose)
-stands_completes command files before now status.NoMemory text told quiet out = memory_completes command files 7 refl (input_of command files) refl
-stands_completes command files before now status.NotBuilt text told quiet outside = inl (outside.outside files told, inl refl)
+stands_completes command files before now status.NoMemory text told quiet out = memory_status (input_of command files) 7 refl
+stands_completes command files before now status.FileTooLong text told quiet refused = completes command files (input.TooLong refused.table) 9 (refused.refuses.input files told) (inl refl)
+stands_completes command files before now status.NotBuilt text told quiet refused = completes command files input.Outside 10 (refused.refuses.input files told) (inl refl)
 
 same_command : (words : List (List ℕ)) (one other : CommandOf) → command_of words ≡ Some one → command_of words ≡ Some other → one ≡ other
 same_command words one other is is_other = let e : Some one ≡ Some other = sym is ∙ is_other in cc
@@ -116,7 +130,7 @@ completes_by words command files before now begun ended text sink sink_now is to
     subst (λ s. IsComplete command files (code_of s)) (sym printed.same) (answered_completes words command files before now begun text is told quiet answered)
 completes_by words command files before now begun ended text sink sink_now is told quiet quiet_sink answered (inr (inl failed)) = absurd (quiet_sink failed.rose)
 completes_by words command files before now begun ended text sink sink_now is told quiet quiet_sink answered (inr (inr out)) =
-    memory_completes command files (code_of ended) (ap code_of out.after) (input_of command files) refl
+    memory_status (input_of command files) (code_of ended) (ap code_of out.after)
 
 -- the clause of complete answers
 pub complete-of : (words : List (List ℕ)) (ended : Status) (before now : ShelfState) (sink sink_now : SinkState) → Runs words ended before now sink sink_now → (command : CommandOf) → command_of words ≡ Some command → (Rose before.faults now.faults → ⊥) → (Rose sink.faults sink_now.faults → ⊥) → (files : Files) → before.held ≡ Some files → IsComplete command files (code_of ended)

@@ -9,13 +9,13 @@ use Rattle.branch_bound.specs.declared.search_fault.SearchFault.{SearchFault}
 use Rattle.branch_bound.specs.declared.search_fault.SearchFault.TheVariants as search
 use Rattle.branch_bound.specs.Explored.{ShelfState}
 use Rattle.branch_bound.specs.Logged.{Searches, BreaksLog}
-use Rattle.geoplan.specs.Narrow.{NarrowOf}
+use Rattle.geoplan.specs.Tables.{TablesOf}
 use Rattle.geoplan.specs.Solving.{Solves, HoldsBeginning, FailsSolve}
 
 -- Laws of a log that is started and then written.
 
 -- a log started and written whole
-pub Solves-after : (tables : NarrowOf) (log : List ℕ) (done : SearchDone) (before middle now : ShelfState) → middle.held ≡ with_bytes before.held log [] → KeepsFaults before.faults middle.faults before.last_fault middle.last_fault → Searches tables.network log done middle now → Solves tables log done before now
+pub Solves-after : (tables : TablesOf) (log : List ℕ) (done : SearchDone) (before middle now : ShelfState) → middle.held ≡ with_bytes before.held log [] → KeepsFaults before.faults middle.faults before.last_fault middle.last_fault → Searches tables.network log done middle now → Solves tables log done before now
 Solves-after tables log done before middle now started quiet found = record {
   tree = found.tree;
   searched = found.searched;
@@ -24,7 +24,7 @@ Solves-after tables log done before middle now started quiet found = record {
 }
 
 -- a log started and begun
-pub FailsSolve-after : (tables : NarrowOf) (log : List ℕ) (why : SearchFault) (before middle now : ShelfState) → middle.held ≡ with_bytes before.held log [] → KeepsFaults before.faults middle.faults before.last_fault middle.last_fault → BreaksLog tables.network log why middle now → FailsSolve tables log why before now
+pub FailsSolve-after : (tables : TablesOf) (log : List ℕ) (why : SearchFault) (before middle now : ShelfState) → middle.held ≡ with_bytes before.held log [] → KeepsFaults before.faults middle.faults before.last_fault middle.last_fault → BreaksLog tables.network log why middle now → FailsSolve tables log why before now
 FailsSolve-after tables log why before middle now started quiet found = record {
   held = inr (record {
     tree = found.tree;
@@ -39,11 +39,11 @@ FailsSolve-after tables log why before middle now started quiet found = record {
 }
 
 -- a log that could not be started stands as before, or empty
-started_or_not : (tables : NarrowOf) (log : List ℕ) (before now : Option Files) → (now ≡ before) ⊎ (now ≡ with_bytes before log []) → (now ≡ before) ⊎ HoldsBeginning tables log before now
+started_or_not : (tables : TablesOf) (log : List ℕ) (before now : Option Files) → (now ≡ before) ⊎ (now ≡ with_bytes before log []) → (now ≡ before) ⊎ HoldsBeginning tables log before now
 started_or_not tables log before now (inl same) = inl same
 started_or_not tables log before now (inr empty) = inr (record { tree = tip cost; piece = []; rest = log_text (tip cost); allowed = tt; begins = refl; written = empty })
 
-pub FailsSolve-start : (tables : NarrowOf) (log : List ℕ) (why : SearchFault) (before now : ShelfState) → (now.held ≡ before.held) ⊎ (now.held ≡ with_bytes before.held log []) → before.faults ≤ now.faults → (why ≡ search.WriteFault → Rose before.faults now.faults × (now.last_fault ≡ Some (write_of log))) → FailsSolve tables log why before now
+pub FailsSolve-start : (tables : TablesOf) (log : List ℕ) (why : SearchFault) (before now : ShelfState) → (now.held ≡ before.held) ⊎ (now.held ≡ with_bytes before.held log []) → before.faults ≤ now.faults → (why ≡ search.WriteFault → Rose before.faults now.faults × (now.last_fault ≡ Some (write_of log))) → FailsSolve tables log why before now
 FailsSolve-start tables log why before now held later failed = record {
   held = started_or_not tables log before.held now.held held;
   later = later;

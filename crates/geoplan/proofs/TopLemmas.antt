@@ -25,36 +25,44 @@ code_0 : (ended : Status) → code_of ended ≡ 0 → ended ≡ status.Found
 code_0 status.Found is = refl
 code_0 status.NoPlan is = absurd (omega arith)
 code_0 status.WordsRefused is = absurd (omega arith)
+code_0 status.TableRefused is = absurd (omega arith)
 code_0 status.ReadFault is = absurd (omega arith)
 code_0 status.WriteFault is = absurd (omega arith)
 code_0 status.NoMemory is = absurd (omega arith)
+code_0 status.FileTooLong is = absurd (omega arith)
 code_0 status.NotBuilt is = absurd (omega arith)
 
 code_1 : (ended : Status) → code_of ended ≡ 1 → ended ≡ status.NoPlan
 code_1 status.Found is = absurd (omega arith)
 code_1 status.NoPlan is = refl
 code_1 status.WordsRefused is = absurd (omega arith)
+code_1 status.TableRefused is = absurd (omega arith)
 code_1 status.ReadFault is = absurd (omega arith)
 code_1 status.WriteFault is = absurd (omega arith)
 code_1 status.NoMemory is = absurd (omega arith)
+code_1 status.FileTooLong is = absurd (omega arith)
 code_1 status.NotBuilt is = absurd (omega arith)
 
 pub code_6 : (ended : Status) → code_of ended ≡ 6 → ended ≡ status.WriteFault
 code_6 status.Found is = absurd (omega arith)
 code_6 status.NoPlan is = absurd (omega arith)
 code_6 status.WordsRefused is = absurd (omega arith)
+code_6 status.TableRefused is = absurd (omega arith)
 code_6 status.ReadFault is = absurd (omega arith)
 code_6 status.WriteFault is = refl
 code_6 status.NoMemory is = absurd (omega arith)
+code_6 status.FileTooLong is = absurd (omega arith)
 code_6 status.NotBuilt is = absurd (omega arith)
 
 pub code_7 : (ended : Status) → code_of ended ≡ 7 → ended ≡ status.NoMemory
 code_7 status.Found is = absurd (omega arith)
 code_7 status.NoPlan is = absurd (omega arith)
 code_7 status.WordsRefused is = absurd (omega arith)
+code_7 status.TableRefused is = absurd (omega arith)
 code_7 status.ReadFault is = absurd (omega arith)
 code_7 status.WriteFault is = absurd (omega arith)
 code_7 status.NoMemory is = refl
+code_7 status.FileTooLong is = absurd (omega arith)
 code_7 status.NotBuilt is = absurd (omega arith)
 
 -- after a failed put the status is no report's
@@ -62,18 +70,22 @@ not_found : (begun : Status) → after_failed_put begun ≡ status.Found → ⊥
 not_found status.Found is = cc
 not_found status.NoPlan is = cc
 not_found status.WordsRefused is = cc
+not_found status.TableRefused is = cc
 not_found status.ReadFault is = cc
 not_found status.WriteFault is = cc
 not_found status.NoMemory is = cc
+not_found status.FileTooLong is = cc
 not_found status.NotBuilt is = cc
 
 not_none : (begun : Status) → after_failed_put begun ≡ status.NoPlan → ⊥
 not_none status.Found is = cc
 not_none status.NoPlan is = cc
 not_none status.WordsRefused is = cc
+not_none status.TableRefused is = cc
 not_none status.ReadFault is = cc
 not_none status.WriteFault is = cc
 not_none status.NoMemory is = cc
+not_none status.FileTooLong is = cc
 not_none status.NotBuilt is = cc
 
 -- a whole log and its plan

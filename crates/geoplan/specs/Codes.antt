@@ -7,9 +7,11 @@ abbrev pub code_of : Status → ℕ
 code_of status.Found = 0
 code_of status.NoPlan = 1
 code_of status.WordsRefused = 2
+code_of status.TableRefused = 3
 code_of status.ReadFault = 5
 code_of status.WriteFault = 6
 code_of status.NoMemory = 7
+code_of status.FileTooLong = 9
 code_of status.NotBuilt = 10
 
 -- the status where a text could not be printed
@@ -17,7 +19,9 @@ abbrev pub after_failed_put : Status → Status
 after_failed_put status.Found = status.WriteFault
 after_failed_put status.NoPlan = status.WriteFault
 after_failed_put status.WordsRefused = status.WordsRefused
+after_failed_put status.TableRefused = status.TableRefused
 after_failed_put status.ReadFault = status.ReadFault
 after_failed_put status.WriteFault = status.WriteFault
 after_failed_put status.NoMemory = status.NoMemory
+after_failed_put status.FileTooLong = status.FileTooLong
 after_failed_put status.NotBuilt = status.NotBuilt

@@ -1,6 +1,6 @@
 use Rattle.std.specs.Prelude.{ℕ, List, [], ◌∷◌, drop, Bool, false, not, ◌||◌, ◌==◌, if◌then◌else◌, Option, None, option_map, bytes_eq, codes}
 use Rattle.std.specs.List.{list_all}
-use Rattle.geoplan.specs.NarrowText.{whole_of}
+use Rattle.geoplan.specs.Digits.{whole_of}
 
 -- The words of a command line, the program's name first. This project's own.
 

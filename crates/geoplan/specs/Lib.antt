@@ -1,12 +1,10 @@
-pub mod NarrowText
-pub mod NarrowRows
-pub mod NarrowPoints
-pub mod NarrowCandidates
-pub mod Narrow
+pub mod Digits
 pub mod CommandOf
 pub mod CommandView
 pub mod Texts
 pub mod Codes
+pub mod Tables
+pub mod Heights
 pub mod Input
 pub mod Standing
 pub mod Loading

@@ -4,15 +4,16 @@ use Rattle.shelf_io.specs.Files.{Files, bytes_of}
 use Rattle.shelf_io.specs.Faults.{Rose, KeepsFaults, read_of}
 use Rattle.branch_bound.specs.Explored.{ShelfState}
 use Rattle.geoplan.specs.CommandOf.{CommandOf}
-use Rattle.geoplan.specs.Input.{most_bytes, input_of}
-use Rattle.geoplan.specs.Narrow.{NarrowOf}
+use Rattle.geoplan.specs.Input.{most_bytes, input_of, name_of}
+use Rattle.geoplan.specs.Tables.{TablesOf}
 use Rattle.geoplan.specs.Standing.{IsGoodNetwork}
 use Rattle.geoplan.specs.declared.load.LoadFault.{LoadFault}
 use Rattle.geoplan.specs.declared.load.LoadFault.TheVariants as load
 use Rattle.geoplan.specs.declared.load.ReadFault.{ReadFault}
 use Rattle.geoplan.specs.declared.load.ReadFault.TheVariants as read
-use Rattle.geoplan.specs.declared.load.Table.{Table}
-use Rattle.geoplan.specs.declared.load.Table.TheVariants as table
+use Rattle.geoplan.specs.declared.input.Input.{Input}
+use Rattle.geoplan.specs.declared.input.Input.TheVariants as input
+use Rattle.geoplan.specs.declared.input.Table.{Table}
 
 -- What reading the tables does. This project's own.
 
@@ -33,15 +34,14 @@ pub record FailsRead (name : List ℕ) (why : ReadFault) (before now : ShelfStat
   pub later : before.faults ≤ now.faults
   pub failed : why ≡ read.Failed → Rose before.faults now.faults × (now.last_fault ≡ Some (read_of name))
 
--- the name of a table
-abbrev pub name_of : CommandOf → Table → List ℕ
-name_of command table.Points = command.points
-name_of command table.Candidates = command.candidates
+-- the network of built tables keeps its bounds
+abbrev pub IsGoodInput : Input → Type 0
+IsGoodInput given = (tables : TablesOf) → given ≡ input.Built tables → IsGoodNetwork tables
 
--- the tables were read, and no fault was counted
-pub record Loads (command : CommandOf) (tables : Option NarrowOf) (before now : ShelfState) : Type 0 where
-  pub input : ForSome before.held (λ files. tables ≡ input_of command files)
-  pub good : ForSome tables IsGoodNetwork
+-- the tables were read as far as they are asked for, and no fault was counted
+pub record Loads (command : CommandOf) (given : Input) (before now : ShelfState) : Type 0 where
+  pub input : ForSome before.held (λ files. given ≡ input_of command files)
+  pub good : IsGoodInput given
   pub held : now.held ≡ before.held
   pub quiet : KeepsFaults before.faults now.faults before.last_fault now.last_fault
 

@@ -5,7 +5,7 @@ use Rattle.branch_bound.specs.Explored.{ShelfState}
 use Rattle.geoplan.specs.Codes.{after_failed_put}
 use Rattle.geoplan.specs.CommandOf.{command_of}
 use Rattle.geoplan.specs.Input.{OnCommand}
-use Rattle.geoplan.specs.Reporting.{HasNoText}
+use Rattle.geoplan.specs.Reporting.{Ends}
 use Rattle.geoplan.specs.Standing.{Stands}
 use Rattle.geoplan.specs.Texts.{words_text}
 use Rattle.geoplan.specs.declared.status.Status.{Status}
@@ -59,7 +59,7 @@ Prints begun text ended before now =
 
 -- the words are refused by name, where there was memory for it
 abbrev pub SaysWords : Status → List ℕ → Type 0
-SaysWords begun text = ((begun ≡ status.WordsRefused) × (text ≡ words_text)) ⊎ HasNoText begun text
+SaysWords begun text = Ends status.WordsRefused words_text begun text
 
 -- the words are refused: nothing is read or written
 pub record RefusesWords (before now : ShelfState) (begun : Status) (text : List ℕ) : Type 0 where

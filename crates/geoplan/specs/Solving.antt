@@ -9,19 +9,19 @@ use Rattle.branch_bound.specs.declared.search_fault.SearchFault.{SearchFault}
 use Rattle.branch_bound.specs.declared.search_fault.SearchFault.TheVariants as search
 use Rattle.branch_bound.specs.Explored.{ShelfState}
 use Rattle.branch_bound.specs.Searched.{IsSearched}
-use Rattle.geoplan.specs.Narrow.{NarrowOf}
+use Rattle.geoplan.specs.Tables.{TablesOf}
 
 -- What searching the tables' network does. This project's own.
 
 -- the search is done, and its whole log stands under the name
-pub record Solves (tables : NarrowOf) (log : List ℕ) (done : SearchDone) (before now : ShelfState) : Type 0 where
+pub record Solves (tables : TablesOf) (log : List ℕ) (done : SearchDone) (before now : ShelfState) : Type 0 where
   pub tree : Tree
   pub searched : IsSearched tables.network tree done
   pub written : now.held ≡ with_bytes before.held log (log_text tree)
   pub quiet : KeepsFaults before.faults now.faults before.last_fault now.last_fault
 
 -- the name holds the beginning of a log of the network
-pub record HoldsBeginning (tables : NarrowOf) (log : List ℕ) (before now : Option Files) : Type 0 where
+pub record HoldsBeginning (tables : TablesOf) (log : List ℕ) (before now : Option Files) : Type 0 where
   pub tree : Tree
   pub piece : List ℕ
   pub rest : List ℕ
@@ -30,7 +30,7 @@ pub record HoldsBeginning (tables : NarrowOf) (log : List ℕ) (before now : Opt
   pub written : now ≡ with_bytes before log piece
 
 -- the search ended by a fault
-pub record FailsSolve (tables : NarrowOf) (log : List ℕ) (why : SearchFault) (before now : ShelfState) : Type 0 where
+pub record FailsSolve (tables : TablesOf) (log : List ℕ) (why : SearchFault) (before now : ShelfState) : Type 0 where
   pub held : (now.held ≡ before.held) ⊎ HoldsBeginning tables log before.held now.held
   pub later : before.faults ≤ now.faults
   pub failed : why ≡ search.WriteFault → Rose before.faults now.faults × (now.last_fault ≡ Some (write_of log))

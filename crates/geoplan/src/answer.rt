@@ -1,18 +1,20 @@
 //! The answer of the command `plan`, before anything is printed.
-ghost use Rattle.std.specs.Prelude.{◌≡◌, [], IfOk};
+ghost use Rattle.std.specs.Prelude.{◌≡◌, [], MatchResult};
 ghost use Rattle.branch_bound.specs.Explored.{state_of};
 ghost use Rattle.geoplan.specs.CommandView.{command_view};
-ghost use Rattle.geoplan.specs.Loading.{name_of};
-ghost use Rattle.geoplan.specs.Reporting.{CanReport, Reports};
+ghost use Rattle.geoplan.specs.Input.{name_of};
+ghost use Rattle.geoplan.specs.Reporting.{CanReport, Ends, HasNoText, Reports};
 ghost use Rattle.geoplan.specs.Standing.{AreTables, IsGoodNetwork, Stands};
-ghost use Rattle.geoplan.specs.Texts.{cannot_read_text};
 
 use crate::command::Command;
-use crate::load::{LoadFault, Table, load};
-use crate::narrow::NarrowTables;
-use crate::report::{no_plan_report, not_built_refusal, plan_report, unread_refusal};
+use crate::input::Input;
+use crate::load::{LoadFault, load};
+use crate::report::{
+    no_plan_report, not_built_refusal, plan_report, table_refusal, too_long_refusal, unread_refusal,
+};
 use crate::solve::solve;
 use crate::status::Status;
+use crate::tables::Tables;
 use branch_bound::{Answer, SearchDone, SearchFault};
 use geo_base::NoMemory;
 use shelf_io::Shelf;
@@ -44,23 +46,31 @@ impl Outcome {
             text: Vec::new(alloc),
         }
     }
+
+    /// A status with its text, or that memory ran out before there was one.
+    pub fn made(alloc: Global, status: Status, text: Result<Vec<u8>, NoMemory>) -> Outcome
+        ensures { MatchResult text (λ words. Ends status words.items result.status result.text.items)
+            (λ _. HasNoText result.status result.text.items) }
+    {
+        match text {
+            Ok(text) => Outcome::of(status, text),
+            Err(NoMemory) => Outcome::silent(alloc, Status::NoMemory),
+        }
+    }
 }
 
 /// The report of an answer.
-fn report(alloc: Global, tables: &NarrowTables, done: &SearchDone) -> Outcome
+fn report(alloc: Global, tables: &Tables, done: &SearchDone) -> Outcome
     requires good { IsGoodNetwork tables.now }
     requires answer { CanReport tables.now done.now.answer }
     ensures { Reports tables.now done.now.answer result.status result.text.items }
 {
     match &done.answer {
-        Answer::Best(plan) => match plan_report(alloc, tables.names(), tables.network(), plan) {
-            Ok(text) => Outcome::of(Status::Found, text),
-            Err(_) => Outcome::silent(alloc, Status::NoMemory),
-        },
-        Answer::NoPlan => match no_plan_report(alloc) {
-            Ok(text) => Outcome::of(Status::NoPlan, text),
-            Err(_) => Outcome::silent(alloc, Status::NoMemory),
-        },
+        Answer::Best(plan) => {
+            let text = plan_report(alloc, tables.candidates(), tables.network(), plan);
+            Outcome::made(alloc, Status::Found, text)
+        }
+        Answer::NoPlan => Outcome::made(alloc, Status::NoPlan, no_plan_report(alloc)),
         Answer::Undecided { .. } => unreachable!(),
     }
 }
@@ -69,7 +79,7 @@ fn report(alloc: Global, tables: &NarrowTables, done: &SearchDone) -> Outcome
 fn answer_tables<H: Shelf>(
     alloc: Global,
     command: &Command<'_>,
-    tables: &NarrowTables,
+    tables: &Tables,
     shelf: &mut H,
 ) -> Outcome
     requires input { AreTables (command_view command.now) (H.held shelf.old) tables.now }
@@ -85,16 +95,6 @@ fn answer_tables<H: Shelf>(
     }
 }
 
-/// What is printed where a table can't be read.
-fn unread(alloc: Global, command: &Command<'_>, table: Table) -> Result<Vec<u8>, NoMemory>
-    ensures { IfOk result (λ text. text.items ≡ cannot_read_text (name_of (command_view command.now) table)) }
-{
-    match table {
-        Table::Points => unread_refusal(alloc, command.points),
-        Table::Candidates => unread_refusal(alloc, command.candidates),
-    }
-}
-
 /// The answer of the command `plan`.
 pub fn answer<H: Shelf>(alloc: Global, command: &Command<'_>, shelf: &mut H) -> Outcome
     ensures { Stands (command_view command.now)
@@ -102,15 +102,19 @@ pub fn answer<H: Shelf>(alloc: Global, command: &Command<'_>, shelf: &mut H) -> 
         (state_of H.held H.faults H.last_fault H.started shelf.new) result.status result.text.items }
 {
     match load(alloc, command, shelf) {
-        Ok(Some(tables)) => answer_tables(alloc, command, &tables, shelf),
-        Ok(None) => match not_built_refusal(alloc) {
-            Ok(text) => Outcome::of(Status::NotBuilt, text),
-            Err(_) => Outcome::silent(alloc, Status::NoMemory),
-        },
-        Err(LoadFault::Unread(table)) => match unread(alloc, command, table) {
-            Ok(text) => Outcome::of(Status::ReadFault, text),
-            Err(_) => Outcome::silent(alloc, Status::NoMemory),
-        },
+        Ok(Input::Built(tables)) => answer_tables(alloc, command, &tables, shelf),
+        Ok(Input::Outside) => { Outcome::made(alloc, Status::NotBuilt, not_built_refusal(alloc)) }
+        Ok(Input::Refused(fault)) => {
+            Outcome::made(alloc, Status::TableRefused, table_refusal(alloc, fault))
+        }
+        Ok(Input::TooLong(table)) => {
+            let text = too_long_refusal(alloc, command.name_of(table));
+            Outcome::made(alloc, Status::FileTooLong, text)
+        }
+        Err(LoadFault::Unread(table)) => {
+            let text = unread_refusal(alloc, command.name_of(table));
+            Outcome::made(alloc, Status::ReadFault, text)
+        }
         Err(LoadFault::NoMemory) => Outcome::silent(alloc, Status::NoMemory),
     }
 }

@@ -1,8 +1,11 @@
 ghost use Rattle.std.specs.Prelude.{◌≡◌, Bool, option_map, drop, bytes_eq};
 ghost use Rattle.std.specs.List.{list_all};
 ghost use Rattle.geoplan.specs.CommandOf.{CommandOf, is_plain, plan_of, command_from, command_of};
+ghost use Rattle.geoplan.specs.CommandView.{command_view};
+ghost use Rattle.geoplan.specs.Input.{name_of};
 
-use crate::narrow::whole;
+use crate::digits::whole;
+use crate::input::Table;
 use crate::words::Words;
 
 /// The command `plan`: the names of its two tables, the redundancy that it asks for in thousandths,
@@ -60,6 +63,16 @@ impl<'a> Command<'a> {
                 redundancy,
                 log,
             }),
+        }
+    }
+
+    /// The name of the file that holds a table.
+    pub fn name_of(&self, table: Table) -> &'a str
+        ensures { result.now ≡ name_of (command_view self.now) table }
+    {
+        match table {
+            Table::Points => self.points,
+            Table::Candidates => self.candidates,
         }
     }
 }

@@ -3,12 +3,15 @@
 
 mod answer;
 mod command;
+mod digits;
+mod heights;
+mod input;
 mod load;
-mod narrow;
 mod report;
 mod run;
 mod solve;
 mod status;
+mod tables;
 mod top;
 mod words;
 

@@ -1,26 +1,23 @@
 //! Reading the tables of a command.
-ghost use Rattle.std.specs.Prelude.{◌≡◌, ◌≤◌, length, option_map, IfOk, IfErr, IfSome};
+ghost use Rattle.std.specs.Prelude.{◌≡◌, ◌≤◌, length, option_map, IfOk, IfErr};
+ghost use Rattle.candidate_tables.specs.Accepted.{AreCandidates};
 ghost use Rattle.branch_bound.specs.Explored.{state_of};
 ghost use Rattle.geoplan.specs.CommandView.{command_view};
-ghost use Rattle.geoplan.specs.Input.{input_from};
-ghost use Rattle.geoplan.specs.Loading.{ReadsTable, FailsRead, Loads, FailsLoad};
-ghost use Rattle.geoplan.specs.Standing.{IsGoodNetwork};
+ghost use Rattle.geoplan.specs.Input.{accepted_input, judged_input};
+ghost use Rattle.geoplan.specs.Loading.{ReadsTable, FailsRead, IsGoodInput, Loads, FailsLoad};
 
 use crate::command::Command;
-use crate::narrow::{NarrowTables, read_narrow};
+use crate::heights::{height_of, network_of};
+use crate::input::{Input, Table};
+use crate::tables::Tables;
+use candidate_tables::{Candidates, read_candidates};
 use geo_base::NoMemory;
+use point_tables::{Points, TableAnswer, read_points};
 use shelf_io::{ReadAnswer, Shelf};
 use std::alloc::Global;
 
 /// The most bytes of a table.
-const MOST_BYTES: u64 = 65536;
-
-/// One of the two tables of a command.
-#[derive(Clone, Copy, Debug, PartialEq, Eq)]
-pub enum Table {
-    Points,
-    Candidates,
-}
+const MOST_BYTES: u64 = 1048576;
 
 /// Why a table was not read: the read failed, or memory ran out.
 #[derive(Clone, Copy, Debug, PartialEq, Eq)]
@@ -58,32 +55,56 @@ fn read_table<H: Shelf>(
     }
 }
 
-/// What the bytes of two tables give for a redundancy, where that is built so far.
-#[tactic(auto, unfolding(crate::specs::Input::input_from))]
+/// What two accepted tables give for a redundancy.
+#[tactic(auto, unfolding(crate::specs::Input::accepted_input))]
+fn accept(
+    alloc: Global,
+    redundancy: u64,
+    points: &Points,
+    candidates: Candidates,
+) -> Result<Input, NoMemory>
+    requires { AreCandidates points.now candidates }
+    ensures input { IfOk result (λ given. given ≡ accepted_input redundancy points.now candidates) }
+    ensures good { IfOk result IsGoodInput }
+{
+    let Some(new) = height_of(alloc, redundancy, points, &candidates)? else {
+        return Ok(Input::Outside);
+    };
+    let network = network_of(alloc, new, &candidates)?;
+    Ok(Input::Built(Tables::new(candidates, network)))
+}
+
+/// What the bytes of two tables give for a redundancy.
+#[tactic(auto, unfolding(crate::specs::Input::judged_input))]
 fn judge(
     alloc: Global,
     redundancy: u64,
     points: &[u8],
     candidates: &[u8],
-) -> Result<Option<NarrowTables>, NoMemory>
-    requires points { length points.now ≤ 65536 }
-    requires candidates { length candidates.now ≤ 65536 }
-    ensures input { IfOk result (λ tables. tables ≡ input_from redundancy points.now candidates.now) }
-    ensures good { IfOk result (λ tables. IfSome tables IsGoodNetwork) }
+) -> Result<Input, NoMemory>
+    ensures input { IfOk result (λ given. given ≡ judged_input redundancy points.now candidates.now) }
+    ensures good { IfOk result IsGoodInput }
 {
-    if redundancy != 0 {
-        return Ok(None);
-    }
-    read_narrow(alloc, points, candidates)
+    let points = match read_points(alloc, points) {
+        Ok(points) => points,
+        Err(TableAnswer::Fault(fault)) => return Ok(Input::Refused(fault)),
+        Err(TableAnswer::NoMemory) => return Err(NoMemory),
+    };
+    let candidates = match read_candidates(alloc, candidates, &points) {
+        Ok(candidates) => candidates,
+        Err(TableAnswer::Fault(fault)) => return Ok(Input::Refused(fault)),
+        Err(TableAnswer::NoMemory) => return Err(NoMemory),
+    };
+    accept(alloc, redundancy, &points, candidates)
 }
 
-/// The tables of a command, or none where they are outside what is built so far.
+/// Reads the tables of a command, the points first, and judges what they give.
 pub fn load<H: Shelf>(
     alloc: Global,
     command: &Command<'_>,
     shelf: &mut H,
-) -> Result<Option<NarrowTables>, LoadFault>
-    ensures loaded { IfOk result (λ tables. Loads (command_view command.now) tables
+) -> Result<Input, LoadFault>
+    ensures loaded { IfOk result (λ given. Loads (command_view command.now) given
         (state_of H.held H.faults H.last_fault H.started shelf.old)
         (state_of H.held H.faults H.last_fault H.started shelf.new)) }
     ensures fault { IfErr result (λ why. FailsLoad (command_view command.now) why
@@ -91,20 +112,16 @@ pub fn load<H: Shelf>(
         (state_of H.held H.faults H.last_fault H.started shelf.new)) }
 {
     let points = match read_table(alloc, shelf, command.points) {
-        Ok(points) => points,
+        Ok(Some(points)) => points,
+        Ok(None) => return Ok(Input::TooLong(Table::Points)),
         Err(ReadFault::Failed) => return Err(LoadFault::Unread(Table::Points)),
         Err(ReadFault::NoMemory) => return Err(LoadFault::NoMemory),
     };
     let candidates = match read_table(alloc, shelf, command.candidates) {
-        Ok(candidates) => candidates,
+        Ok(Some(candidates)) => candidates,
+        Ok(None) => return Ok(Input::TooLong(Table::Candidates)),
         Err(ReadFault::Failed) => return Err(LoadFault::Unread(Table::Candidates)),
         Err(ReadFault::NoMemory) => return Err(LoadFault::NoMemory),
-    };
-    let Some(points) = points else {
-        return Ok(None);
-    };
-    let Some(candidates) = candidates else {
-        return Ok(None);
     };
     match judge(
         alloc,
@@ -112,7 +129,7 @@ pub fn load<H: Shelf>(
         points.as_slice(),
         candidates.as_slice(),
     ) {
-        Ok(tables) => Ok(tables),
+        Ok(input) => Ok(input),
         Err(NoMemory) => Err(LoadFault::NoMemory),
     }
 }

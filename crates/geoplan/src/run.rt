@@ -30,10 +30,7 @@ fn print<O: Sink>(out: &mut O, outcome: Outcome) -> Status
 fn refuse_words(alloc: Global) -> Outcome
     ensures { SaysWords result.status result.text.items }
 {
-    match words_refusal(alloc) {
-        Ok(text) => Outcome::of(Status::WordsRefused, text),
-        Err(_) => Outcome::silent(alloc, Status::NoMemory),
-    }
+    Outcome::made(alloc, Status::WordsRefused, words_refusal(alloc))
 }
 
 /// Runs a command line, and answers the status to end with.

@@ -5,7 +5,7 @@ ghost use Rattle.branch_bound.specs.Searched.{IsDecided};
 ghost use Rattle.geoplan.specs.Solving.{Solves, FailsSolve};
 ghost use Rattle.geoplan.specs.Standing.{IsGoodNetwork};
 
-use crate::narrow::NarrowTables;
+use crate::tables::Tables;
 use branch_bound::{SearchDone, SearchFault, search};
 use shelf_io::{Shelf, WriteAnswer};
 use std::alloc::Global;
@@ -13,7 +13,7 @@ use std::alloc::Global;
 /// Starts the log and searches the network of the tables.
 pub fn solve<H: Shelf>(
     alloc: Global,
-    tables: &NarrowTables,
+    tables: &Tables,
     shelf: &mut H,
     log: &str,
 ) -> Result<SearchDone, SearchFault>

@@ -6,9 +6,11 @@ pub enum Status {
     Found,
     NoPlan,
     WordsRefused,
+    TableRefused,
     ReadFault,
     WriteFault,
     NoMemory,
+    FileTooLong,
     NotBuilt,
 }
 
@@ -23,9 +25,11 @@ impl Status {
             Status::Found => 0,
             Status::NoPlan => 1,
             Status::WordsRefused => 2,
+            Status::TableRefused => 3,
             Status::ReadFault => 5,
             Status::WriteFault => 6,
             Status::NoMemory => 7,
+            Status::FileTooLong => 9,
             Status::NotBuilt => 10,
         }
     }

@@ -6,7 +6,7 @@ ghost use Rattle.branch_bound.specs.Explored.{state_of};
 ghost use Rattle.geoplan.specs.CommandOf.{CommandOf, command_of};
 ghost use Rattle.geoplan.specs.Input.{OnCommand};
 ghost use Rattle.geoplan.specs.Printing.{sink_state_of};
-ghost use Rattle.geoplan.specs.Promises.{WhereHeld, IsStatus, IsFound, IsNone, IsUnread, LogFails, PrintFails, IsNotBuilt, OthersStay, RanOut, Says, IsComplete};
+ghost use Rattle.geoplan.specs.Promises.{WhereHeld, IsStatus, IsFound, IsNone, IsTableRefused, IsUnread, LogFails, PrintFails, IsTooLong, IsNotBuilt, OthersStay, RanOut, Says, IsComplete};
 ghost use Rattle.geoplan.specs.Texts.{words_text};
 
 use crate::run::run;
@@ -36,6 +36,13 @@ pub fn geoplan<H: Shelf, O: Sink>(alloc: Global, words: &Words, shelf: &mut H, o
         (sink_state_of O.written O.faults out.old) (sink_state_of O.written O.faults out.new) }
     ensures refused { command_of words.now ≡ None → (result ≡ 2) ⊎ (result ≡ 7) }
 
+    // 3: the shown fault is the first one of the points table, or of the candidates table where the
+    // points table has none.
+    ensures refused_table { result ≡ 3 → OnCommand words.now (λ command. IsTableRefused command
+        (state_of H.held H.faults H.last_fault H.started shelf.old)
+        (state_of H.held H.faults H.last_fault H.started shelf.new)
+        (sink_state_of O.written O.faults out.old) (sink_state_of O.written O.faults out.new)) }
+
     // 5: a read of a table failed in this call.
     ensures unread { result ≡ 5 → OnCommand words.now (λ command. IsUnread command
         (state_of H.held H.faults H.last_fault H.started shelf.old)
@@ -59,7 +66,13 @@ pub fn geoplan<H: Shelf, O: Sink>(alloc: Global, words: &Words, shelf: &mut H, o
         (state_of H.held H.faults H.last_fault H.started shelf.new)
         (sink_state_of O.written O.faults out.old) (sink_state_of O.written O.faults out.new) }
 
-    // 10: the tables are outside what is built so far.
+    // 9: the shown file is the first one, in the order of reading, that is too long.
+    ensures too_long { result ≡ 9 → OnCommand words.now (λ command. IsTooLong command
+        (state_of H.held H.faults H.last_fault H.started shelf.old)
+        (state_of H.held H.faults H.last_fault H.started shelf.new)
+        (sink_state_of O.written O.faults out.old) (sink_state_of O.written O.faults out.new)) }
+
+    // 10: the tables are accepted and outside what is built so far.
     ensures not_built { result ≡ 10 → OnCommand words.now (λ command. IsNotBuilt command
         (state_of H.held H.faults H.last_fault H.started shelf.old)
         (state_of H.held H.faults H.last_fault H.started shelf.new)

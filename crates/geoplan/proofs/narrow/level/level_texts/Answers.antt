@@ -1,6 +1,0 @@
-use Rattle.geoplan.proofs.NarrowRowLemmas.{eight_texts}
-use Rattle.geoplan.proofs.narrow.level.level_texts.Goals as goal
-
-pub returns : goal.returns
-returns c =
-    eight_texts c.args.row.now _ _ _ _ _ _ _ _ (cc) c.field.ensures c.field-2.ensures c.field-3.ensures c.field-4.ensures c.field-5.ensures c.field-6.ensures c.field-7.ensures c.field-8.ensures

@@ -1,0 +1,14 @@
+use Rattle.std.specs.Prelude.{ℕ, List, length, Bool, ◌&&◌, nat_le, if◌then◌else◌, Option, Some, None}
+use Rattle.std.specs.Char.{is_ascii_digit}
+use Rattle.std.specs.List.{list_all}
+use Rattle.std.specs.Str.Parse.{digits_value}
+
+-- Whole numbers as words of a command line. This project's own.
+
+-- whether a text is 1 to so many digits
+unfoldable pub is_digits : ℕ → List ℕ → Bool
+is_digits most text = nat_le 1 (length text) && nat_le (length text) most && list_all is_ascii_digit text
+
+-- the whole number that 1 to so many digits write
+unfoldable pub whole_of : ℕ → List ℕ → Option ℕ
+whole_of most text = if is_digits most text then Some (digits_value 10 text) else None
