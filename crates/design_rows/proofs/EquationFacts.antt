@@ -1,0 +1,198 @@
+-- The equations of an accepted candidate are within their bounds.
+use Rattle.std.proofs.Common.{◌≡◌, ◌≢◌, ◌∙◌, ◌+◌, ◌≤◌, ◌^◌, ℕ, ℤ, true, false, List, Option, Some, None, refl, ap, arith, eqb, inl, inr}
+use Rattle.std.specs.Prelude.{◌-ℤ◌, ◌⊎◌, neg_ℤ, is_some, unsigned_abs, unwrap_or}
+use Rattle.std.specs.List.{AllByRecursion, IsDistinct}
+use Rattle.std.proofs.lemmas.Bool.Decides.{nat_tests}
+use Rattle.std.proofs.lemmas.Int.{ints}
+use Rattle.coefficient_round.proofs.Bounds.{direction_coefficient-size}
+use Rattle.coefficient_round.proofs.Ratio.{distance_coefficient-size}
+use Rattle.geo_model.specs.declared.network.Component.{Component}
+use Rattle.geo_model.specs.declared.network.Component.TheVariants as component
+use Rattle.point_tables.specs.declared.record.PointRecord.{PointRecord}
+use Rattle.candidate_tables.specs.declared.kind.Kind.{Kind}
+use Rattle.candidate_tables.specs.declared.kind.Kind.TheVariants as kind
+use Rattle.candidate_tables.specs.declared.record.CandidateRecord.{CandidateRecord}
+use Rattle.candidate_tables.specs.Accepted.{IsBetween, IsCandidateRecord, IsForesightOf, IsLine}
+use Rattle.candidate_tables.specs.Kinds.{is_angle, is_vector}
+use Rattle.candidate_tables.specs.Lines.{length_squared}
+use Rattle.candidate_tables.proofs.PlaceFacts.{squared-is}
+use Rattle.design_rows.specs.Bounds.{AreTerms}
+use Rattle.design_rows.specs.Equations.{Equation, angle_terms, by_x, by_y, cosine, difference_terms, direction_terms, distance_terms, equations_by, equations_of, sine, x_part, y_part}
+use Rattle.design_rows.specs.Unknowns.{is_same_component}
+use Rattle.design_rows.proofs.UnknownFacts.{and-right}
+
+-- the bounds of an equation
+pub record IsEquation (equation : Equation) : Type 0 where
+  pub terms : AreTerms equation.terms
+  pub deviation : IsBetween equation.deviation
+
+-- ---- sizes
+
+pub cosine-size : (points : List PointRecord) (a b : ℕ) → unsigned_abs (cosine points a b) ≤ 10000
+cosine-size points a b = distance_coefficient-size (x_part points a b) (x_part points a b) (y_part points a b)
+
+pub sine-size : (points : List PointRecord) (a b : ℕ) → unsigned_abs (sine points a b) ≤ 10000
+sine-size points a b = distance_coefficient-size (y_part points a b) (x_part points a b) (y_part points a b)
+
+pub by_x-size : (points : List PointRecord) (a b : ℕ) → 10 ^ 8 ≤ length_squared points a b → unsigned_abs (by_x points a b) ≤ 636620
+by_x-size points a b least =
+    direction_coefficient-size (x_part points a b) (x_part points a b) (y_part points a b) (inl refl) (rw (squared-is points a b) least)
+
+pub by_y-size : (points : List PointRecord) (a b : ℕ) → 10 ^ 8 ≤ length_squared points a b → unsigned_abs (by_y points a b) ≤ 636620
+by_y-size points a b least =
+    direction_coefficient-size (y_part points a b) (x_part points a b) (y_part points a b) (inr refl) (rw (squared-is points a b) least)
+
+-- ---- terms that differ
+
+other : (a b : ℕ) → a ≢ b → eqb a b ≡ false
+other a b differ = grind (arith, nat_tests)
+
+negated : (z : ℤ) (n : ℕ) → unsigned_abs z ≤ n → unsigned_abs (neg_ℤ z) ≤ n
+negated z n size = omega (arith, ints)
+
+difference-size : (y z : ℤ) (n : ℕ) → unsigned_abs y ≤ n → unsigned_abs z ≤ n → unsigned_abs (y -ℤ z) ≤ n + n
+difference-size y z n first second = omega (arith, ints)
+
+pub difference-terms : (part : Component) (a b : ℕ) → a ≢ b → AreTerms (difference_terms part a b)
+unfolding IsDistinct
+difference-terms part a b differ = record {
+  apart = ((and-right (is_same_component part part) (eqb a b) (other a b differ), tt), (tt, tt));
+  short = omega arith;
+  each = (omega arith, (omega arith, tt));
+  total = omega arith;
+}
+
+pub distance-terms : (points : List PointRecord) (a b : ℕ) → a ≢ b → AreTerms (distance_terms points a b)
+unfolding IsDistinct
+distance-terms points a b differ =
+    let ab = other a b differ in
+    let c = cosine-size points a b in
+    let s = sine-size points a b in
+    let d = negated (cosine points a b) 10000 c in
+    let t = negated (sine points a b) 10000 s in
+    record {
+      apart = ((refl, (ab, (refl, tt))), ((refl, (ab, tt)), ((refl, tt), (tt, tt))));
+      short = omega arith;
+      each = (omega arith, (omega arith, (omega arith, (omega arith, tt))));
+      total = omega arith;
+    }
+
+pub direction-terms : (points : List PointRecord) (a b : ℕ) → a ≢ b → 10 ^ 8 ≤ length_squared points a b → AreTerms (direction_terms points a b)
+unfolding IsDistinct
+direction-terms points a b differ least =
+    let ab = other a b differ in
+    let p = by_y-size points a b least in
+    let q = by_x-size points a b least in
+    let r = negated (by_y points a b) 636620 p in
+    let s = negated (by_x points a b) 636620 q in
+    record {
+      apart = ((refl, (ab, (refl, (refl, tt)))), ((refl, (ab, (refl, tt))), ((refl, (refl, tt)), ((refl, tt), (tt, tt)))));
+      short = omega arith;
+      each = (omega arith, (omega arith, (omega arith, (omega arith, (omega arith, tt)))));
+      total = omega arith;
+    }
+
+pub angle-terms : (points : List PointRecord) (a b c : ℕ) → a ≢ b → a ≢ c → b ≢ c → 10 ^ 8 ≤ length_squared points a b → 10 ^ 8 ≤ length_squared points a c
+    → AreTerms (angle_terms points a b c)
+unfolding IsDistinct
+angle-terms points a b c differ differ_too differ_three least least_too =
+    let ab = other a b differ in
+    let ac = other a c differ_too in
+    let bc = other b c differ_three in
+    let p = by_y-size points a b least in
+    let q = by_x-size points a b least in
+    let r = by_y-size points a c least_too in
+    let s = by_x-size points a c least_too in
+    let u = difference-size (by_y points a c) (by_y points a b) 636620 r p in
+    let v = difference-size (by_x points a b) (by_x points a c) 636620 q s in
+    let w = negated (by_x points a b) 636620 q in
+    let z = negated (by_y points a c) 636620 r in
+    record {
+      apart = (
+        (refl, (ab, (refl, (ac, (refl, tt))))),
+        (
+          (refl, (ab, (refl, (ac, tt)))),
+          (
+            (refl, (bc, (refl, tt))),
+            (
+              (refl, (bc, tt)),
+              (
+                (refl, tt),
+                (tt, tt),
+              ),
+            ),
+          ),
+        ),
+      );
+      short = omega arith;
+      each = (omega arith, (omega arith, (omega arith, (omega arith, (omega arith, (omega arith, tt))))));
+      total = omega arith;
+    }
+
+-- ---- the equations of a candidate
+
+given : {A : Type 0} (o : Option A) (d : A) → is_some o ≡ true → o ≡ Some (unwrap_or o d)
+given None d e = absurd (cc e)
+given (Some x) d e = refl
+
+pub foresight : (points : List PointRecord) (candidate : CandidateRecord) → IsCandidateRecord points candidate → candidate.kind ≡ kind.Angle
+    → IsForesightOf points candidate.kind candidate.from candidate.to (unwrap_or candidate.to2 0)
+foresight points candidate is angle = is.to2 (unwrap_or candidate.to2 0) (given candidate.to2 0 (is.has_to2 ∙ ap is_angle angle))
+
+pub height : (points : List PointRecord) (candidate : CandidateRecord) → IsCandidateRecord points candidate → candidate.kind ≡ kind.Vector
+    → IsBetween (unwrap_or candidate.sdh 0)
+height points candidate is vector = is.sdh (unwrap_or candidate.sdh 0) (given candidate.sdh 0 (is.has_sdh ∙ ap is_vector vector))
+
+pub long : (points : List PointRecord) (k : Kind) (from to : ℕ) → IsLine points k from to → (k ≡ kind.Direction) ⊎ (k ≡ kind.Angle) → 10 ^ 8 ≤ length_squared points from to
+long points kind.Direction from to line e = line.least refl
+long points kind.Angle from to line e = line.least refl
+long points kind.Distance from to line e = absurd (neither e)
+  where
+    neither : (kind.Distance ≡ kind.Direction) ⊎ (kind.Distance ≡ kind.Angle) → ⊥
+    neither (inl f) = cc f
+    neither (inr f) = cc f
+long points kind.Level from to line e = absurd (neither e)
+  where
+    neither : (kind.Level ≡ kind.Direction) ⊎ (kind.Level ≡ kind.Angle) → ⊥
+    neither (inl f) = cc f
+    neither (inr f) = cc f
+long points kind.Vector from to line e = absurd (neither e)
+  where
+    neither : (kind.Vector ≡ kind.Direction) ⊎ (kind.Vector ≡ kind.Angle) → ⊥
+    neither (inl f) = cc f
+    neither (inr f) = cc f
+
+equations-by : (points : List PointRecord) (candidate : CandidateRecord) → IsCandidateRecord points candidate → (k : Kind) → candidate.kind ≡ k
+    → AllByRecursion IsEquation (equations_by k points candidate)
+equations-by points candidate is kind.Distance e = (record { terms = distance-terms points candidate.from candidate.to is.other; deviation = is.sd }, tt)
+equations-by points candidate is kind.Direction e = (
+  record {
+    terms = direction-terms points candidate.from candidate.to is.other (long points candidate.kind candidate.from candidate.to is.line (inl e));
+    deviation = is.sd;
+  },
+  tt,
+)
+equations-by points candidate is kind.Angle e =
+    let c = foresight points candidate is e in (
+      record {
+        terms = angle-terms points candidate.from candidate.to (unwrap_or candidate.to2 0) is.other c.other_from c.other_to
+            (long points candidate.kind candidate.from candidate.to is.line (inr e)) (long points candidate.kind candidate.from (unwrap_or candidate.to2 0) c.line (inr e));
+        deviation = is.sd;
+      },
+      tt,
+    )
+equations-by points candidate is kind.Level e = (record { terms = difference-terms component.Z candidate.from candidate.to is.other; deviation = is.sd }, tt)
+equations-by points candidate is kind.Vector e = (
+  record { terms = difference-terms component.X candidate.from candidate.to is.other; deviation = is.sd },
+  (
+    record { terms = difference-terms component.Y candidate.from candidate.to is.other; deviation = is.sd },
+    (
+      record { terms = difference-terms component.Z candidate.from candidate.to is.other; deviation = height points candidate is e },
+      tt,
+    ),
+  ),
+)
+
+pub equations-bounded : (points : List PointRecord) (candidate : CandidateRecord) → IsCandidateRecord points candidate → AllByRecursion IsEquation (equations_of points candidate)
+unfolding equations_of
+equations-bounded points candidate is = equations-by points candidate is candidate.kind refl

@@ -1,0 +1,4 @@
+pub mod Unknowns
+pub mod Equations
+pub mod Rows
+pub mod Bounds

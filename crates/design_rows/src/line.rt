@@ -1,0 +1,83 @@
+//! The line between two points, and the coefficients that its parts give.
+ghost use Rattle.std.specs.Prelude.{◌≡◌, ◌<◌, ◌≤◌, ◌^◌, length, unsigned_abs};
+ghost use Rattle.candidate_tables.specs.Lines.{length_squared, x_at, y_at};
+ghost use Rattle.design_rows.specs.Equations.{by_x, by_y, cosine, sine, x_part, y_part};
+
+use coefficient_round::{dir_coef, dist_coef};
+use point_tables::Points;
+
+// A number for each of the two parts of a line, along x and along y.
+#[derive(Clone, Copy)]
+pub(crate) struct LineParts {
+    pub(crate) x: i64,
+    pub(crate) y: i64,
+}
+
+// The coordinate x of a point in millimetres, and 0 where it has none.
+fn x_of(points: &Points, place: u32) -> i64
+    requires { place < length points.now }
+    ensures value { result ≡ x_at points.now place }
+    ensures size { unsigned_abs result ≤ 10 ^ 11 }
+{
+    points.get(place).x.unwrap_or(0)
+}
+
+// The coordinate y of a point in millimetres, and 0 where it has none.
+fn y_of(points: &Points, place: u32) -> i64
+    requires { place < length points.now }
+    ensures value { result ≡ y_at points.now place }
+    ensures size { unsigned_abs result ≤ 10 ^ 11 }
+{
+    points.get(place).y.unwrap_or(0)
+}
+
+// The parts of the line between two points, in millimetres.
+fn line_between(points: &Points, from: u32, to: u32) -> LineParts
+    requires from { from < length points.now }
+    requires to { to < length points.now }
+    ensures x { result.x ≡ x_part points.now from to }
+    ensures y { result.y ≡ y_part points.now from to }
+    ensures x_size { unsigned_abs result.x < 2 ^ 62 }
+    ensures y_size { unsigned_abs result.y < 2 ^ 62 }
+{
+    LineParts {
+        x: x_of(points, to) - x_of(points, from),
+        y: y_of(points, to) - y_of(points, from),
+    }
+}
+
+// 10000 times the cosine and the sine of the bearing.
+pub(crate) fn distance_parts(points: &Points, from: u32, to: u32) -> LineParts
+    requires from { from < length points.now }
+    requires to { to < length points.now }
+    requires least { 10 ^ 6 ≤ length_squared points.now from to }
+    requires most { length_squared points.now from to ≤ 10 ^ 16 }
+    ensures x { result.x ≡ cosine points.now from to }
+    ensures y { result.y ≡ sine points.now from to }
+    ensures x_size { unsigned_abs result.x ≤ 10000 }
+    ensures y_size { unsigned_abs result.y ≤ 10000 }
+{
+    let line = line_between(points, from, to);
+    LineParts {
+        x: dist_coef(line.x, line.x, line.y),
+        y: dist_coef(line.y, line.x, line.y),
+    }
+}
+
+// 10000 times the change of the bearing in cc by a millimetre, from each part of the line.
+pub(crate) fn direction_parts(points: &Points, from: u32, to: u32) -> LineParts
+    requires from { from < length points.now }
+    requires to { to < length points.now }
+    requires least { 10 ^ 8 ≤ length_squared points.now from to }
+    requires most { length_squared points.now from to ≤ 10 ^ 16 }
+    ensures x { result.x ≡ by_x points.now from to }
+    ensures y { result.y ≡ by_y points.now from to }
+    ensures x_size { unsigned_abs result.x ≤ 636620 }
+    ensures y_size { unsigned_abs result.y ≤ 636620 }
+{
+    let line = line_between(points, from, to);
+    LineParts {
+        x: dir_coef(line.x, line.x, line.y),
+        y: dir_coef(line.y, line.x, line.y),
+    }
+}
