@@ -1,0 +1,9 @@
+use Rattle.std.proofs.Common.{◌∙◌, ◌++◌, [], ◌∷◌, List, ap₂}
+use Rattle.geo_model.specs.Limit.{SquareOf}
+use Rattle.net_build.proofs.PartFacts.{alpha-is, height-is}
+use Rattle.net_build.proofs.point_limits.height_limit.Goals as goal
+
+pub returns : goal.returns
+returns c =
+    height-is c.args.columns.now c.args.point c.args.tenths _ c.push.new.self.items (alpha-is c.args.tenths c.requires)
+    (c.in_ok-push.ensures.items ∙ ap₂ (λ (l : List SquareOf) (x : SquareOf). l ++ x ∷ []) c.new-squares.ensures.items c.in_ok-square_on.ensures)

@@ -1,0 +1,15 @@
+//! The network of a points table and a candidates table, with its limits.
+#![tactic(auto)]
+
+mod candidates;
+mod counts;
+mod laws;
+mod network;
+mod point_limits;
+mod redundancy;
+
+pub use laws::built_networks_are_networks;
+pub use network::build;
+
+#[cfg(test)]
+mod tests;
