@@ -1,0 +1,60 @@
+ghost use Rattle.std.specs.Prelude.{◌≡◌, length, IfOk};
+
+use crate::rows_text;
+use candidate_tables::{Candidates, read_candidates};
+use geo_base::NoMemory;
+use geo_model::{Candidate, Component, Network, Row, Unknown};
+use point_tables::{Points, read_points};
+use std::alloc::Global;
+use std::test::Fail;
+
+const POINTS: &[u8] = b"name,x,y,z,plane,height\nA,0.000,0.000,,fixed,\nP,30.000,40.000,,8.0,\n";
+
+const CANDIDATES: &[u8] =
+    b"name,kind,from,to,to2,sd,sdh,price\nd1,distance,A,P,,2.00,,1\nr1,direction,A,P,,10.00,,1\n";
+
+// The text that another program prints for these tables.
+const ROWS: &[u8] =
+    b"unknown,0,P,x\nunknown,1,P,y\nunknown,2,A,turn\nrow,d1,1,2500,0:6000,1:8000\nrow,r1,1,100,0:-101859,1:76394,2:-10000\n";
+
+fn unknown(point: u32, component: Component) -> Unknown
+    ensures { result ≡ record { point = point; component = component } }
+{
+    Unknown { point, component }
+}
+
+// The network of the two tables.
+fn network(alloc: Global) -> Result<Network, NoMemory>
+    ensures { IfOk result (λ network. (length network.unknowns ≡ 3) × (length network.candidates ≡ 2)) }
+{
+    let unknowns = vec![in alloc;
+        unknown(1, Component::X),
+        unknown(1, Component::Y),
+        unknown(0, Component::Turn),
+    ]?;
+    let distance = Row::new(vec![in alloc; (0, 6000), (1, 8000)]?, 2500);
+    let direction = Row::new(vec![in alloc; (0, -101859), (1, 76394), (2, -10000)]?, 100);
+    let first = Candidate {
+        price: 1,
+        rows: vec![in alloc; distance]?,
+    };
+    let second = Candidate {
+        price: 1,
+        rows: vec![in alloc; direction]?,
+    };
+    let candidates = vec![in alloc; first, second]?;
+    Ok(Network::new(unknowns, candidates, vec![in alloc]?))
+}
+
+#[test]
+fn a_distance_and_a_direction(rt: HostRuntime) -> Result<(), Fail> {
+    let alloc = rt.alloc();
+    let points = read_points(alloc, POINTS)?;
+    let candidates = read_candidates(alloc, CANDIDATES, &points)?;
+    let network = network(alloc)?;
+    assert_eq!(rt; points.len(), 2);
+    assert_eq!(rt; candidates.len(), 2);
+    let text = rows_text(alloc, &points, &candidates, &network)?;
+    assert_eq!(rt; text.as_slice(), ROWS);
+    Ok(())
+}
