@@ -1,0 +1,25 @@
+//! The verdict of a plan on a limit of a network: met for all displacements, refuted by one, or open.
+#![tactic(auto)]
+
+mod chain;
+mod judging;
+mod laws;
+mod plan;
+mod quotient;
+mod room;
+mod side;
+mod step;
+mod stop;
+#[cfg(test)]
+mod tests;
+
+pub use chain::{Stop, run_chain};
+pub use judging::verdict;
+pub use laws::{
+    certified_plans_meet_limits, met_is_sound, open_intervals_contain_zero, refuted_is_sound,
+    refuted_plans_fail,
+};
+pub use room::ChainRoom;
+pub use side::Side;
+pub use step::take_step;
+pub use stop::stop_of;
