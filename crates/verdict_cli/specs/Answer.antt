@@ -1,6 +1,5 @@
 -- What is printed: for each plan its verdict on each limit, a line each. This project's own.
-use Rattle.std.specs.Prelude.{ℕ, ◌==◌, ◌&&◌, ◌||◌, Bool, List, ◌++◌, length, map, flat_map, codes}
-use Rattle.std.specs.Fmt.{decimal}
+use Rattle.std.specs.Prelude.{ℕ, ◌==◌, ◌&&◌, ◌||◌, Bool, List, ◌++◌, length, map, flat_map, codes, pos}
 use Rattle.std.specs.List.{list_all}
 use Rattle.lent_parts.specs.Pieces.{TextLineOf, lines_of}
 use Rattle.text_num.specs.Whole.{whole_text}
@@ -29,9 +28,13 @@ refusal_of answer.NoMemory = refused.NoMemory
 abbrev pub is_one : ℕ → Bool
 is_one c = c == 49
 
+-- 48 is the digit 0
+abbrev pub is_plan_digit : ℕ → Bool
+is_plan_digit c = (c == 48) || (c == 49)
+
 -- a digit 0 or 1 for each of m candidates
 abbrev pub is_plan : ℕ → List ℕ → Bool
-is_plan m line = (length line == m) && list_all (λ c. (c == 48) || (c == 49)) line
+is_plan m line = (length line == m) && list_all is_plan_digit line
 
 -- a candidate is chosen where its digit is 1
 abbrev pub plan_of : List ℕ → List Bool
@@ -43,7 +46,7 @@ unfoldable pub verdict_line : Verdict → List ℕ
 verdict_line Met = codes "met\n"
 verdict_line Refuted = codes "refuted\n"
 verdict_line (Open step lo hi) =
-    codes "open," ++ (decimal step ++ (codes "," ++ (whole_text lo ++ (codes "," ++ (whole_text hi ++ codes "\n")))))
+    codes "open," ++ (whole_text (pos step) ++ (codes "," ++ (whole_text lo ++ (codes "," ++ (whole_text hi ++ codes "\n")))))
 
 -- the verdicts of a plan on all limits
 abbrev pub verdict_lines : NetworkOf → List Bool → List ℕ

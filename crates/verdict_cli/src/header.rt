@@ -1,5 +1,5 @@
 //! The first line: four numbers with one space between each two.
-ghost use Rattle.std.specs.Prelude.{◌≡◌, IfSome, IfNone, Some, None, [], ◌∷◌};
+ghost use Rattle.std.specs.Prelude.{◌≡◌, ◌≤◌, IfSome, IfNone, Some, None, [], ◌∷◌};
 ghost use Rattle.lent_parts.specs.Pieces.{tokens_of};
 ghost use Rattle.bound_log.specs.LogLines.{words_of};
 ghost use Rattle.verdict_cli.specs.Request.{header_of, number_in};
@@ -30,6 +30,7 @@ pub struct Header {
 pub fn read_header(line: &[u8]) -> Option<Header>
     ensures some { IfSome result (λ header. header_of line.now ≡ Some header) }
     ensures none { IfNone result (header_of line.now ≡ None) }
+    ensures redundancy { IfSome result (λ header. header.redundancy ≤ 999) }
 {
     let words = four_words(line)?;
     let points = read_number(words.points, 0, MOST_BYTES)?;
@@ -76,7 +77,8 @@ fn four_words(line: &[u8]) -> Option<HeaderWords<'_>>
 
 // The whole number that a word stands for, where it is within these bounds.
 fn read_number(word: &[u8], least: u32, most: u32) -> Option<u32>
-    ensures { result ≡ number_in least most word.now }
+    ensures value { result ≡ number_in least most word.now }
+    ensures most { IfSome result (λ number. number ≤ most) }
 {
     let Some(value) = read_decimal(word, 0) else {
         return None;

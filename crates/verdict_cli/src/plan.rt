@@ -1,5 +1,6 @@
-ghost use Rattle.std.specs.Prelude.{◌≡◌, map, IfOk, IsErrOf, IsTrue, IsFalse};
-ghost use Rattle.verdict_cli.specs.Answer.{is_one, is_plan, plan_of};
+ghost use Rattle.std.specs.Prelude.{◌≡◌, length, IfOk, IsErrOf, IsTrue, IsFalse};
+ghost use Rattle.std.specs.List.{list_all};
+ghost use Rattle.verdict_cli.specs.Answer.{is_plan, is_plan_digit, plan_of};
 ghost use Rattle.verdict_cli.specs.declared.refusal.Refusal.TheVariants as refused;
 
 use crate::refusal::Refusal;
@@ -10,6 +11,7 @@ use std::alloc::Global;
 /// the line isn't one.
 pub fn read_plan(alloc: Global, line: &[u8], m: u32) -> Result<Plan, Refusal>
     ensures plan { IfOk result (λ plan. plan ≡ plan_of line.now) }
+    ensures places { IfOk result (λ plan. length plan ≡ m) }
     ensures read { IfOk result (λ plan. IsTrue (is_plan m line.now)) }
     ensures refused { IsErrOf result refused.Plan → IsFalse (is_plan m line.now) }
 {
@@ -29,5 +31,21 @@ pub fn read_plan(alloc: Global, line: &[u8], m: u32) -> Result<Plan, Refusal>
 fn is_plan(line: &[u8], m: u32) -> bool
     ensures { result ≡ is_plan m line.now }
 {
-    line.len() == m as usize && line.iter().all(|c| *c == b'0' || *c == b'1')
+    if line.len() == m as usize {
+        are_plan_digits(line)
+    } else {
+        false
+    }
+}
+
+fn are_plan_digits(line: &[u8]) -> bool
+    ensures { result ≡ list_all is_plan_digit line.now }
+{
+    line.iter().all(|c| is_plan_digit(*c))
+}
+
+fn is_plan_digit(c: u8) -> bool
+    ensures { result ≡ is_plan_digit c }
+{
+    c == b'0' || c == b'1'
 }

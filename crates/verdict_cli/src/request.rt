@@ -1,4 +1,4 @@
-ghost use Rattle.std.specs.Prelude.{◌≡◌, ◌≤◌, IfSome, IfNone, Some, None, drop, length};
+ghost use Rattle.std.specs.Prelude.{◌≡◌, ◌+◌, ◌≤◌, IfSome, IfNone, Some, None, drop};
 ghost use Rattle.verdict_cli.specs.Request.{parts_of, request_of, request_seen};
 
 use crate::header::{Header, read_header};
@@ -18,6 +18,7 @@ pub struct Request<'a> {
 pub fn read_request(input: &[u8]) -> Option<Request<'_>>
     ensures some { IfSome result (λ request. request_of input.now ≡ Some (request_seen request)) }
     ensures none { IfNone result (request_of input.now ≡ None) }
+    ensures redundancy { IfSome result (λ request. request.redundancy ≤ 999) }
 {
     let Some(line) = lines(input).next() else {
         return None;
@@ -42,6 +43,7 @@ fn after(text: &[u8], length: usize) -> &[u8]
 fn read_parts(header: Header, rest: &[u8]) -> Option<Request<'_>>
     ensures some { IfSome result (λ request. parts_of header rest.now ≡ Some (request_seen request)) }
     ensures none { IfNone result (parts_of header rest.now ≡ None) }
+    ensures redundancy { IfSome result (λ request. request.redundancy ≡ header.redundancy) }
 {
     let points = header.points as usize;
     let candidates = header.candidates as usize;
