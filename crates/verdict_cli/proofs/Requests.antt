@@ -1,8 +1,8 @@
 -- The parts of an input by what its first line says.
-use Rattle.std.proofs.Common.{◌≡◌, ◌∙◌, ◌+◌, ℕ, List, [], ◌∷◌, Option, None, Some, length, drop, sym, ap}
+use Rattle.std.proofs.Common.{◌≡◌, ◌∙◌, ◌+◌, ℕ, List, [], ◌∷◌, None, Some, length, drop, sym, ap}
 use Rattle.lent_parts.specs.Pieces.{TextLineOf, lines_of}
 use Rattle.verdict_cli.specs.declared.header.Header.{Header}
-use Rattle.verdict_cli.specs.Request.{RequestOf, header_of, parts_after, parts_of, request_from, request_of}
+use Rattle.verdict_cli.specs.Request.{header_of, parts_after, parts_of, request_from, request_of}
 
 pub without_line : (input : List ℕ) → lines_of input ≡ [] → request_of input ≡ None
 unfolding request_of

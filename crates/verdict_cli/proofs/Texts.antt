@@ -1,7 +1,6 @@
 -- Texts that are put together piece by piece.
 use Rattle.std.proofs.Common.{ℤ, pos, codes, ◌≡◌, ◌∙◌, ◌+◌, ◌<◌, ℕ, zero, suc, List, [], ◌∷◌, ◌++◌, Some, length, take, refl, sym, ap, arith, slice_get, append-nil, append_assoc}
 use Rattle.std.specs.List.{flat_map}
-use Rattle.std.proofs.lemmas.List.{take_more, length-map}
 use Rattle.std.proofs.lemmas.List.Concat.{flat_map-append}
 use Rattle.text_num.specs.Whole.{whole_text}
 use Rattle.geo_model.specs.declared.verdict.Verdict.TheVariants.{Open}

@@ -7,10 +7,9 @@ mod header;
 mod plan;
 mod refusal;
 mod request;
-mod verdicts;
-
 #[cfg(test)]
 mod tests;
+mod verdicts;
 
 use answer::put_answer;
 use refusal::Refusal;

@@ -31,13 +31,7 @@ pub fn put_verdict(out: &mut Vec<u8>, verdict: Verdict) -> Result<(), NoMemory>
 }
 
 // The verdict of a plan on a limit, reckoned so many times.
-fn repeated(
-    room: &mut ChainRoom,
-    network: &Network,
-    plan: &Plan,
-    limit: u32,
-    times: u32,
-) -> Verdict
+fn repeated(room: &mut ChainRoom, network: &Network, plan: &Plan, limit: u32, times: u32) -> Verdict
     requires room { IsRoomOf network.now room.old }
     requires plan { length plan.now ≡ length network.now.candidates }
     requires limit { limit < length network.now.limits }

@@ -1,5 +1,4 @@
 use Rattle.std.proofs.Common.{◌≡◌, ◌++◌}
-use Rattle.lent_parts.specs.Pieces.{lines_of}
 use Rattle.pivot_chain.specs.Room.{IsRoomOf}
 use Rattle.verdict_cli.specs.Answer.{lines_for, plans_lines}
 use Rattle.verdict_cli.proofs.answer.put_plans.Given as goal

@@ -1,6 +1,5 @@
-use Rattle.std.proofs.Common.{◌≡◌, ◌∙◌, length, sym, arith}
-use Rattle.std.proofs.lemmas.List.{length-map}
-use Rattle.verdict_cli.specs.Answer.{is_one, plan_of}
+use Rattle.std.proofs.Common.{◌∙◌, sym, arith}
+use Rattle.verdict_cli.specs.Answer.{plan_of}
 use Rattle.pivot_chain.proofs.Plans.{same_plan}
 use Rattle.verdict_cli.proofs.Digits.{plan-places}
 use Rattle.verdict_cli.proofs.plan.read_plan.Goals as goal
