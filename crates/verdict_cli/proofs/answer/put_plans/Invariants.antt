@@ -1,0 +1,10 @@
+use Rattle.std.proofs.Common.{◌≡◌, ◌++◌}
+use Rattle.pivot_chain.specs.Room.{IsRoomOf}
+use Rattle.verdict_cli.specs.Answer.{lines_for, plans_lines}
+use Rattle.verdict_cli.proofs.answer.put_plans.Given as goal
+
+abbrev pub invariant-loop-line : goal.invariant-loop-line
+invariant-loop-line l = record {
+  room : IsRoomOf l.network l.room;
+  lines : l.out.items ++ lines_for l.network l.line-iterator ≡ l.fn.out.items ++ plans_lines l.network l.plans;
+}
