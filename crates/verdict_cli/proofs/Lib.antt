@@ -1,3 +1,4 @@
 mod Texts
 mod Digits
 mod Requests
+mod Refusals

@@ -1,19 +1,21 @@
 -- What is printed: for each plan its verdict on each limit, a line each. This project's own.
-use Rattle.std.specs.Prelude.{ℕ, ◌==◌, ◌&&◌, ◌||◌, Bool, List, ◌++◌, length, map, flat_map, codes, pos}
+use Rattle.std.specs.Prelude.{◌≡◌, ℕ, IsFalse, None, Some, ◌==◌, ◌&&◌, ◌||◌, Bool, List, Option, ◌++◌, length, map, flat_map, codes, pos}
 use Rattle.std.specs.List.{list_all}
 use Rattle.lent_parts.specs.Pieces.{TextLineOf, lines_of}
 use Rattle.text_num.specs.Whole.{whole_text}
-use Rattle.point_tables.specs.PointTable.{points_of}
+use Rattle.point_tables.specs.PointTable.{points_fault, points_of}
+use Rattle.point_tables.specs.declared.fault.FaultKind.{FaultKind}
+use Rattle.point_tables.specs.declared.fault.TableName.TheVariants as table
 use Rattle.point_tables.specs.declared.fault.TableAnswer.{TableAnswer}
 use Rattle.point_tables.specs.declared.fault.TableAnswer.TheVariants as answer
-use Rattle.candidate_tables.specs.CandidateTable.{candidates_of}
+use Rattle.candidate_tables.specs.CandidateTable.{candidates_fault, candidates_of}
 use Rattle.geo_model.specs.Limit.{LimitOf}
 use Rattle.geo_model.specs.Network.{NetworkOf}
 use Rattle.geo_model.specs.declared.verdict.Verdict.{Verdict}
 use Rattle.geo_model.specs.declared.verdict.Verdict.TheVariants.{Met, Refuted, Open}
-use Rattle.net_build.specs.Build.{network_of}
+use Rattle.net_build.specs.Build.{network_fault, network_of}
 use Rattle.pivot_chain.specs.Verdict.{verdict_of}
-use Rattle.verdict_cli.specs.Request.{RequestOf}
+use Rattle.verdict_cli.specs.Request.{RequestOf, request_of}
 use Rattle.verdict_cli.specs.declared.refusal.Refusal.{Refusal}
 use Rattle.verdict_cli.specs.declared.refusal.Refusal.TheVariants as refused
 
@@ -67,3 +69,53 @@ network_for request = network_of (points_of request.points) (candidates_of (poin
 -- all that is printed for a request
 abbrev pub answer_of : RequestOf → List ℕ
 answer_of request = plans_lines (network_for request) request.plans
+
+-- the input has the parts of a request, of which this holds
+abbrev pub HasRequest : List ℕ → (RequestOf → Type 0) → Type 0
+HasRequest input Holds = (request : RequestOf) × (request_of input ≡ Some request) × Holds request
+
+-- the text is what is added for an input
+abbrev pub IsAnswered : List ℕ → List ℕ → List ℕ → Type 0
+IsAnswered input before after = HasRequest input (λ request. after ≡ before ++ answer_of request)
+
+-- ---- refusals
+
+-- the table, or the network of both, has a first fault
+abbrev pub HasFault : Option (ℕ × FaultKind) → Type 0
+HasFault fault = (first : ℕ × FaultKind) × (fault ≡ Some first)
+
+-- what a refusal tells of the tables of a request: the one that it names has a fault
+abbrev pub RefusesTables : RequestOf → Refusal → Type 0
+RefusesTables request (refused.Table table.Points) = HasFault (points_fault request.points)
+RefusesTables request (refused.Table table.Candidates) = HasFault (candidates_fault (points_of request.points) request.candidates)
+RefusesTables request (refused.Table table.Network) =
+    HasFault (network_fault (points_of request.points) (candidates_of (points_of request.points) request.candidates))
+RefusesTables request refused.NoMemory = Unit {0}
+RefusesTables request refused.Request = ⊥
+RefusesTables request refused.Plan = ⊥
+
+-- .. of a line
+abbrev pub RefusesPlan : ℕ → List ℕ → Refusal → Type 0
+RefusesPlan m line refused.Plan = IsFalse (is_plan m line)
+RefusesPlan m line refused.NoMemory = Unit {0}
+RefusesPlan m line refused.Request = ⊥
+RefusesPlan m line (refused.Table name) = ⊥
+
+-- each line is a plan of m candidates
+abbrev pub are_plans : ℕ → List TextLineOf → Bool
+are_plans m lines = list_all (λ (line : TextLineOf). is_plan m line.text) lines
+
+-- .. of a text of plans
+abbrev pub RefusesPlans : ℕ → List ℕ → Refusal → Type 0
+RefusesPlans m plans refused.Plan = IsFalse (are_plans m (lines_of plans))
+RefusesPlans m plans refused.NoMemory = Unit {0}
+RefusesPlans m plans refused.Request = ⊥
+RefusesPlans m plans (refused.Table name) = ⊥
+
+-- .. of a whole input
+abbrev pub Refuses : List ℕ → Refusal → Type 0
+Refuses input refused.Request = request_of input ≡ None
+Refuses input (refused.Table name) = HasRequest input (λ request. RefusesTables request (refused.Table name))
+Refuses input refused.Plan =
+    HasRequest input (λ request. RefusesPlans (length (network_for request).candidates) request.plans refused.Plan)
+Refuses input refused.NoMemory = Unit {0}

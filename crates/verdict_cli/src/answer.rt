@@ -1,12 +1,11 @@
 //! All that is printed for an input.
-ghost use Rattle.std.specs.Prelude.{◌≡◌, ◌++◌, ◌≤◌, OnOk, IfOk};
-ghost use Rattle.std.specs.Option.{ForSome};
+ghost use Rattle.std.specs.Prelude.{◌≡◌, ◌++◌, ◌≤◌, OnOk, IfOk, IfErr, length};
 ghost use Rattle.pivot_chain.specs.Room.{IsRoomOf};
-ghost use Rattle.verdict_cli.specs.Request.{request_of, request_seen};
-ghost use Rattle.verdict_cli.specs.Answer.{answer_of, network_for, plans_lines};
+ghost use Rattle.verdict_cli.specs.Request.{request_seen};
+ghost use Rattle.verdict_cli.specs.Answer.{IsAnswered, Refuses, RefusesPlans, RefusesTables, network_for, plans_lines};
 
 use crate::plan::read_plan;
-use crate::refusal::Refusal;
+use crate::refusal::{Refusal, refusal_of};
 use crate::request::{Request, read_request};
 use crate::verdicts::put_verdicts;
 use candidate_tables::read_candidates;
@@ -20,24 +19,40 @@ use std::alloc::Global;
 /// Appends what is printed for an input: for each plan, in their order, its verdict on each limit of the
 /// network of both tables, a line each. After a refusal `out` has some of it.
 pub fn put_answer(alloc: Global, input: &[u8], out: &mut Vec<u8>) -> Result<(), Refusal>
-    ensures { OnOk result (ForSome (request_of input.now) (λ request. out.new.items ≡ out.old.items ++ answer_of request)) }
+    ensures answer { OnOk result (IsAnswered input.now out.old.items out.new.items) }
+    ensures refused { IfErr result (Refuses input.now) }
 {
     let Some(request) = read_request(input) else {
         return Err(Refusal::Request);
     };
-    let network = network_of(alloc, &request)?;
-    put_plans(alloc, &network, request.plans, request.times, out)
+    let network = match network_of(alloc, &request) {
+        Ok(network) => network,
+        Err(refusal) => return Err(refusal),
+    };
+    match put_plans(alloc, &network, request.plans, request.times, out) {
+        Ok(()) => Ok(()),
+        Err(refusal) => Err(refusal),
+    }
 }
 
 // The network of the tables of a request.
 fn network_of(alloc: Global, request: &Request<'_>) -> Result<Network, Refusal>
     requires { request.now.redundancy ≤ 999 }
-    ensures { IfOk result (λ network. network ≡ network_for (request_seen request.now)) }
+    ensures network { IfOk result (λ network. network ≡ network_for (request_seen request.now)) }
+    ensures refused { IfErr result (RefusesTables (request_seen request.now)) }
 {
-    let points = read_points(alloc, request.points)?;
-    let candidates = read_candidates(alloc, request.candidates, &points)?;
-    let network = build(alloc, &points, &candidates, request.redundancy)?;
-    Ok(network)
+    let points = match read_points(alloc, request.points) {
+        Ok(points) => points,
+        Err(answer) => return Err(refusal_of(answer)),
+    };
+    let candidates = match read_candidates(alloc, request.candidates, &points) {
+        Ok(candidates) => candidates,
+        Err(answer) => return Err(refusal_of(answer)),
+    };
+    match build(alloc, &points, &candidates, request.redundancy) {
+        Ok(network) => Ok(network),
+        Err(answer) => Err(refusal_of(answer)),
+    }
 }
 
 // Appends the verdicts of each plan of a text.
@@ -48,13 +63,21 @@ fn put_plans(
     times: u32,
     out: &mut Vec<u8>,
 ) -> Result<(), Refusal>
-    ensures { OnOk result (out.new.items ≡ out.old.items ++ plans_lines network.now plans.now) }
+    ensures lines { OnOk result (out.new.items ≡ out.old.items ++ plans_lines network.now plans.now) }
+    ensures refused { IfErr result (RefusesPlans (length network.now.candidates) plans.now) }
 {
     let m = network.candidates().len() as u32;
-    let mut room = ChainRoom::new(alloc, network)?;
+    let Ok(mut room) = ChainRoom::new(alloc, network) else {
+        return Err(Refusal::NoMemory);
+    };
     for line in lines(plans) {
-        let plan = read_plan(alloc, line.text, m)?;
-        put_verdicts(out, &mut room, network, &plan, times)?;
+        let plan = match read_plan(alloc, line.text, m) {
+            Ok(plan) => plan,
+            Err(refusal) => return Err(refusal),
+        };
+        let Ok(()) = put_verdicts(out, &mut room, network, &plan, times) else {
+            return Err(Refusal::NoMemory);
+        };
     }
     Ok(())
 }

@@ -1,7 +1,6 @@
-ghost use Rattle.std.specs.Prelude.{◌≡◌, length, IfOk, IsErrOf, IsTrue, IsFalse};
+ghost use Rattle.std.specs.Prelude.{◌≡◌, length, IfOk, IfErr, IsTrue};
 ghost use Rattle.std.specs.List.{list_all};
-ghost use Rattle.verdict_cli.specs.Answer.{is_plan, is_plan_digit, plan_of};
-ghost use Rattle.verdict_cli.specs.declared.refusal.Refusal.TheVariants as refused;
+ghost use Rattle.verdict_cli.specs.Answer.{RefusesPlan, is_plan, is_plan_digit, plan_of};
 
 use crate::refusal::Refusal;
 use geo_model::Plan;
@@ -13,7 +12,7 @@ pub fn read_plan(alloc: Global, line: &[u8], m: u32) -> Result<Plan, Refusal>
     ensures plan { IfOk result (λ plan. plan ≡ plan_of line.now) }
     ensures places { IfOk result (λ plan. length plan ≡ m) }
     ensures read { IfOk result (λ plan. IsTrue (is_plan m line.now)) }
-    ensures refused { IsErrOf result refused.Plan → IsFalse (is_plan m line.now) }
+    ensures refused { IfErr result (RefusesPlan m line.now) }
 {
     if !is_plan(line, m) {
         return Err(Refusal::Plan);

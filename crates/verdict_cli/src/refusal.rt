@@ -1,7 +1,6 @@
 ghost use Rattle.std.specs.Prelude.{◌≡◌};
-ghost use Rattle.verdict_cli.specs.declared.refusal.Refusal.TheVariants as refused;
+ghost use Rattle.verdict_cli.specs.Answer.{refusal_of};
 
-use geo_base::NoMemory;
 use point_tables::{TableAnswer, TableName};
 
 /// Why there are no verdicts.
@@ -17,25 +16,13 @@ pub enum Refusal {
     NoMemory,
 }
 
-impl From<NoMemory> for Refusal {
-    ghost from_gives = { λ _ made. made ≡ refused.NoMemory };
-
-    fn from(_refused: NoMemory) -> Refusal {
-        Refusal::NoMemory
-    }
-}
-
-impl From<TableAnswer> for Refusal {
-    ghost use Rattle.std.specs.Prelude.{◌≡◌};
-    ghost use Rattle.verdict_cli.specs.Answer.{refusal_of};
-
-    ghost from_gives = { λ answer made. made ≡ refusal_of answer };
-
-    fn from(answer: TableAnswer) -> Refusal {
-        match answer {
-            TableAnswer::Fault(fault) => Refusal::Table(fault.table),
-            TableAnswer::NoMemory => Refusal::NoMemory,
-        }
+/// The refusal that a table, or the network of both, asks for.
+pub fn refusal_of(answer: TableAnswer) -> Refusal
+    ensures { result ≡ refusal_of answer }
+{
+    match answer {
+        TableAnswer::Fault(fault) => Refusal::Table(fault.table),
+        TableAnswer::NoMemory => Refusal::NoMemory,
     }
 }
 
