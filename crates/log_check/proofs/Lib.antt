@@ -1,0 +1,4 @@
+pub mod RunLemmas
+pub mod TextLemmas
+pub mod RuleLemmas
+pub mod VerdictLemmas

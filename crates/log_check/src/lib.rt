@@ -1,0 +1,9 @@
+//! The replay of a log: its bound and the counts of its lines, or its first fault. It stands on no
+//! part of the search.
+#![tactic(auto)]
+
+mod fault;
+mod laws;
+
+pub use fault::{LogFault, LogKind, ReplayAnswer};
+pub use laws::{each_text_has_one_verdict, rules_say_what_is_allowed};
