@@ -1,3 +1,4 @@
 pub mod FirstFault
+pub mod Replayed
 pub mod Rules
 pub mod Running

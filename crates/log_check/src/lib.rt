@@ -4,6 +4,8 @@
 
 mod fault;
 mod laws;
+mod replaying;
 
 pub use fault::{LogFault, LogKind, ReplayAnswer};
 pub use laws::{each_text_has_one_verdict, rules_say_what_is_allowed};
+pub use replaying::{Replayed, replay};
