@@ -5,7 +5,7 @@ use Rattle.geoplan.proofs.answer.answer_plan.Goals as goal
 
 pub returns-in-Ok-solve : goal.returns-in-Ok-solve
 returns-in-Ok-solve g c =
-    PlanStands-reported (job_view c.args.job.now) c.in-Ok.tables c.in-Ok-solve.done
+    PlanStands-reported (job_view c.args.job.now) c.in-Ok.accepted.tables c.in-Ok.accepted.log.items c.in-Ok-solve.done
     (state_of g.H.Shelf.held g.H.Shelf.faults g.H.Shelf.last_fault g.H.Shelf.started c.args.shelf.now)
     (state_of g.H.Shelf.held g.H.Shelf.faults g.H.Shelf.last_fault g.H.Shelf.started c.tables_of.new.shelf)
     (state_of g.H.Shelf.held g.H.Shelf.faults g.H.Shelf.last_fault g.H.Shelf.started c.solve.new.shelf)
