@@ -1,9 +1,9 @@
 -- Laws of reading the tables and of what they give.
-use Rattle.std.proofs.Common.{◌≡◌, ◌+◌, ◌<◌, ◌≤◌, ℕ, Bool, true, false, if◌then◌else◌, List, [], ◌∷◌, ◌++◌, length, refl, sym, ap, ◌∙◌, ◌⊎◌, inl, inr, subst, arith, Option, Some, None}
+use Rattle.std.proofs.Common.{◌≡◌, ◌+◌, ◌<◌, ◌≤◌, ℕ, Bool, true, false, if◌then◌else◌, List, [], ◌∷◌, ◌++◌, length, refl, sym, ◌∙◌, subst, arith, Some, None}
 use Rattle.std.specs.Prelude.{All}
 use Rattle.std.specs.Option.{option_map}
 use Rattle.shelf_io.specs.Files.{bytes_of}
-use Rattle.shelf_io.specs.Faults.{Rose, KeepsFaults, read_of}
+use Rattle.shelf_io.specs.Faults.{KeepsFaults}
 use Rattle.std.specs.List.{AllByRecursion, enumerate_from, flat_map}
 use Rattle.std.proofs.lemmas.List.{length-map}
 use Rattle.geo_model.specs.Network.{NetworkOf, IsNetwork}
@@ -17,17 +17,15 @@ use Rattle.design_rows.proofs.EntryFacts.{all-of}
 use Rattle.design_rows.proofs.UnknownFacts.{every-append, every-weaker}
 use Rattle.net_build.specs.Build.{candidate_of, network_of}
 use Rattle.geoplan.specs.CommandOf.{SourcesOf}
-use Rattle.geoplan.specs.Input.{most_bytes, judged_input, log_name}
-use Rattle.geoplan.specs.Loading.{ReadsFile, ReadsLog, FailsRead, FailsLog, IsGoodInput, Loads, FailsAt, FailsLoad}
+use Rattle.geoplan.specs.Input.{most_bytes, judged_input}
+use Rattle.geoplan.specs.Loading.{ReadsFile, ReadsLog, IsGoodInput, Loads}
 use Rattle.geoplan.specs.Standing.{IsGoodNetwork}
 use Rattle.geoplan.specs.Tables.{TablesOf}
 use Rattle.geoplan.specs.declared.input.Input.{Input}
 use Rattle.geoplan.specs.declared.input.Input.TheVariants as input
 use Rattle.geoplan.specs.declared.input.File.{File}
 use Rattle.geoplan.specs.declared.input.File.TheVariants as file
-use Rattle.geoplan.specs.declared.load.LoadFault.{LoadFault}
-use Rattle.geoplan.specs.declared.load.LoadFault.TheVariants as load
-use Rattle.geoplan.specs.declared.load.ReadFault.TheVariants as read
+
 use Rattle.geoplan.proofs.InputLemmas.{input_from-long_points, input_from-long_candidates, input_from-long_log, input_from-judged, long_log, short_log, log_held}
 
 -- ---- reading
@@ -83,47 +81,6 @@ Loads-judged sources points candidates log given before first second now one two
   held = three.held ∙ two.held ∙ one.held;
   quiet = keeps before second now three.quiet (keeps before first second two.quiet one.quiet);
 }
-
--- ---- a read that failed
-
-same_file : (one other : File) → load.Unread one ≡ load.Unread other → one ≡ other
-same_file one other is = cc
-
--- of the points
-pub FailsLoad-points : (sources : SourcesOf) (why : LoadFault) (before now : ShelfState) → why ≡ load.Unread file.Points → FailsRead sources.points read.Failed before now → FailsLoad sources why before now
-FailsLoad-points sources why before now is failed = record {
-  held = failed.held;
-  later = failed.later;
-  failed = λ which same. subst (λ w. FailsAt sources w before now) (same_file file.Points which (sym is ∙ same))
-      (record { rose = (failed.failed refl).0; last = (failed.failed refl).1; of_command = inl refl });
-}
-
--- of the candidates
-pub FailsLoad-candidates : (sources : SourcesOf) (why : LoadFault) (before middle now : ShelfState) → why ≡ load.Unread file.Candidates → middle.held ≡ before.held → middle.faults ≡ before.faults → FailsRead sources.candidates read.Failed middle now → FailsLoad sources why before now
-FailsLoad-candidates sources why before middle now is held count failed = record {
-  held = failed.held ∙ held;
-  later = subst (λ n. n ≤ now.faults) count failed.later;
-  failed = λ which same. subst (λ w. FailsAt sources w before now) (same_file file.Candidates which (sym is ∙ same))
-      (record { rose = subst (λ n. Rose n now.faults) count (failed.failed refl).0; last = (failed.failed refl).1; of_command = inr (inl refl) });
-}
-
--- of the log
-named : (log : Option (List ℕ)) (name : List ℕ) → log ≡ Some name → log_name log ≡ name
-named log name is = ap log_name is
-
-pub FailsLoad-log : (sources : SourcesOf) (why : LoadFault) (before middle now : ShelfState) → why ≡ load.Unread file.Log → middle.held ≡ before.held → middle.faults ≡ before.faults → FailsLog sources.log read.Failed middle now → FailsLoad sources why before now
-FailsLoad-log sources why before middle now is held count failed = record {
-  held = failed.held ∙ held;
-  later = subst (λ n. n ≤ now.faults) count failed.later;
-  failed = λ which same. subst (λ w. FailsAt sources w before now) (same_file file.Log which (sym is ∙ same)) (at (failed.failed refl));
-}
-  where
-    at : Rose middle.faults now.faults × ((name : List ℕ) × (sources.log ≡ Some name) × (now.last_fault ≡ Some (read_of name))) → FailsAt sources file.Log before now
-    at (rose, (name, asked, last)) = record {
-      rose = subst (λ n. Rose n now.faults) count rose;
-      last = last ∙ ap (λ n. Some (read_of n)) (sym (named sources.log name asked));
-      of_command = inr (inr (asked ∙ ap Some (sym (named sources.log name asked))));
-    }
 
 -- ---- the network
 

@@ -33,7 +33,7 @@ impl<'a> Sources<'a> {
 
 /// The name of a log, no bytes where none is read.
 fn log_name(log: Option<&str>) -> &str
-    ensures { result.now ≡ log_name (option_map (λ name. name.now) log) }
+    ensures { result.now ≡ log_name (option_map (λ name. name.now) log.entry) }
 {
     match log {
         Some(name) => name,

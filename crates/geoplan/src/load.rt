@@ -88,10 +88,10 @@ fn read_log<H: Shelf>(
     shelf: &mut H,
     log: Option<&str>,
 ) -> Result<Option<Vec<u8>>, ReadFault>
-    ensures read { IfOk result (λ read. ReadsLog (option_map (λ name. name.now) log) (option_map (λ bytes. bytes.items) read)
+    ensures read { IfOk result (λ read. ReadsLog (option_map (λ name. name.now) log.entry) (option_map (λ bytes. bytes.items) read)
         (state_of H.held H.faults H.last_fault H.started shelf.old)
         (state_of H.held H.faults H.last_fault H.started shelf.new)) }
-    ensures fault { IfErr result (λ why. FailsLog (option_map (λ name. name.now) log) why
+    ensures fault { IfErr result (λ why. FailsLog (option_map (λ name. name.now) log.entry) why
         (state_of H.held H.faults H.last_fault H.started shelf.old)
         (state_of H.held H.faults H.last_fault H.started shelf.new)) }
 {
