@@ -1,4 +1,7 @@
+pub mod HeightNetworks
+pub mod PlaceLemmas
+pub mod ReachLemmas
+pub mod RuleLemmas
 pub mod RunLemmas
 pub mod TextLemmas
-pub mod RuleLemmas
 pub mod VerdictLemmas

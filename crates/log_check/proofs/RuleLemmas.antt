@@ -1,5 +1,5 @@
 -- The rules of a line, and whether it is allowed.
-use Rattle.std.proofs.Common.{◌≡◌, ℕ, zero, suc, ◌<◌, List, [], ◌∷◌, ◌++◌, length, All, Some, arith, refl, ap, sym, ◌∙◌, subst}
+use Rattle.std.proofs.Common.{◌≡◌, ℕ, zero, suc, ◌<◌, ◌≤◌, true, false, List, [], ◌∷◌, ◌++◌, length, All, Some, arith, refl, sym, ◌∙◌, subst}
 use Rattle.std.specs.Prelude.{slice_get}
 use Rattle.std.proofs.lemmas.List.Elements.{All-nil, All-cons, All-head, All-tail}
 use Rattle.std.proofs.lemmas.Option.{slice_get_within}
@@ -109,3 +109,67 @@ first_of_order P (x ∷ xs) (y ∷ ys) a b us vs same kept also broken other =
 pub one_broken : (network : NetworkOf) (node : Node) (line : LineOf) (a b : LogKind) → IsFirstBroken network node line a → IsFirstBroken network node line b → a ≡ b
 one_broken network node line a b first second =
     first_of_order (KeepsRule network node line) first.before second.before a b first.after second.after (sym first.place ∙ second.place) first.kept second.kept first.broken second.broken
+
+-- ---- which rule a line breaks first
+
+-- a number is out of its range
+pub range_broken : (network : NetworkOf) (node : Node) (line : LineOf) → (IsInRange network line → ⊥) → IsFirstBroken network node line Range
+range_broken network node line outside = record {
+  before = [];
+  after = NotOpen ∷ Owner ∷ NotRefuted ∷ [];
+  place = refl;
+  kept = All-nil (KeepsRule network node line);
+  broken = outside;
+}
+
+pub split_out_of_range : (network : NetworkOf) (node : Node) (candidate : ℕ) → length network.candidates ≤ candidate → IsFirstBroken network node (split candidate) Range
+split_out_of_range network node candidate past = range_broken network node (split candidate) (λ inside. absurd (omega arith))
+
+pub pivot_out_of_range : (network : NetworkOf) (node : Node) (number : ℕ) → length network.limits ≤ number → IsFirstBroken network node (leaf (pivot number)) Range
+pivot_out_of_range network node number past = range_broken network node (leaf (pivot number)) (λ inside. absurd (omega arith))
+
+-- the candidate of a split isn't open
+pub open_broken : (network : NetworkOf) (node : Node) (candidate : ℕ) → candidate < length network.candidates → (IsOpenFor node (split candidate) → ⊥) → IsFirstBroken network node (split candidate) NotOpen
+open_broken network node candidate inside shut = record {
+  before = Range ∷ [];
+  after = Owner ∷ NotRefuted ∷ [];
+  place = refl;
+  kept = All-cons (KeepsRule network node (split candidate)) Range [] inside (All-nil (KeepsRule network node (split candidate)));
+  broken = shut;
+}
+
+pub not_in_upper : (network : NetworkOf) (node : Node) (candidate : ℕ) → candidate < length network.candidates → slice_get node.upper candidate ≡ Some false → IsFirstBroken network node (split candidate) NotOpen
+not_in_upper network node candidate inside out =
+    open_broken network node candidate inside (λ is_open. let same : Some true ≡ Some false = sym is_open.0 ∙ out in absurd (cc))
+
+pub already_inside : (network : NetworkOf) (node : Node) (candidate : ℕ) → candidate < length network.candidates → slice_get node.inside candidate ≡ Some true → IsFirstBroken network node (split candidate) NotOpen
+already_inside network node candidate inside chosen =
+    open_broken network node candidate inside (λ is_open. let same : Some false ≡ Some true = sym is_open.1 ∙ chosen in absurd (cc))
+
+-- the owner of a limit isn't chosen
+pub owner_broken : (network : NetworkOf) (node : Node) (number : ℕ) (limit : LimitOf) → slice_get network.limits number ≡ Some limit → (IsInForce limit node.inside → ⊥) → IsFirstBroken network node (leaf (pivot number)) Owner
+owner_broken network node number limit named not_chosen =
+    let P : LogKind → Type 0 = KeepsRule network node (leaf (pivot number)) in
+    record {
+      before = Range ∷ NotOpen ∷ [];
+      after = NotRefuted ∷ [];
+      place = refl;
+      kept = All-cons P Range (NotOpen ∷ []) (slice_get_within network.limits number limit named) (All-cons P NotOpen [] tt (All-nil P));
+      broken = λ has_owner. not_chosen (has_owner limit named);
+    }
+
+-- a limit doesn't refute the node
+pub verdict_broken : (network : NetworkOf) (node : Node) (number : ℕ) (limit : LimitOf) → slice_get network.limits number ≡ Some limit → IsInForce limit node.inside → (verdict_of network node.upper limit ≡ Refuted → ⊥) → IsFirstBroken network node (leaf (pivot number)) NotRefuted
+verdict_broken network node number limit named chosen other =
+    let P : LogKind → Type 0 = KeepsRule network node (leaf (pivot number)) in
+    record {
+      before = Range ∷ NotOpen ∷ Owner ∷ [];
+      after = [];
+      place = refl;
+      kept = All-cons P Range (NotOpen ∷ Owner ∷ []) (slice_get_within network.limits number limit named)
+          (All-cons P NotOpen (Owner ∷ []) tt
+          (All-cons P Owner []
+          (λ found also. subst (λ (l : LimitOf). IsInForce l node.inside) (same_limit network.limits number limit found named also) chosen)
+          (All-nil P)));
+      broken = λ is_refuted. other (is_refuted limit named);
+    }

@@ -4,8 +4,14 @@
 
 mod fault;
 mod laws;
+mod open_nodes;
+mod progress;
 mod replaying;
+mod rules;
 
 pub use fault::{LogFault, LogKind, ReplayAnswer};
 pub use laws::{each_text_has_one_verdict, rules_say_what_is_allowed};
 pub use replaying::{Replayed, replay};
+
+#[cfg(test)]
+mod tests;

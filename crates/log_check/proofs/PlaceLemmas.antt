@@ -1,0 +1,198 @@
+-- The places of open nodes, and copies of plans.
+use Rattle.std.proofs.Common.{◌≡◌, ℕ, zero, suc, ◌+◌, ◌-◌, ◌<◌, ◌≤◌, Bool, true, false, List, [], ◌∷◌, ◌++◌, length, replicate, get_or, take, drop, All, Some, eqb, arith, refl, ap, sym, ◌∙◌, subst}
+use Rattle.std.specs.Prelude.{slice_get, slice_set}
+use Rattle.std.proofs.lemmas.Bool.{eqb-true, eq-eqb}
+use Rattle.std.proofs.lemmas.List.{take_more_set, take_more, drop_more, get_or-replicate, length-replicate, length-drop, length-set, drop-set}
+use Rattle.std.proofs.lemmas.List.Elements.{All-set, All-from_get_or}
+use Rattle.std.proofs.lemmas.Option.{get_or_from_slice_get, slice_get-get_or}
+use Rattle.std.proofs.Math.ListN.{drop_of_length-le}
+use Rattle.std.proofs.Math.Seq.{take-length}
+use Rattle.geo_model.specs.declared.plan.Node.{Node}
+use Rattle.geo_model.specs.Network.{NetworkOf}
+use Rattle.bound_log.specs.LogTree.{with_chosen, without_chosen, IsOpenAt, IsAllowedLine}
+use Rattle.bound_log.specs.Tree.{LineOf, split, leaf}
+use Rattle.bound_log.proofs.SoundLemmas.{at_place}
+use Rattle.log_check.specs.Places.{OpenOf, HasEntries, ArePlaces, all_plans, open_count, HasRoom, IsReady}
+use Rattle.log_check.specs.Running.{opened, LeadsTo}
+
+-- ---- copies of plans
+
+-- one more entry is copied
+pub copied_more : (from to : List Bool) (i : ℕ) (b : Bool) → i < length to → i < length from → take i to ≡ take i from → slice_get from i ≡ Some b → take (i + 1) (slice_set to i b) ≡ take (i + 1) from
+copied_more from to i b inside within so_far here =
+    take_more_set to i b inside
+    ∙ ap (λ (front : List Bool). front ++ b ∷ []) so_far
+    ∙ ap (λ (c : Bool). take i from ++ c ∷ []) (sym (get_or_from_slice_get from i b b here))
+    ∙ sym (take_more from i b within)
+
+-- all entries are copied
+pub copied_all : (from to : List Bool) (n : ℕ) → length to ≡ n → length from ≡ n → take n to ≡ take n from → to ≡ from
+copied_all from to n long also same =
+    sym (take-length to) ∙ ap (λ (k : ℕ). take k to) long ∙ same ∙ ap (λ (k : ℕ). take k from) (sym also) ∙ take-length from
+
+-- ---- places that are made
+
+all_plans_long : (count : ℕ) → HasEntries count (all_plans count)
+all_plans_long count = record { inside_long = length-replicate count false; upper_long = length-replicate count true }
+
+pub places_are_made : (count : ℕ) (places : List Node) (spare : Node) → places ≡ replicate 257 (all_plans count) → spare ≡ all_plans count → ArePlaces count places spare 256
+places_are_made count places spare made whole = record {
+  many = ap length made ∙ length-replicate 257 (all_plans count);
+  within = omega arith;
+  long = subst (All (HasEntries count)) (sym made) (All-from_get_or (HasEntries count) (replicate 257 (all_plans count)) (all_plans count)
+      (λ k inside. let below : k < 257 = omega (arith, length-replicate 257 (all_plans count)) in
+      subst (HasEntries count) (sym (get_or-replicate 257 k (all_plans count) (all_plans count) below)) (all_plans_long count)));
+  spare_long = subst (HasEntries count) (sym whole) (all_plans_long count);
+}
+
+-- the last place holds the one open node
+pub last_place : {X : Type 0} (places : List X) (x : X) (n : ℕ) → places ≡ replicate (n + 1) x → drop n places ≡ x ∷ []
+last_place places x n made =
+    let long : length places ≡ n + 1 = ap length made ∙ length-replicate (n + 1) x in
+    let inside : n < length places = omega arith in
+    drop_more places n x inside
+    ∙ ap (λ y. y ∷ drop (n + 1) places) (ap (λ l. get_or l n x) made ∙ get_or-replicate (n + 1) n x x (omega arith))
+    ∙ ap (λ l. x ∷ l) (drop_of_length-le places (omega arith))
+
+pub places_made : (count : ℕ) (places : List Node) → places ≡ replicate 257 (all_plans count) → drop 256 places ≡ all_plans count ∷ []
+places_made count places made = last_place places (all_plans count) 256 made
+
+-- ---- open nodes in their places
+
+-- a list that isn't empty
+pub record HeadTail {X : Type 0} (xs : List X) : Type 0 where
+  pub first : X
+  pub rest : List X
+  pub is : xs ≡ first ∷ rest
+
+pub head_tail : {X : Type 0} (xs : List X) → 0 < length xs → HeadTail xs
+head_tail [] some = absurd (omega arith)
+head_tail (x ∷ xs) some = record { first = x; rest = xs; is = refl }
+
+-- no node is open exactly where all places are free
+pub empty_test : (places nodes : List Node) (free : ℕ) → length places ≡ 257 → free ≤ 257 → drop free places ≡ nodes → (eqb free 257 ≡ true → nodes ≡ []) × (nodes ≡ [] → eqb free 257 ≡ true)
+empty_test places nodes free many within view = (
+  λ yes'. let all : free ≡ 257 = eqb-true free 257 yes' in sym view ∙ drop_of_length-le places (omega arith),
+  λ none.
+      let long : length (drop free places) ≡ 0 = ap length (view ∙ none) in
+      let all : free ≡ 257 = omega (arith, length-drop free places) in
+      eq-eqb free 257 all,
+)
+
+-- a free place is before the first open node
+pub open_within : {X : Type 0} (places : List X) (first : X) (rest : List X) (free : ℕ) → drop free places ≡ first ∷ rest → free < length places
+open_within places first rest free view =
+    let long : length (drop free places) ≡ length (first ∷ rest) = ap length view in
+    omega (arith, length-drop free places)
+
+pub popped : {X : Type 0} (places : List X) (first : X) (rest : List X) (free : ℕ) → drop free places ≡ first ∷ rest → drop (free + 1) places ≡ rest
+popped places first rest free view =
+    let both : get_or places free first ∷ drop (free + 1) places ≡ first ∷ rest = sym (drop_more places free first (open_within places first rest free view)) ∙ view in
+    cc
+
+pub first_named : {X : Type 0} (places : List X) (first : X) (rest : List X) (free : ℕ) → drop free places ≡ first ∷ rest → slice_get places free ≡ Some first
+first_named places first rest free view =
+    let inside : free < length places = open_within places first rest free view in
+    let both : get_or places free first ∷ drop (free + 1) places ≡ first ∷ rest = sym (drop_more places free first inside) ∙ view in
+    let here : get_or places free first ≡ first = cc in
+    slice_get-get_or places free first inside ∙ ap Some here
+
+-- the two children stand where the node stood and in the place before
+pub children_stand : {X : Type 0} (places : List X) (with_it without_it : X) (free : ℕ) → 0 < free → free < length places → drop (free - 1) (slice_set (slice_set places free without_it) (free - 1) with_it) ≡ with_it ∷ without_it ∷ drop (free + 1) places
+children_stand places with_it without_it free before inside =
+    let back : (free - 1) + 1 ≡ free = omega arith in
+    let long : free - 1 < length (slice_set places free without_it) = omega (arith, length-set places free without_it) in
+    drop-set (slice_set places free without_it) (free - 1) with_it long
+    ∙ ap (λ rest. with_it ∷ rest) (ap (λ n. drop n (slice_set places free without_it)) back ∙ drop-set places free without_it inside)
+
+-- ---- plans of nodes have an entry for each candidate
+
+pub with_long : (count : ℕ) (node : Node) (candidate : ℕ) → HasEntries count node → HasEntries count (with_chosen node candidate)
+with_long count node candidate long = record { inside_long = length-set node.inside candidate true ∙ long.inside_long; upper_long = long.upper_long }
+
+pub without_long : (count : ℕ) (node : Node) (candidate : ℕ) → HasEntries count node → HasEntries count (without_chosen node candidate)
+without_long count node candidate long = record { inside_long = long.inside_long; upper_long = length-set node.upper candidate false ∙ long.upper_long }
+
+pub places_split : (count : ℕ) (places now : List Node) (node spare spare_now : Node) (free candidate : ℕ) → ArePlaces count places spare free → 0 < free → slice_get places free ≡ Some node → now ≡ slice_set (slice_set places free (without_chosen node candidate)) (free - 1) (with_chosen node candidate) → slice_get places (free - 1) ≡ Some spare_now → ArePlaces count now spare_now (free - 1)
+places_split count places now node spare spare_now free candidate are before here is out =
+    let long : HasEntries count node = at_place (HasEntries count) places free node are.long here in
+    record {
+      many = ap length is ∙ length-set (slice_set places free (without_chosen node candidate)) (free - 1) (with_chosen node candidate) ∙ length-set places free (without_chosen node candidate) ∙ are.many;
+      within = omega (arith, are.within);
+      long = subst (All (HasEntries count)) (sym is)
+          (All-set (HasEntries count) (slice_set places free (without_chosen node candidate)) (free - 1) (with_chosen node candidate) (with_long count node candidate long)
+          (All-set (HasEntries count) places free (without_chosen node candidate) (without_long count node candidate long) are.long));
+      spare_long = at_place (HasEntries count) places (free - 1) spare_now are.long out;
+    }
+
+-- ---- room for the nodes of lines
+
+open_count-root : (n : ℕ) → open_count (replicate n false) (replicate n true) ≡ n
+open_count-root zero = refl
+open_count-root (suc n) = ap suc (open_count-root n)
+
+-- the child that chooses an open candidate leaves one less open
+open_count-with : (inside upper : List Bool) (i : ℕ) → slice_get upper i ≡ Some true → slice_get inside i ≡ Some false → open_count (slice_set inside i true) upper < open_count inside upper
+open_count-with [] upper i is_open out = absurd (cc)
+open_count-with (x ∷ inside) [] i is_open out = absurd (cc)
+open_count-with (true ∷ inside) (y ∷ upper) zero is_open out = absurd (cc)
+open_count-with (false ∷ inside) (false ∷ upper) zero is_open out = absurd (cc)
+open_count-with (false ∷ inside) (true ∷ upper) zero is_open out = omega arith
+open_count-with (true ∷ inside) (y ∷ upper) (suc i) is_open out = open_count-with inside upper i is_open out
+open_count-with (false ∷ inside) (true ∷ upper) (suc i) is_open out = omega (arith, open_count-with inside upper i is_open out)
+open_count-with (false ∷ inside) (false ∷ upper) (suc i) is_open out = open_count-with inside upper i is_open out
+
+-- and so does the child that leaves it out
+open_count-without : (inside upper : List Bool) (i : ℕ) → slice_get upper i ≡ Some true → slice_get inside i ≡ Some false → open_count inside (slice_set upper i false) < open_count inside upper
+open_count-without [] upper i is_open out = absurd (cc)
+open_count-without (x ∷ inside) [] i is_open out = absurd (cc)
+open_count-without (true ∷ inside) (y ∷ upper) zero is_open out = absurd (cc)
+open_count-without (false ∷ inside) (false ∷ upper) zero is_open out = absurd (cc)
+open_count-without (false ∷ inside) (true ∷ upper) zero is_open out = omega arith
+open_count-without (true ∷ inside) (y ∷ upper) (suc i) is_open out = open_count-without inside upper i is_open out
+open_count-without (false ∷ inside) (true ∷ upper) (suc i) is_open out = omega (arith, open_count-without inside upper i is_open out)
+open_count-without (false ∷ inside) (false ∷ upper) (suc i) is_open out = open_count-without inside upper i is_open out
+
+room_after : (network : NetworkOf) (count : ℕ) (node : Node) (rest : List Node) (line : LineOf) → HasRoom count (node ∷ rest) → IsAllowedLine network node line → HasRoom count (opened node line ++ rest)
+room_after network count node rest (split candidate) room allowed = (
+  with_long count node candidate room.0,
+  omega (arith, room.1, open_count-with node.inside node.upper candidate allowed.in_upper allowed.not_inside),
+  (without_long count node candidate room.0, omega (arith, room.1, open_count-without node.inside node.upper candidate allowed.in_upper allowed.not_inside), room.2),
+)
+room_after network count node rest (leaf end) room allowed = room.2
+
+pub room_along : (network : NetworkOf) (count : ℕ) (nodes final : List Node) (lines : List LineOf) → HasRoom count nodes → LeadsTo network nodes lines final → HasRoom count final
+room_along network count nodes final [] room leads = subst (HasRoom count) leads room
+room_along network count [] final (x ∷ lines) room leads = absurd leads
+room_along network count (node ∷ nodes) final (x ∷ lines) room leads =
+    room_along network count (opened node x ++ nodes) final lines (room_after network count node nodes x room leads.0) leads.1
+
+pub room_at_root : (count : ℕ) → HasRoom count (all_plans count ∷ [])
+room_at_root count = let all : open_count (replicate count false) (replicate count true) ≡ count = open_count-root count in (all_plans_long count, omega arith, tt)
+
+-- where a candidate is open, a place is free
+pub open_below : (inside upper : List Bool) (i : ℕ) → slice_get upper i ≡ Some true → slice_get inside i ≡ Some false → 0 < open_count inside upper
+open_below inside upper i is_open out = omega (arith, open_count-with inside upper i is_open out)
+
+-- the next node of a network
+pub next_long : (network : NetworkOf) (stack : OpenOf) (node : Node) (rest : List Node) → IsReady network stack → stack.nodes ≡ node ∷ rest → HasEntries (length network.candidates) node
+next_long network stack node rest ready is = let room : HasRoom (length network.candidates) (node ∷ rest) = subst (HasRoom (length network.candidates)) is ready.room in room.0
+
+-- a split fits
+pub record SplitFits (network : NetworkOf) (stack : OpenOf) (candidate : ℕ) : Type 0 where
+  pub few : length stack.nodes < 257
+  pub within : candidate < stack.candidates
+  pub small : candidate < 256
+
+pub split_fits : (network : NetworkOf) (stack : OpenOf) (candidate : ℕ) → IsReady network stack → 0 < length stack.nodes → ((node : Node) (rest : List Node) → stack.nodes ≡ node ∷ rest → IsOpenAt network node candidate) → SplitFits network stack candidate
+split_fits network stack candidate ready some allowed =
+    let top = head_tail stack.nodes some in
+    let here = allowed top.first top.rest top.is in
+    let room : HasRoom (length network.candidates) (top.first ∷ top.rest) = subst (HasRoom (length network.candidates)) top.is ready.room in
+    let one : 0 < open_count top.first.inside top.first.upper = open_below top.first.inside top.first.upper candidate here.in_upper here.not_inside in
+    let long : length stack.nodes ≡ length (top.first ∷ top.rest) = ap length top.is in
+    record { few = omega (arith, room.1, ready.few); within = omega (arith, ready.count, here.in_range); small = omega (arith, ready.few, here.in_range) }
+
+pub not_empty : {X : Type 0} (xs : List X) → (xs ≡ [] → ⊥) → HeadTail xs
+not_empty [] some = absurd (some refl)
+not_empty (x ∷ xs) some = record { first = x; rest = xs; is = refl }

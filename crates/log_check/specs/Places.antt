@@ -1,0 +1,45 @@
+-- The places of open nodes. This project's own layout.
+use Rattle.std.specs.Prelude.{◌≡◌, ℕ, suc, ◌+◌, ◌≤◌, Bool, true, false, List, [], ◌∷◌, length, replicate, All}
+use Rattle.geo_model.specs.Network.{NetworkOf}
+use Rattle.geo_model.specs.declared.plan.Node.{Node}
+
+-- what contracts see of the open nodes: for how many candidates they are, and the nodes, the next one first
+pub record OpenOf : Type 0 where
+  pub candidates : ℕ
+  pub nodes : List Node
+
+-- the node of all plans of so many candidates
+abbrev pub all_plans : ℕ → Node
+all_plans count = record { inside = replicate count false; upper = replicate count true }
+
+-- the plans of a node have so many entries
+pub record HasEntries (count : ℕ) (node : Node) : Type 0 where
+  pub inside_long : length node.inside ≡ count
+  pub upper_long : length node.upper ≡ count
+
+-- there are 257 places, of which the first ones are free, and a spare one
+pub record ArePlaces (count : ℕ) (places : List Node) (spare : Node) (free : ℕ) : Type 0 where
+  pub many : length places ≡ 257
+  pub within : free ≤ 257
+  pub long : All (HasEntries count) places
+  pub spare_long : HasEntries count spare
+
+-- how many candidates a node leaves open
+abbrev pub open_count : List Bool → List Bool → ℕ
+open_count [] upper = 0
+open_count (x ∷ inside) [] = 0
+open_count (true ∷ inside) (y ∷ upper) = open_count inside upper
+open_count (false ∷ inside) (true ∷ upper) = suc (open_count inside upper)
+open_count (false ∷ inside) (false ∷ upper) = open_count inside upper
+
+-- Each node has an entry for each candidate. With those after it there are at most as many nodes as candidates that it
+-- doesn't leave open, and one more.
+abbrev pub HasRoom : ℕ → List Node → Type 0
+HasRoom count [] = Unit {0}
+HasRoom count (node ∷ nodes) = HasEntries count node × (open_count node.inside node.upper + length nodes ≤ count) × HasRoom count nodes
+
+-- the open nodes are nodes of this network, and few enough for their places
+pub record IsReady (network : NetworkOf) (stack : OpenOf) : Type 0 where
+  pub few : length network.candidates ≤ 256
+  pub count : stack.candidates ≡ length network.candidates
+  pub room : HasRoom (length network.candidates) stack.nodes

@@ -1,0 +1,53 @@
+-- What a line does to what the replay keeps, and how it can stop it. This project's own.
+use Rattle.std.specs.Prelude.{◌≡◌, ℕ, ◌+◌, ◌-◌, ◌^◌, min, if◌then◌else◌, Bool, true, List, [], ◌∷◌, ◌++◌}
+use Rattle.geo_model.specs.Network.{NetworkOf}
+use Rattle.geo_model.specs.declared.answer.Counts.{Counts}
+use Rattle.geo_model.specs.declared.plan.Node.{Node}
+use Rattle.bound_log.specs.declared.bound.Bound.{Bound}
+use Rattle.bound_log.specs.Bound.{lesser}
+use Rattle.bound_log.specs.Counted.{is_split, is_cost, is_pivot}
+use Rattle.bound_log.specs.Grammar.{IsLine}
+use Rattle.bound_log.specs.LogTree.{IsAllowedLine}
+use Rattle.bound_log.specs.Tree.{LineOf}
+use Rattle.log_check.specs.declared.fault.LogKind.{LogKind}
+use Rattle.log_check.specs.declared.fault.LogKind.TheVariants.{Extra, Form}
+use Rattle.log_check.specs.declared.progress.Progress.{Progress}
+use Rattle.log_check.specs.Rules.{IsFirstBroken}
+use Rattle.log_check.specs.Running.{opened, line_bound}
+
+-- one more where the test passes, up to the last value of a counter
+abbrev pub raised : ℕ → Bool → ℕ
+raised count passes = if passes then min (count + 1) (2 ^ 64 - 1) else count
+
+-- the counts with one more line
+abbrev pub counts_with : Counts → LineOf → Counts
+counts_with before line = record {
+  splits = raised before.splits (is_split line);
+  costs = raised before.costs (is_cost line);
+  pivots = raised before.pivots (is_pivot line);
+  cuts = before.cuts;
+  duals = before.duals;
+}
+
+-- a line with this bound was taken at the next node, with these nodes after it
+pub record Takes (node : Node) (rest : List Node) (line : LineOf) (bound : Bound) (before now : Progress) : Type 0 where
+  pub stack : now.stack ≡ record { candidates = before.stack.candidates; nodes = opened node line ++ rest }
+  pub least : now.bound ≡ lesser before.bound bound
+  pub counted : now.counts ≡ counts_with before.counts line
+
+-- the text is that of a line of the grammar with its LF, which is allowed at the next node and was taken there
+pub record TakesText (network : NetworkOf) (text : List ℕ) (ended : Bool) (before now : Progress) : Type 0 where
+  pub node : Node
+  pub rest : List Node
+  pub line : LineOf
+  pub top : before.stack.nodes ≡ node ∷ rest
+  pub with_end : ended ≡ true
+  pub spelled : IsLine text line
+  pub allowed : IsAllowedLine network node line
+  pub takes : Takes node rest line (line_bound network node line) before now
+
+-- why the text of a line stops the replay where these nodes are open
+pub data Stops (network : NetworkOf) (nodes : List Node) (text : List ℕ) (ended : Bool) (kind : LogKind) : Type 0 where
+  no_node : kind ≡ Extra → nodes ≡ [] → Stops network nodes text ended kind
+  no_line : kind ≡ Form → (nodes ≡ [] → ⊥) → (ended ≡ true → (line : LineOf) → IsLine text line → ⊥) → Stops network nodes text ended kind
+  no_rule : (node : Node) (rest : List Node) (line : LineOf) → nodes ≡ node ∷ rest → ended ≡ true → IsLine text line → IsFirstBroken network node line kind → Stops network nodes text ended kind

@@ -1,0 +1,187 @@
+//! Logs of small networks of one new height, with levels of 1.00 mm to it. What they prove, and where
+//! they are wrong, was reckoned by an independent program.
+ghost use Rattle.std.specs.Prelude.{◌≡◌, ◌≤◌, ◌^◌, [], ◌∷◌, pos, ◌≤ℤ◌, None, Some, IfOk};
+ghost use Rattle.geo_model.specs.declared.limit.LimitKind.TheVariants.{Height, Redundancy};
+
+use crate::{LogFault, LogKind, ReplayAnswer, Replayed, replay};
+use bound_log::Bound;
+use geo_base::NoMemory;
+use geo_model::{
+    Candidate, Component, Counts, Limit, LimitKind, Network, Row, Square, Unknown,
+};
+use std::alloc::Global;
+use std::test::Fail;
+
+// The new height.
+fn height() -> Unknown {
+    Unknown {
+        point: 1,
+        component: Component::Z,
+    }
+}
+
+// A level to the new height.
+fn level(alloc: Global, price: u64) -> Result<Candidate, NoMemory>
+    ensures { IfOk result (λ candidate. candidate ≡ record { price = price; rows = record { entries = (0, pos 10000) ∷ []; weight = pos 10000 } ∷ [] }) }
+{
+    let row = Row::new(vec![in alloc; (0, 10000)]?, 10000);
+    Ok(Candidate {
+        price,
+        rows: vec![in alloc; row]?,
+    })
+}
+
+// The limit of the height: 100 for 1.0 mm, 81 for 0.9 mm.
+fn height_limit(alloc: Global, alpha: i64) -> Result<Limit, NoMemory>
+    ensures { IfOk result (λ limit. limit ≡ record { kind = Height 1; owner = None; alpha = alpha; squares = record { beta = pos (10 ^ 14); entries = (0, pos 1) ∷ [] } ∷ [] }) }
+{
+    let entries = vec![in alloc; (0, 1)]?;
+    let square = Square {
+        beta: 100_000_000_000_000,
+        entries,
+    };
+    Ok(Limit {
+        kind: LimitKind::Height(1),
+        owner: None,
+        alpha,
+        squares: vec![in alloc; square]?,
+    })
+}
+
+// The limit of 501 thousandths on the redundancy of a level.
+fn redundancy_limit(alloc: Global, candidate: u32) -> Result<Limit, NoMemory>
+    ensures { IfOk result (λ limit. limit ≡ record { kind = Redundancy candidate 0; owner = Some candidate; alpha = pos 499; squares = record { beta = pos (10 ^ 7); entries = (0, pos 10000) ∷ [] } ∷ [] }) }
+{
+    let entries = vec![in alloc; (0, 10000)]?;
+    let square = Square {
+        beta: 10_000_000,
+        entries,
+    };
+    Ok(Limit {
+        kind: LimitKind::Redundancy(candidate, 0),
+        owner: Some(candidate),
+        alpha: 499,
+        squares: vec![in alloc; square]?,
+    })
+}
+
+// A level for 5, and the limit of the height.
+fn one_level(alloc: Global, alpha: i64) -> Result<Network, NoMemory>
+    requires low { pos 1 ≤ℤ alpha }
+    requires high { alpha ≤ℤ pos 1000000 }
+{
+    let unknowns = vec![in alloc; height()]?;
+    let first = level(alloc, 5)?;
+    let candidates = vec![in alloc; first]?;
+    let limit = height_limit(alloc, alpha)?;
+    let limits = vec![in alloc; limit]?;
+    Ok(Network::new(unknowns, candidates, limits))
+}
+
+// Levels for 5 and 7, the limit of 1.0 mm on the height, and those on their redundancies.
+fn two_levels(alloc: Global) -> Result<Network, NoMemory> {
+    let unknowns = vec![in alloc; height()]?;
+    let first = level(alloc, 5)?;
+    let second = level(alloc, 7)?;
+    let candidates = vec![in alloc; first, second]?;
+    let limit = height_limit(alloc, 100)?;
+    let one = redundancy_limit(alloc, 0)?;
+    let other = redundancy_limit(alloc, 1)?;
+    let limits = vec![in alloc; limit, one, other]?;
+    Ok(Network::new(unknowns, candidates, limits))
+}
+
+fn fault(line: u64, kind: LogKind) -> Result<Replayed, ReplayAnswer> {
+    Err(ReplayAnswer::Fault(LogFault { line, kind }))
+}
+
+fn accepted(
+    bound: Bound,
+    splits: u64,
+    costs: u64,
+    pivots: u64,
+) -> Result<Replayed, ReplayAnswer> {
+    Ok(Replayed {
+        bound,
+        counts: Counts {
+            splits,
+            costs,
+            pivots,
+            cuts: 0,
+            duals: 0,
+        },
+    })
+}
+
+#[test]
+fn logs_of_two_levels(rt: HostRuntime) -> Result<(), Fail> {
+    let alloc = rt.alloc();
+    let network = two_levels(alloc)?;
+    let whole = b"geoplan-log 1\ns 0\np 1\ns 1\np 2\np 0\n";
+    assert_eq!(rt; replay(alloc, &network, whole), accepted(Bound::NoPlan, 2, 0, 3));
+    let first_cheaper = b"geoplan-log 1\ns 0\nc\ns 1\nc\np 0\n";
+    assert_eq!(rt; replay(alloc, &network, first_cheaper), accepted(Bound::AtLeast(5), 2, 2, 1));
+    let first_dearer = b"geoplan-log 1\ns 1\nc\ns 0\np 1\np 0\n";
+    assert_eq!(rt; replay(alloc, &network, first_dearer), accepted(Bound::AtLeast(7), 2, 1, 2));
+    let last_cheaper = b"geoplan-log 1\ns 1\ns 0\nc\nc\nc\n";
+    assert_eq!(rt; replay(alloc, &network, last_cheaper), accepted(Bound::AtLeast(0), 2, 3, 0));
+    Ok(())
+}
+
+#[test]
+fn logs_that_are_cut_off(rt: HostRuntime) -> Result<(), Fail> {
+    let alloc = rt.alloc();
+    let network = two_levels(alloc)?;
+    let whole = b"geoplan-log 1\ns 0\np 1\ns 1\np 2\np 0\n".as_slice();
+    assert_eq!(rt; replay(alloc, &network, b""), fault(1, LogKind::Form));
+    assert_eq!(rt; replay(alloc, &network, &whole[..13]), fault(1, LogKind::Form));
+    assert_eq!(rt; replay(alloc, &network, &whole[..14]), fault(2, LogKind::Short));
+    assert_eq!(rt; replay(alloc, &network, &whole[..18]), fault(3, LogKind::Short));
+    assert_eq!(rt; replay(alloc, &network, &whole[..22]), fault(4, LogKind::Short));
+    assert_eq!(rt; replay(alloc, &network, &whole[..26]), fault(5, LogKind::Short));
+    assert_eq!(rt; replay(alloc, &network, &whole[..30]), fault(6, LogKind::Short));
+    assert_eq!(rt; replay(alloc, &network, &whole[..33]), fault(6, LogKind::Form));
+    Ok(())
+}
+
+#[test]
+fn logs_with_a_fault(rt: HostRuntime) -> Result<(), Fail> {
+    let alloc = rt.alloc();
+    let network = two_levels(alloc)?;
+    let further = b"geoplan-log 1\ns 0\np 1\ns 1\np 2\np 0\nc\n".as_slice();
+    assert_eq!(rt; replay(alloc, &network, further), fault(7, LogKind::Extra));
+    assert_eq!(rt; replay(alloc, &network, &further[..35]), fault(7, LogKind::Extra));
+    let not_owned = b"geoplan-log 1\np 1\n";
+    assert_eq!(rt; replay(alloc, &network, not_owned), fault(2, LogKind::Owner));
+    let left_out = b"geoplan-log 1\ns 0\np 1\ns 0\n";
+    assert_eq!(rt; replay(alloc, &network, left_out), fault(4, LogKind::NotOpen));
+    let chosen = b"geoplan-log 1\ns 0\ns 0\n";
+    assert_eq!(rt; replay(alloc, &network, chosen), fault(3, LogKind::NotOpen));
+    let met = b"geoplan-log 1\ns 0\nc\np 0\n";
+    assert_eq!(rt; replay(alloc, &network, met), fault(4, LogKind::NotRefuted));
+    let no_such_limit = b"geoplan-log 1\np 3\n";
+    assert_eq!(rt; replay(alloc, &network, no_such_limit), fault(2, LogKind::Range));
+    let long_number = b"geoplan-log 1\ns 9999999999999999999\n";
+    assert_eq!(rt; replay(alloc, &network, long_number), fault(2, LogKind::Range));
+    let longer_number = b"geoplan-log 1\ns 10000000000000000000\n";
+    assert_eq!(rt; replay(alloc, &network, longer_number), fault(2, LogKind::Form));
+    let leading_zero = b"geoplan-log 1\ns 00\n";
+    assert_eq!(rt; replay(alloc, &network, leading_zero), fault(2, LogKind::Form));
+    let other_head = b"geoplan-log 2\ns 0\n";
+    assert_eq!(rt; replay(alloc, &network, other_head), fault(1, LogKind::Form));
+    Ok(())
+}
+
+#[test]
+fn logs_of_one_level(rt: HostRuntime) -> Result<(), Fail> {
+    let alloc = rt.alloc();
+    let wide = one_level(alloc, 100)?;
+    let narrow = one_level(alloc, 81)?;
+    let refuted = b"geoplan-log 1\np 0\n".as_slice();
+    assert_eq!(rt; replay(alloc, &wide, refuted), fault(2, LogKind::NotRefuted));
+    assert_eq!(rt; replay(alloc, &narrow, refuted), accepted(Bound::NoPlan, 0, 0, 1));
+    assert_eq!(rt; replay(alloc, &narrow, &refuted[..17]), fault(2, LogKind::Form));
+    let cost = b"geoplan-log 1\nc\n";
+    assert_eq!(rt; replay(alloc, &narrow, cost), accepted(Bound::AtLeast(0), 0, 1, 0));
+    Ok(())
+}
