@@ -109,25 +109,17 @@ fn tables_of<H: Shelf>(
         (state_of H.held H.faults H.last_fault H.started shelf.new) refusal.status refusal.text.items) }
 {
     match load(alloc, sources, shelf) {
-        Ok(Loaded {
-            input: Input::Built(tables),
-            log,
-        }) => Ok(Accepted { tables, log }),
-        Ok(Loaded {
-            input: Input::Refused(fault),
-            ..
-        }) => Err(Outcome::made(
-            alloc,
-            Status::TableRefused,
-            table_refusal(alloc, fault),
-        )),
-        Ok(Loaded {
-            input: Input::TooLong(file),
-            ..
-        }) => {
-            let text = too_long_refusal(alloc, sources.name_of(file));
-            Err(Outcome::made(alloc, Status::FileTooLong, text))
-        }
+        Ok(Loaded { input, log }) => match input {
+            Input::Built(tables) => Ok(Accepted { tables, log }),
+            Input::Refused(fault) => {
+                let text = table_refusal(alloc, fault);
+                Err(Outcome::made(alloc, Status::TableRefused, text))
+            }
+            Input::TooLong(file) => {
+                let text = too_long_refusal(alloc, sources.name_of(file));
+                Err(Outcome::made(alloc, Status::FileTooLong, text))
+            }
+        },
         Err(LoadFault::Unread(file)) => {
             let text = unread_refusal(alloc, sources.name_of(file));
             Err(Outcome::made(alloc, Status::ReadFault, text))
