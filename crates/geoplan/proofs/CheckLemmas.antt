@@ -36,7 +36,7 @@ either_false true b c is = absurd (cc)
 either_false false true c is = absurd (cc)
 either_false false false c is = (refl, is)
 
-made : List ℕ → List ℕ → List ℕ → ℕ → JobOf
+abbrev made : List ℕ → List ℕ → List ℕ → ℕ → JobOf
 made points candidates log q = record { sources = record { points = points; candidates = candidates; redundancy = q; log = None }; log = log }
 
 made_names : (points candidates log : List ℕ) (q : ℕ) → are_shared points candidates log ≡ false → HasNames (made points candidates log q)
@@ -50,7 +50,6 @@ named_by points candidates log false None job apart is = absurd (cc)
 named_by points candidates log false (Some q) job apart is = let e : made points candidates log q ≡ job = cc in subst HasNames e (made_names points candidates log q apart)
 
 job_names : (points candidates redundancy log : List ℕ) (job : JobOf) → job_of points candidates redundancy log ≡ Some job → HasNames job
-unfolding made
 job_names points candidates redundancy log job is = named_by points candidates log (are_shared points candidates log) (whole_of 3 redundancy) job refl is
 
 plan_job : (planned checked : Bool) (given : Option JobOf) (job : JobOf) → (if planned then option_map plan_command given else (if checked then option_map check_command given else None)) ≡ Some (plan_command job) → given ≡ Some job
@@ -106,7 +105,7 @@ pub checks_with : (job : JobOf) (files after : Files) (tables : TablesOf) (bound
 checks_with job files after tables bound planned built network has =
     let names = names-of planned.words job planned.command in
     record {
-      input = tables_stay job files after tables planned (option_map (bytes_of after) job.sources.log)
+      accepted = tables_stay job files after tables planned (option_map (bytes_of after) job.sources.log)
           (input_from-other_log job.sources.redundancy _ _ (option_map (bytes_of files) job.sources.log) (option_map (bytes_of after) job.sources.log) tables
           (rw names.unread refl) built);
       checked = λ short. tables_stay job files after tables planned (Some (bytes_of after job.log))

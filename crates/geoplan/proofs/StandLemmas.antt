@@ -6,6 +6,7 @@ use Rattle.shelf_io.specs.Faults.{KeepsFaults}
 use Rattle.geo_model.specs.declared.answer.Answer.{Answer}
 use Rattle.geo_model.specs.declared.answer.Answer.TheVariants as answer
 use Rattle.geo_model.specs.declared.answer.SearchDone.{SearchDone}
+use Rattle.bound_log.specs.declared.bound.Bound.{Bound}
 use Rattle.bound_log.specs.LogText.{log_text}
 use Rattle.bound_log.specs.LogTree.{root_of, bound_at}
 use Rattle.bound_log.specs.Tree.{Tree}
@@ -15,7 +16,7 @@ use Rattle.log_check.specs.Replayed.{IsReplayed}
 use Rattle.log_check.specs.FirstFault.{IsFirstFault}
 use Rattle.geoplan.specs.CommandOf.{JobOf, checked_sources}
 use Rattle.geoplan.specs.Loading.{HasTables}
-use Rattle.geoplan.specs.Reporting.{Ends, Reports, Replays, HasNoText}
+use Rattle.geoplan.specs.Reporting.{CanReport, Ends, Reports, Replays, HasNoText}
 use Rattle.geoplan.specs.Solving.{Solves}
 use Rattle.geoplan.specs.Standing.{LeavesLog, PlanStands, CheckStands}
 use Rattle.geoplan.specs.Tables.{TablesOf}
@@ -70,6 +71,15 @@ module _ (job : JobOf) (before now : ShelfState) (tables : TablesOf) (tree : Tre
 pub PlanStands-reported : (job : JobOf) (tables : TablesOf) (read : List ℕ) (done : SearchDone) (before middle now : ShelfState) (ends : Status) (text : List ℕ) → HasTables job.sources tables read before middle → Solves tables job.log done middle now → Reports tables done.answer ends text → PlanStands job before now ends text
 PlanStands-reported job tables read done before middle now ends text has solved reports =
     by_answer job before now tables solved.tree (leaves_log job tables read done before middle now has solved) ends text done.answer solved.searched.answered reports
+
+-- the answer of a search can be reported
+can_report : (tables : TablesOf) (bound : Bound) (given : Answer) → IsAnswer tables.network bound given → CanReport tables given
+can_report tables bound (answer.Best plan) is = is.certified.long
+can_report tables bound answer.NoPlan is = tt
+can_report tables bound (answer.Undecided plan number step lo hi) is = (is.long, record { limit = is.open_limit.limit; named = is.open_limit.named })
+
+pub CanReport-solved : (tables : TablesOf) (log : List ℕ) (done : SearchDone) (before now : ShelfState) → Solves tables log done before now → CanReport tables done.answer
+CanReport-solved tables log done before now solved = can_report tables (bound_at tables.network (root_of tables.network) solved.tree) done.answer solved.searched.answered
 
 -- ---- check
 

@@ -135,12 +135,13 @@ fn answer_plan<H: Shelf>(alloc: Global, job: &Job<'_>, shelf: &mut H) -> Outcome
         (state_of H.held H.faults H.last_fault H.started shelf.old)
         (state_of H.held H.faults H.last_fault H.started shelf.new) result.status result.text.items }
 {
-    let tables = match tables_of(alloc, &job.sources, shelf) {
-        Ok(accepted) => accepted.tables,
+    let accepted = match tables_of(alloc, &job.sources, shelf) {
+        Ok(accepted) => accepted,
         Err(refusal) => return refusal,
     };
-    match solve(alloc, &tables, shelf, job.log) {
-        Ok(done) => report(alloc, &tables, &done),
+    let tables = &accepted.tables;
+    match solve(alloc, tables, shelf, job.log) {
+        Ok(done) => report(alloc, tables, &done),
         Err(SearchFault::WriteFault) => Outcome::silent(alloc, Status::WriteFault),
         Err(SearchFault::NoMemory) => Outcome::silent(alloc, Status::NoMemory),
     }

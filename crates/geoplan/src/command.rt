@@ -52,7 +52,7 @@ pub struct Job<'a> {
 impl<'a> Job<'a> {
     /// What `check` reads: its tables, and its log.
     pub fn checked_sources(&self) -> Sources<'a>
-        ensures sources { sources_view result ≡ checked_sources (job_view self.now) }
+        ensures { sources_view result ≡ checked_sources (job_view self.now) }
     {
         Sources {
             points: self.sources.points,
