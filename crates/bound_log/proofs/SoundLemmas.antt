@@ -30,7 +30,7 @@ IsAtMost-lesser_right (AtLeast x) NoPlan price below = absurd below
 IsAtMost-lesser_right (AtLeast x) (AtLeast y) price below = omega arith
 
 -- an entry of a list at a place within it
-pub entry_at : (plan : List Bool) (i : ℕ) → i < length plan → (slice_get plan i ≡ Some true) ⊎ (slice_get plan i ≡ Some false)
+entry_at : (plan : List Bool) (i : ℕ) → i < length plan → (slice_get plan i ≡ Some true) ⊎ (slice_get plan i ≡ Some false)
 entry_at [] i inside = absurd (omega arith)
 entry_at (true ∷ plan) zero inside = inl refl
 entry_at (false ∷ plan) zero inside = inr refl

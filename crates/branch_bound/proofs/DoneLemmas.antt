@@ -1,9 +1,9 @@
-use Rattle.std.proofs.Common.{◌≡◌, ◌<◌, ◌≤◌, ℕ, Bool, true, false, List, [], ◌∷◌, length, min, arith, refl, ap, sym, ◌∙◌, subst, Some, ◌⊎◌, inl, inr}
-use Rattle.std.specs.Prelude.{slice_get, slice_set}
-use Rattle.std.proofs.lemmas.Bool.{cases_lt, false≢true}
-use Rattle.std.proofs.lemmas.Option.{slice_get_within}
+use Rattle.std.proofs.Common.{◌≡◌, ◌<◌, ◌≤◌, ℕ, Bool, true, false, List, [], ◌∷◌, length, get_or, arith, refl, ap, sym, ◌∙◌, subst, Some, ◌⊎◌, inl, inr}
+use Rattle.std.specs.Prelude.{slice_get}
+use Rattle.std.proofs.lemmas.Bool.{cases_lt, cases_Bool, false≢true}
+use Rattle.std.proofs.lemmas.Option.{slice_get_within, slice_get-get_or}
 use Rattle.geo_model.specs.Energy.{cost_of, IsWithin}
-use Rattle.geo_model.specs.Limit.{LimitOf, IsInForce}
+use Rattle.geo_model.specs.Limit.{IsInForce}
 use Rattle.geo_model.specs.Network.{NetworkOf, IsNetwork, IsLimit}
 use Rattle.geo_model.specs.declared.plan.Node.{Node}
 use Rattle.geo_model.specs.declared.verdict.Verdict.TheVariants.{Met}
@@ -14,7 +14,7 @@ use Rattle.bound_log.specs.declared.bound.Bound.{Bound}
 use Rattle.bound_log.specs.declared.bound.Bound.TheVariants.{NoPlan, AtLeast}
 use Rattle.bound_log.specs.Bound.{lesser}
 use Rattle.bound_log.specs.LogTree.{IsOpenAt, IsRefutedBy, with_chosen, without_chosen}
-use Rattle.bound_log.proofs.SoundLemmas.{entry_at, IsInForce-grows, at_place}
+use Rattle.bound_log.proofs.SoundLemmas.{IsInForce-grows, at_place}
 use Rattle.branch_bound.specs.declared.best.Best.{Best}
 use Rattle.branch_bound.specs.declared.best.Best.TheVariants as best
 use Rattle.branch_bound.specs.Found.{best_bound, IsKept, IsCovered, IsBelow, IsDone}
@@ -23,10 +23,10 @@ use Rattle.branch_bound.specs.Searched.{IsCertified, IsUnsettled}
 -- How the best plan is brought up to the plans of a node.
 
 not_le : (a b : ℕ) → (a ≤ b → ⊥) → b < a
-not_le a b not = elim (cases_lt b a) [ | inl less ↦ less | inr more ↦ absurd (not more) ]
+not_le a b not = elim (cases_lt b a) [ inl less ↦ less | inr more ↦ absurd (not more) ]
 
 not_lt : (a b : ℕ) → (a < b → ⊥) → b ≤ a
-not_lt a b not = elim (cases_lt a b) [ | inl less ↦ absurd (not less) | inr more ↦ more ]
+not_lt a b not = elim (cases_lt a b) [ inl less ↦ absurd (not less) | inr more ↦ more ]
 
 first_least : (a b : ℕ) → a ≤ b → AtLeast a ≡ lesser (AtLeast a) (AtLeast b)
 first_least a b le = ap AtLeast (omega arith)
@@ -156,6 +156,13 @@ IsDone-undercut network node found kept same unsettled above_it = record {
   still = λ other covered. covered;
 }
 
+-- a plan has a candidate or lacks it
+has_or_lacks : (plan : List Bool) (i : ℕ) → i < length plan → (slice_get plan i ≡ Some true) ⊎ (slice_get plan i ≡ Some false)
+has_or_lacks plan i inside = elim (cases_Bool (get_or plan i false)) [
+  | inl has ↦ inl (slice_get-get_or plan i false inside ∙ ap Some has)
+  | inr lacks ↦ inr (slice_get-get_or plan i false inside ∙ ap Some lacks)
+]
+
 -- both children are done
 pub IsDone-split : (network : NetworkOf) (node : Node) (candidate : ℕ) (first second : Bound) (before middle now : Best) → IsOpenAt network node candidate → IsDone network (with_chosen node candidate) first before middle → IsDone network (without_chosen node candidate) second middle now → IsDone network node (lesser first second) before now
 IsDone-split network node candidate first second before middle now is_open one two = record {
@@ -163,7 +170,7 @@ IsDone-split network node candidate first second before middle now is_open one t
   kept = two.kept;
   covered = λ other certified above below.
       let inside : candidate < length other = omega (arith, IsWithin-length other node.upper below, slice_get_within node.upper candidate true is_open.in_upper) in
-      elim (entry_at other candidate inside) [
+      elim (has_or_lacks other candidate inside) [
         | inl has ↦ two.still other (one.covered other certified (IsWithin-with node.inside other candidate above has) below)
         | inr lacks ↦ two.covered other certified above (IsWithin-without other node.upper candidate below lacks)
       ];

@@ -2,6 +2,7 @@ pub mod PieceLemmas
 pub mod NodeLemmas
 pub mod VerdictLemmas
 pub mod DoneLemmas
+pub mod Drafts
 pub mod OpenCount
 pub mod ExploreLemmas
 pub mod SearchLemmas

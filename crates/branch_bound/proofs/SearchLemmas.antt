@@ -1,4 +1,4 @@
-use Rattle.std.proofs.Common.{replicate, true, false, ◌≡◌, ℕ, Bool, List, [], ◌∷◌, refl, sym, ap, ap₂, cond, zero-add, ◌∙◌, subst, Some, None, Option, min, ◌+◌, ◌-◌, ◌^◌, ◌≤◌, arith, if◌then◌else◌}
+use Rattle.std.proofs.Common.{replicate, true, false, ◌≡◌, ℕ, Bool, List, [], ◌∷◌, sym, ap, cond, zero-add, ◌∙◌, subst, Some, min, ◌+◌, ◌-◌, ◌^◌, ◌≤◌, arith, if◌then◌else◌}
 use Rattle.std.specs.Prelude.{count_by}
 use Rattle.std.proofs.lemmas.List.Sums.{sum_by-cons}
 use Rattle.shelf_io.specs.Files.{Files, IsHeld}

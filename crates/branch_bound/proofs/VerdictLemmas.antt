@@ -1,5 +1,5 @@
-use Rattle.std.proofs.Common.{get_or, ◌≡◌, ◌↔◌, ◌<◌, ℕ, zero, suc, ℤ, Bool, true, IsTrue, List, [], ◌∷◌, length, arith, refl, ap, sym, ◌∙◌, subst, Some}
-use Rattle.std.specs.Prelude.{slice_get, All}
+use Rattle.std.proofs.Common.{get_or, ◌≡◌, ◌↔◌, ◌<◌, ℕ, zero, suc, ℤ, Bool, true, IsTrue, List, [], ◌∷◌, length, arith, refl, sym, ◌∙◌, subst, Some}
+use Rattle.std.specs.Prelude.{slice_get}
 use Rattle.std.proofs.lemmas.Option.{slice_get_read, slice_get-get_or, get_or_from_slice_get}
 use Rattle.geo_model.specs.Limit.{LimitOf, IsInForce}
 use Rattle.geo_model.specs.Network.{NetworkOf}
@@ -31,16 +31,18 @@ open_by network plan number step lo hi in_force inside forced is exact =
 -- a limit refutes a node just where it is in force for the inner plan and the verdict on the upper one is Refuted
 pub refuted_when : (network : NetworkOf) (node : Node) (number : ℕ) (in_force result : Bool) (verdict : Verdict) → number < length network.limits → ((l : LimitOf) → slice_get network.limits number ≡ Some l → IsTrue in_force ↔ IsInForce l node.inside) → in_force ≡ true → ((l : LimitOf) → slice_get network.limits number ≡ Some l → verdict ≡ verdict_of network node.upper l) → (IsTrue result ↔ (verdict ≡ Refuted)) → IsTrue result ↔ IsRefutedBy network node number
 refuted_when network node number in_force result verdict inside forced is exact tests =
-    let named = limit_at network.limits number inside in
-    (λ yes. record { limit = named.0; named = named.1; owned = (forced named.0 named.1).0 is; refuted = sym (exact named.0 named.1) ∙ tests.0 yes },
-    λ refuted. tests.1 (exact refuted.limit refuted.named ∙ refuted.refuted))
+    let named = limit_at network.limits number inside in (
+      λ yes. record { limit = named.0; named = named.1; owned = (forced named.0 named.1).0 is; refuted = sym (exact named.0 named.1) ∙ tests.0 yes },
+      λ refuted. tests.1 (exact refuted.limit refuted.named ∙ refuted.refuted),
+    )
 
 -- a limit in force is met just where the verdict on it is Met
 pub met_when : (network : NetworkOf) (plan : List Bool) (number : ℕ) (in_force result : Bool) (verdict : Verdict) → number < length network.limits → ((l : LimitOf) → slice_get network.limits number ≡ Some l → IsTrue in_force ↔ IsInForce l plan) → in_force ≡ true → ((l : LimitOf) → slice_get network.limits number ≡ Some l → verdict ≡ verdict_of network plan l) → (IsTrue result ↔ (verdict ≡ Met)) → IsTrue result ↔ IsMetAt network plan number
 met_when network plan number in_force result verdict inside forced is exact tests =
-    let named = limit_at network.limits number inside in
-    (λ yes limit here _. sym (exact limit here) ∙ tests.0 yes,
-    λ met. tests.1 (exact named.0 named.1 ∙ met named.0 named.1 ((forced named.0 named.1).0 is)))
+    let named = limit_at network.limits number inside in (
+      λ yes limit here _. sym (exact limit here) ∙ tests.0 yes,
+      λ met. tests.1 (exact named.0 named.1 ∙ met named.0 named.1 ((forced named.0 named.1).0 is)),
+    )
 
 -- a plan whose limits are all met, or not in force, is certified
 pub certified_by : (network : NetworkOf) (plan : List Bool) → length plan ≡ length network.candidates → ((k : ℕ) → k < length network.limits → IsMetAt network plan k) → IsCertified network plan
@@ -81,10 +83,10 @@ met_else (Open step lo hi) refuted open_here = absurd (open_here step lo hi refl
 pub some_open : (network : NetworkOf) (plan : List Bool) → IsUnsettled network plan → ((k : ℕ) → k < length network.limits → (step : ℕ) (lo hi : ℤ) → IsOpenLimit network plan k step lo hi → ⊥) → ⊥
 some_open network plan unsettled closed =
     unsettled.unsettled.0 (λ k d inside in_force.
-      let named : slice_get network.limits k ≡ Some (get_or network.limits k d) = slice_get-get_or network.limits k d inside in
-      met_else (verdict_of network plan (get_or network.limits k d))
-      (λ refuted. unsettled.unsettled.1 (k, get_or network.limits k d, inside, get_or_from_slice_get network.limits k (get_or network.limits k d) (get_or network.limits k d) named, (in_force, refuted)))
-      (λ step lo hi is. closed k inside step lo hi (record { limit = get_or network.limits k d; named = named; in_force = in_force; open_here = is })))
+    let named : slice_get network.limits k ≡ Some (get_or network.limits k d) = slice_get-get_or network.limits k d inside in
+    met_else (verdict_of network plan (get_or network.limits k d))
+    (λ refuted. unsettled.unsettled.1 (k, get_or network.limits k d, inside, get_or_from_slice_get network.limits k (get_or network.limits k d) (get_or network.limits k d) named, (in_force, refuted)))
+    (λ step lo hi is. closed k inside step lo hi (record { limit = get_or network.limits k d; named = named; in_force = in_force; open_here = is })))
 
 -- a limit that is open, where none before it is, is the first open one
 pub first_open_by : (network : NetworkOf) (plan : List Bool) (number step : ℕ) (lo hi : ℤ) → IsOpenLimit network plan number step lo hi → ((k : ℕ) → k < number → (s : ℕ) (a b : ℤ) → IsOpenLimit network plan k s a b → ⊥) → IsFirstOpen network plan number step lo hi

@@ -1,4 +1,4 @@
-use Rattle.std.specs.Prelude.{◌≡◌, ℕ, ◌+◌, ◌-◌, ◌^◌, ◌≤◌, min, if◌then◌else◌, Bool, List, [], ◌∷◌, ◌++◌, length, Option, Some, None}
+use Rattle.std.specs.Prelude.{◌≡◌, ℕ, ◌+◌, ◌-◌, ◌^◌, ◌≤◌, min, if◌then◌else◌, Bool, List, [], ◌∷◌, ◌++◌, length, Option, Some}
 use Rattle.shelf_io.specs.Files.{Files, with_piece}
 use Rattle.shelf_io.specs.Faults.{LastFault, Rose, KeepsFaults, write_of}
 use Rattle.geo_model.specs.Energy.{IsWithin}

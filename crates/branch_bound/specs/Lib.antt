@@ -3,3 +3,4 @@ pub mod Faults
 pub mod Found
 pub mod Explored
 pub mod Logged
+pub mod Drafts

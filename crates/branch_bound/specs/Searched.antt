@@ -1,4 +1,4 @@
-use Rattle.std.specs.Prelude.{◌≡◌, ◌≢◌, ℕ, ◌<◌, ℤ, pos, ◌≤ℤ◌, Bool, List, length, Option, Some, None, slice_get}
+use Rattle.std.specs.Prelude.{◌≡◌, ◌≢◌, ℕ, ◌<◌, ℤ, pos, ◌≤ℤ◌, Bool, List, length, Some, slice_get}
 use Rattle.geo_model.specs.Energy.{cost_of}
 use Rattle.geo_model.specs.Limit.{LimitOf, IsInForce}
 use Rattle.geo_model.specs.Network.{NetworkOf}

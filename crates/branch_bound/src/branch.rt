@@ -156,5 +156,9 @@ pub fn branch_candidate(
     if let Some(candidate) = shut_candidate(room, network, node) {
         return Some(candidate);
     }
-    worthiest(network, node, wanted_unknown(&network.limits()[limit as usize]))
+    worthiest(
+        network,
+        node,
+        wanted_unknown(&network.limits()[limit as usize]),
+    )
 }

@@ -14,3 +14,7 @@ pub use geo_model::{Answer, SearchDone};
 pub use run::search;
 pub use search_fault::SearchFault;
 
+#[cfg(test)]
+mod draft;
+#[cfg(test)]
+mod tests;

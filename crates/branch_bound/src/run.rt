@@ -93,13 +93,7 @@ fn explore<H: Shelf>(
         (state_of H.held H.faults H.last_fault H.started shelf.old)
         (state_of H.held H.faults H.last_fault H.started shelf.new)) }
 {
-    let line = match line_at(
-        alloc,
-        &mut progress.room,
-        network,
-        node,
-        &mut progress.best,
-    ) {
+    let line = match line_at(alloc, &mut progress.room, network, node, &mut progress.best) {
         Ok(line) => line,
         Err(_) => return Err(SearchFault::NoMemory),
     };

@@ -1,5 +1,5 @@
 -- Which status a code is, and which statuses printing ends with.
-use Rattle.std.proofs.Common.{◌≡◌, ◌⊎◌, inl, inr, ℕ, if◌then◌else◌, List, refl, sym, ap, ◌∙◌}
+use Rattle.std.proofs.Common.{◌≡◌, inl, inr, ℕ, if◌then◌else◌, List, refl, sym, ap, ◌∙◌}
 use Rattle.std.specs.Prelude.{◌==◌}
 use Rattle.geoplan.specs.Codes.{code_of, after_failed_put}
 use Rattle.geoplan.specs.Printing.{SinkState, WritesAll, Prints}

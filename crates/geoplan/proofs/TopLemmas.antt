@@ -1,5 +1,5 @@
 -- How the clauses on answers and refusals follow from a run.
-use Rattle.std.proofs.Common.{◌≡◌, ◌⊎◌, inl, inr, ℕ, List, sym, ◌∙◌, subst, None, Some}
+use Rattle.std.proofs.Common.{◌≡◌, inl, inr, ℕ, List, sym, subst, None, Some}
 use Rattle.shelf_io.specs.Files.{Files, bytes_of}
 use Rattle.shelf_io.proofs.FileLaws.{bytes_of-with_bytes}
 use Rattle.geo_model.specs.Energy.{cost_of}

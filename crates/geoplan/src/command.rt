@@ -63,12 +63,7 @@ impl<'a> Job<'a> {
     }
 
     /// The job of its words.
-    fn of(
-        points: &'a str,
-        candidates: &'a str,
-        redundancy: &str,
-        log: &'a str,
-    ) -> Option<Job<'a>>
+    fn of(points: &'a str, candidates: &'a str, redundancy: &str, log: &'a str) -> Option<Job<'a>>
         ensures job { option_map job_view result ≡ job_of points.entry.now candidates.entry.now redundancy.now log.entry.now }
         ensures within { IfSome result (λ job. job.sources.redundancy ≤ 999) }
     {

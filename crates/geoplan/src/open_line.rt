@@ -89,13 +89,7 @@ fn put_interval(text: &mut Vec<u8>, lo: i128, hi: i128) -> Result<(), NoMemory>
 }
 
 /// The line of an open limit, its name given: the step of its chain, and the interval there.
-fn line_of(
-    alloc: Global,
-    which: &[u8],
-    step: u32,
-    lo: i128,
-    hi: i128,
-) -> Result<Vec<u8>, NoMemory>
+fn line_of(alloc: Global, which: &[u8], step: u32, lo: i128, hi: i128) -> Result<Vec<u8>, NoMemory>
     ensures { IfOk result (λ text. text.items ≡ open_text which.now step lo hi) }
 {
     let mut text = Vec::from_slice(alloc, b"open,")?;

@@ -4,8 +4,8 @@ ghost use Rattle.branch_bound.specs.Explored.{state_of};
 ghost use Rattle.geoplan.specs.Printing.{sink_state_of, Prints, SaysWords, Runs};
 
 use crate::answer::answer;
-use crate::outcome::Outcome;
 use crate::command::Command;
+use crate::outcome::Outcome;
 use crate::report::words_refusal;
 use crate::status::Status;
 use crate::words::Words;

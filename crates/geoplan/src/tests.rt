@@ -182,7 +182,7 @@ const CASES: [Case; 17] = [
         failing_call: 0,
         failing_put: 1,
         status: 6,
-        printed: "unknown,0,H,z\nrow,l",
+        printed: "unknown,0,H,z\nrow,",
     },
 ];
 

@@ -1,5 +1,5 @@
 -- The network of accepted tables without a fault is within the bounds of networks.
-use Rattle.std.proofs.Common.{◌≡◌, ◌∙◌, ◌+◌, ◌^◌, ◌<◌, ◌≤◌, ℕ, ℤ, pos, ◌≤ℤ◌, Bool, true, false, cond, ◌&&◌, ◌==◌, List, [], ◌∷◌, ◌++◌, Option, Some, None, length, map, get_or, refl, sym, ap, arith, length-append}
+use Rattle.std.proofs.Common.{◌≡◌, ◌+◌, ◌≤◌, ℕ, pos, ◌≤ℤ◌, Bool, true, false, cond, ◌&&◌, ◌==◌, List, [], None, length, map, get_or, refl, ap, arith, length-append}
 use Rattle.std.specs.Prelude.{All, count_by, sum_by, int_lt, nat_lt, if◌then◌else◌}
 use Rattle.std.specs.List.{IsDistinct}
 use Rattle.std.proofs.lemmas.Bool.Decides.{nat_tests}
@@ -12,14 +12,12 @@ use Rattle.geo_model.specs.Row.{Displaced, RowOf, row_energy, unit_at}
 use Rattle.geo_model.specs.Candidate.{CandidateOf, IsCandidate, candidate_energy}
 use Rattle.geo_model.specs.Energy.{full_energy}
 use Rattle.geo_model.specs.Limit.{LimitOf, is_point_limit, load}
-use Rattle.geo_model.specs.Network.{IsLimit, IsNetwork, NetworkOf}
+use Rattle.geo_model.specs.Network.{IsLimit, IsNetwork}
 use Rattle.geo_model.proofs.EnergyLemmas.{candidate_energy-nonneg, row_energy-nonneg}
-use Rattle.point_tables.specs.declared.fault.FaultKind.{FaultKind}
 use Rattle.point_tables.specs.declared.record.PointRecord.{PointRecord}
 use Rattle.point_tables.specs.Accepted.{IsAccepted}
 use Rattle.candidate_tables.specs.declared.record.CandidateRecord.{CandidateRecord}
-use Rattle.candidate_tables.specs.Accepted.{AreCandidates, IsCandidateRecord}
-use Rattle.design_rows.specs.Rows.{rows_of}
+use Rattle.candidate_tables.specs.Accepted.{IsCandidateRecord}
 use Rattle.design_rows.specs.Unknowns.{is_same, unknowns_of}
 use Rattle.design_rows.proofs.BoundFacts.{rows-bounded}
 use Rattle.design_rows.proofs.UnknownFacts.{unknowns-differ}
@@ -27,7 +25,7 @@ use Rattle.net_build.specs.Bounds.{AreTables}
 use Rattle.net_build.specs.Build.{candidate_of, count_fault, limits_of, network_fault, network_of, network_on, point_limits, redundancy_limits, row_count}
 use Rattle.net_build.proofs.ListFacts.{count-none, sum-above, sum_by-map}
 use Rattle.net_build.proofs.PointFacts.{loads, one-limit, points-bounded, points-count}
-use Rattle.net_build.proofs.RedundancyFacts.{AreOwnRows, IsOwnRow, redundancies-bounded, redundancies-count, redundancies-owned}
+use Rattle.net_build.proofs.RedundancyFacts.{AreOwnRows, redundancies-bounded, redundancies-count, redundancies-owned}
 
 -- ---- the counts
 

@@ -1,11 +1,9 @@
 -- Counts, limits and networks from their parts.
-use Rattle.std.proofs.Common.{◌≡◌, ◌≢◌, ◌∙◌, ◌⊎◌, ◌+◌, ◌*◌, ◌^◌, ◌≤◌, ℕ, zero, suc, ℤ, pos, ◌+ℤ◌, ◌-ℤ◌, ◌*ℤ◌, Bool, true, false, List, [], ◌∷◌, ◌++◌, Option, Some, None, length, map, refl, sym, ap, ap₂, arith, inl, inr, slice_get, append-nil, eqb, FitsSigned, to_z, of_z, w64}
+use Rattle.std.proofs.Common.{◌≡◌, ◌≢◌, ◌∙◌, ◌⊎◌, ◌*◌, ◌≤◌, ℕ, ℤ, pos, ◌-ℤ◌, ◌*ℤ◌, false, List, [], ◌∷◌, ◌++◌, Some, None, length, map, refl, sym, ap, ap₂, arith, inl, inr, append-nil, eqb, FitsSigned, to_z, of_z, w64}
 use mir.Syntax.{w128}
-use Rattle.std.specs.Prelude.{if◌then◌else◌}
 use Rattle.std.proofs.Math.Nat.{mul-le-mul}
 use Rattle.std.proofs.lemmas.Bool.Decides.{nat_tests}
 use Rattle.std.proofs.lemmas.Int.{fits_signed_from_abs, ints, to_z-of_z, to_z_pos}
-use Rattle.std.specs.List.{IsDistinct, filter}
 use Rattle.geo_model.specs.declared.network.Unknown.{Unknown}
 use Rattle.geo_model.specs.declared.limit.LimitKind.TheVariants as limit
 use Rattle.geo_model.specs.declared.network.Component.TheVariants as component
@@ -17,12 +15,11 @@ use Rattle.point_tables.specs.declared.record.PointRecord.{PointRecord}
 use Rattle.candidate_tables.specs.declared.kind.Kind.{Kind}
 use Rattle.candidate_tables.specs.declared.kind.Kind.TheVariants as kind
 use Rattle.candidate_tables.specs.declared.record.CandidateRecord.{CandidateRecord}
-use Rattle.design_rows.specs.Equations.{equations_of, term}
-use Rattle.design_rows.specs.Rows.{coefficient_at, entries_of, is_entry, rows_of}
-use Rattle.design_rows.specs.Unknowns.{is_same, number_of, unknown, unknowns_of}
-use Rattle.design_rows.proofs.PlaceFacts.{number-at, number-none, one-place, same-refl}
+use Rattle.design_rows.specs.Equations.{equations_of}
+use Rattle.design_rows.specs.Rows.{rows_of}
+use Rattle.design_rows.specs.Unknowns.{unknown, unknowns_of}
 use Rattle.net_build.specs.Build.{axis_limit, candidate_of, count_fault, height_limit, limits_of, network_fault, network_of, network_on, point_limits, redundancy_limit, redundancy_limits, row_count, square_on}
-use Rattle.net_build.proofs.SquareFacts.{coefficient-other, numbered}
+use Rattle.net_build.proofs.SquareFacts.{numbered}
 
 -- how many rows a candidate has
 abbrev pub count_of : Kind → ℕ

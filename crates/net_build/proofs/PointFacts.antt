@@ -1,5 +1,5 @@
 -- The limits of the points: each is one of a network, at most one of them loads an unknown, and there are no more than unknowns.
-use Rattle.std.proofs.Common.{◌≡◌, ◌≢◌, ◌∙◌, ◌+◌, ◌*◌, ◌<◌, ◌≤◌, ℕ, ℤ, pos, ◌≤ℤ◌, Bool, true, false, cond, ◌&&◌, List, [], ◌∷◌, ◌++◌, Option, Some, None, length, refl, sym, ap, arith, eqb, eqb-true, slice_get, length-append}
+use Rattle.std.proofs.Common.{◌≡◌, ◌≢◌, ◌∙◌, ◌+◌, ◌*◌, ◌<◌, ◌≤◌, ℕ, pos, ◌≤ℤ◌, Bool, true, false, cond, ◌&&◌, List, [], ◌∷◌, ◌++◌, Option, Some, None, length, refl, sym, ap, arith, eqb, eqb-true, slice_get, length-append}
 use Rattle.std.specs.Prelude.{All, count_by, int_lt, if◌then◌else◌}
 use Rattle.std.specs.List.{IsDistinct, enumerate_from, flat_map}
 use Rattle.std.proofs.Math.Nat.{mul-le-mul}

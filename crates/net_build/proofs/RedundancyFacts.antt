@@ -1,5 +1,5 @@
 -- The limits of the candidates' redundancy: each is one of a network, none is one of a point, and there are as many as rows.
-use Rattle.std.proofs.Common.{◌≡◌, ◌∙◌, ◌+◌, ◌*◌, ◌^◌, ◌<◌, ◌≤◌, ℕ, ℤ, pos, ◌+ℤ◌, ◌-ℤ◌, ◌*ℤ◌, ◌≤ℤ◌, false, List, [], ◌∷◌, Some, length, map, refl, sym, ap, arith, length-append}
+use Rattle.std.proofs.Common.{◌≡◌, ◌+◌, ◌*◌, ◌^◌, ◌<◌, ◌≤◌, ℕ, ℤ, pos, ◌+ℤ◌, ◌-ℤ◌, ◌*ℤ◌, ◌≤ℤ◌, false, List, [], ◌∷◌, length, refl, arith, length-append}
 use Rattle.std.specs.Prelude.{All, sum_by, unsigned_abs}
 use Rattle.std.specs.List.{enumerate_from, flat_map}
 use Rattle.std.specs.Int.{int_max}
@@ -13,7 +13,7 @@ use Rattle.whole_algebra.proofs.Order.{mul_le_mul_right, mul_nonneg, square_nonn
 use Rattle.geo_model.specs.Row.{Displaced, IsRow, IsSparse, RowOf, form_at, row_energy, total_size, unit_at}
 use Rattle.geo_model.specs.Candidate.{CandidateOf}
 use Rattle.geo_model.specs.Energy.{full_energy}
-use Rattle.geo_model.specs.Limit.{LimitOf, IsLoad, SquareOf, is_point_limit, load}
+use Rattle.geo_model.specs.Limit.{IsLoad, SquareOf, is_point_limit}
 use Rattle.geo_model.specs.Network.{IsLimit, NetworkOf}
 use Rattle.net_build.specs.Build.{limits_of_candidate, redundancy_limit, redundancy_limits}
 use Rattle.net_build.proofs.ListFacts.{All-numbered, All-parts, length-numbered}

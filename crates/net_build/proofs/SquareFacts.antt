@@ -1,6 +1,6 @@
 -- The square of an unknown: its bounds, and where it is 0.
 use Rattle.std.proofs.Common.{◌≡◌, ◌≢◌, ◌∙◌, ◌+◌, ◌*◌, ◌^◌, ◌<◌, ◌≤◌, ℕ, zero, suc, ℤ, pos, negsuc, ◌+ℤ◌, ◌*ℤ◌, ◌≤ℤ◌, Bool, true, false, cond, not, List, [], ◌∷◌, Some, length, map, refl, sym, ap, subst, arith, eqb, eqb-true, lit≤, slice_get}
-use Rattle.std.specs.Prelude.{All, sum_by, unsigned_abs, if◌then◌else◌}
+use Rattle.std.specs.Prelude.{All, unsigned_abs, if◌then◌else◌}
 use Rattle.std.specs.List.{IsDistinct, enumerate_from, filter}
 use Rattle.std.specs.Int.{int_max}
 use Rattle.std.specs.Ordering.{int_eq}

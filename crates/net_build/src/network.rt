@@ -52,7 +52,8 @@ fn network_of(
     requires accepted { AreCandidates points.now candidates.now }
     requires small { network_fault points.now candidates.now ≡ None }
     requires redundancy { q ≤ 999 }
-    ensures { IfOk result (λ network. network ≡ network_of points.now candidates.now q) }
+    ensures network { IfOk result (λ network. network ≡ network_of points.now candidates.now q) }
+    ensures few { IfOk result (λ network. length network.limits ≤ 576) }
 {
     let built = candidates_of(alloc, points, candidates, columns)?;
     let limits = limits_of(alloc, points, columns, built.as_slice(), q)?;
@@ -63,8 +64,8 @@ fn network_of(
 /// Makes the network of these points and candidates, with the limits of the new points and, where
 /// `q` is not 0, a limit of `q` thousandths on the redundancy of each row, which holds where its
 /// candidate is chosen. The answer is a fault of the network exactly where there are more than 64
-/// unknowns, or else more than 512 rows; its number is their count. The candidates were read
-/// against these points.
+/// unknowns, or else more than 512 rows; its number is their count. So a network has at most 576
+/// limits. The candidates were read against these points.
 pub fn build(
     alloc: Global,
     points: &Points,
@@ -73,7 +74,8 @@ pub fn build(
 ) -> Result<Network, TableAnswer>
     requires redundancy { q ≤ 999 }
     requires accepted { AreCandidates points.now candidates.now }
-    ensures { Answers table.Network (network_fault points.now candidates.now) (network_of points.now candidates.now q) result }
+    ensures answer { Answers table.Network (network_fault points.now candidates.now) (network_of points.now candidates.now q) result }
+    ensures few { IfOk result (λ network. length network.limits ≤ 576) }
 {
     let columns = match Columns::number(alloc, points, candidates) {
         Ok(columns) => columns,

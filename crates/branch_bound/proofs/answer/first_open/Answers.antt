@@ -1,6 +1,4 @@
-use Rattle.std.proofs.Common.{◌≡◌, ℕ, ℤ, ◌+◌, ◌<◌, List, Bool, length, arith, ap, below_more, subst, sym}
-use Rattle.geo_model.specs.Network.{NetworkOf}
-use Rattle.branch_bound.specs.Searched.{IsOpenLimit, IsFirstOpen}
+use Rattle.std.proofs.Common.{◌<◌, length, arith, ap, below_more}
 use Rattle.branch_bound.proofs.VerdictLemmas.{first_open_by, some_open}
 use Rattle.branch_bound.proofs.answer.first_open.Goals as goal
 

@@ -1,4 +1,3 @@
-use Rattle.std.proofs.Common.{refl, sym, ◌∙◌}
 use Rattle.std.proofs.lemmas.Bool.{iff_false}
 use Rattle.branch_bound.proofs.VerdictLemmas.{unsettled_by}
 use Rattle.branch_bound.proofs.DoneLemmas.{IsDone-cut_off, IsDone-refuted, IsDone-certified, IsDone-unsettled, IsDone-undercut}

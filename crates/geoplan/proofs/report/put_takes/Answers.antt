@@ -1,4 +1,4 @@
-use Rattle.std.proofs.Common.{◌≡◌, ◌≤◌, ◌++◌, length, ap, sym, ◌∙◌, append_assoc, take, arith}
+use Rattle.std.proofs.Common.{◌≤◌, ◌++◌, length, ap, sym, ◌∙◌, append_assoc, take, arith}
 use Rattle.candidate_tables.specs.CandidateTable.{names_of}
 use Rattle.geoplan.specs.Texts.{take_text, takes_text}
 use Rattle.geoplan.proofs.TextLemmas.{takes_text-chosen, takes_text-left, takes_text-all}

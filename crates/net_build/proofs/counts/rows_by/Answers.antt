@@ -1,4 +1,4 @@
-use Rattle.std.proofs.Common.{inl, inr, arith}
+use Rattle.std.proofs.Common.{arith}
 use Rattle.candidate_tables.specs.declared.kind.Kind.TheVariants as kind
 use Rattle.net_build.proofs.PartFacts.{rows-by, rows-single}
 use Rattle.net_build.proofs.counts.rows_by.Goals as goal

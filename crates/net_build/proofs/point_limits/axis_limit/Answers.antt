@@ -1,4 +1,4 @@
-use Rattle.std.proofs.Common.{◌∙◌, ◌++◌, [], ◌∷◌, List, ap, ap₂}
+use Rattle.std.proofs.Common.{◌∙◌, ◌++◌, [], ◌∷◌, List, ap₂}
 use Rattle.geo_model.specs.Limit.{SquareOf}
 use Rattle.net_build.proofs.PartFacts.{alpha-is, axis-is}
 use Rattle.net_build.proofs.point_limits.axis_limit.Goals as goal
