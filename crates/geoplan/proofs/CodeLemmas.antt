@@ -18,7 +18,8 @@ status_of n =
     else (if n == 5 then status.ReadFault
     else (if n == 6 then status.WriteFault
     else (if n == 7 then status.NoMemory
-    else status.FileTooLong)))))))
+    else (if n == 8 then status.LogRefused
+    else status.FileTooLong))))))))
 
 read_back : (s : Status) → status_of (code_of s) ≡ s
 read_back status.Found = refl
@@ -29,6 +30,7 @@ read_back status.Undecided = refl
 read_back status.ReadFault = refl
 read_back status.WriteFault = refl
 read_back status.NoMemory = refl
+read_back status.LogRefused = refl
 read_back status.FileTooLong = refl
 
 pub from_code : (s : Status) (n : ℕ) → code_of s ≡ n → s ≡ status_of n
@@ -44,6 +46,7 @@ kept status.Undecided target is other = absurd (other (sym is))
 kept status.ReadFault target is other = is
 kept status.WriteFault target is other = is
 kept status.NoMemory target is other = is
+kept status.LogRefused target is other = is
 kept status.FileTooLong target is other = is
 
 -- how a status other than of a fault was printed

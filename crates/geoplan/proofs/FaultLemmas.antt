@@ -9,10 +9,10 @@ use Rattle.shelf_io.proofs.WrittenLaws.{with_written-nothing, is_some-with_writt
 use Rattle.bound_log.specs.LogText.{log_text}
 use Rattle.branch_bound.specs.Explored.{ShelfState}
 use Rattle.geoplan.specs.Codes.{code_of, after_failed_put}
-use Rattle.geoplan.specs.CommandOf.{SourcesOf, JobOf, plan_command, rows_command, plain_sources, command_of, name_written, written_by, OnCommand, OnPlan}
+use Rattle.geoplan.specs.CommandOf.{SourcesOf, JobOf, CommandOf, plan_command, rows_command, check_command, plain_sources, command_of, name_written, written_by, OnCommand, OnPlan}
 use Rattle.geoplan.specs.Printing.{SinkState, WritesPrefix, WritesAll, Prints, Answered, Runs}
-use Rattle.geoplan.specs.Promises.{WhereHeld, PrintFails, ListFails, IsUnwritten, OthersStay}
-use Rattle.geoplan.specs.Standing.{KeepsOrBegan, FindsPlan, FindsNone, LeavesOpen, ListsRows, PlanStands, RowsStand, Stands}
+use Rattle.geoplan.specs.Promises.{WhereHeld, LogFails, PrintFails, ListFails, CheckFails, IsUnwritten, OthersStay}
+use Rattle.geoplan.specs.Standing.{KeepsOrBegan, FindsPlan, FindsNone, LeavesOpen, ListsRows, AcceptsLog, FailsToWrite, PlanStands, RowsStand, CheckStands, Stands}
 use Rattle.geoplan.specs.declared.status.Status.{Status}
 use Rattle.geoplan.specs.declared.status.Status.TheVariants as status
 use Rattle.geoplan.proofs.AnswerLemmas.{by_command}
@@ -58,6 +58,7 @@ plan_held job before now status.Undecided text left = inr (log_text left.tree, l
 plan_held job before now status.ReadFault text unread = inl unread.held
 plan_held job before now status.WriteFault text unwritten = began_piece job before.held now.held unwritten.held
 plan_held job before now status.NoMemory text out = began_piece job before.held now.held out.held
+plan_held job before now status.LogRefused text never = absurd never
 plan_held job before now status.FileTooLong text refused = inl refused.refuses.held
 
 pub rows_held : (sources : SourcesOf) (before now : ShelfState) (begun : Status) (text : List ℕ) → RowsStand sources before now begun text → now.held ≡ before.held
@@ -69,7 +70,20 @@ rows_held sources before now status.Undecided text never = absurd never
 rows_held sources before now status.ReadFault text unread = unread.held
 rows_held sources before now status.WriteFault text never = absurd never
 rows_held sources before now status.NoMemory text out = out.held
+rows_held sources before now status.LogRefused text never = absurd never
 rows_held sources before now status.FileTooLong text refused = refused.refuses.held
+
+pub check_held : (job : JobOf) (before now : ShelfState) (begun : Status) (text : List ℕ) → CheckStands job before now begun text → now.held ≡ before.held
+check_held job before now status.Found text accepted = accepted.held
+check_held job before now status.NoPlan text never = absurd never
+check_held job before now status.WordsRefused text never = absurd never
+check_held job before now status.TableRefused text refused = refused.refuses.held
+check_held job before now status.Undecided text never = absurd never
+check_held job before now status.ReadFault text unread = unread.held
+check_held job before now status.WriteFault text never = absurd never
+check_held job before now status.NoMemory text out = out.held
+check_held job before now status.LogRefused text refused = refused.held
+check_held job before now status.FileTooLong text refused = refused.refuses.held
 
 module _ (words : List (List ℕ)) (before now : ShelfState) where
   -- the shelf holds what it held, or a piece under the name that the command writes
@@ -83,6 +97,7 @@ module _ (words : List (List ℕ)) (before now : ShelfState) where
   held_answered : (begun : Status) (text : List ℕ) → Answered words before now begun text → HeldOrLog
   held_answered begun text (inl (plan_command job, of, stands)) = log_held job of (plan_held job before now begun text stands)
   held_answered begun text (inl (rows_command points candidates, of, stands)) = inl (rows_held (plain_sources points candidates) before now begun text stands)
+  held_answered begun text (inl (check_command job, of, stands)) = inl (check_held job before now begun text stands)
   held_answered begun text (inr (none, refused)) = inl (ap (λ (s : ShelfState). s.held) refused.same)
 
   told_held : HeldOrLog → is_some now.held ≡ is_some before.held
@@ -120,6 +135,7 @@ module _ (words : List (List ℕ)) (ended : Status) (before now : ShelfState) (s
     inl (record { rose = unwritten.rose; last = unwritten.last; held = unwritten.held; silent = silent unwritten.printed }),
   )
   log_fails text silent (rows_command points candidates, of, never) = absurd never
+  log_fails text silent (check_command job, of, never) = absurd never
 
   plan_fails : (job : JobOf) (text : List ℕ) → Rose sink.faults sink_now.faults → WritesPrefix text sink sink_now → FindsPlan job before now text → PrintFails job before now sink sink_now
   plan_fails job text rose began found = record {
@@ -159,17 +175,32 @@ module _ (words : List (List ℕ)) (ended : Status) (before now : ShelfState) (s
     began = subst (λ t. WritesPrefix t sink sink_now) listed.printed began;
   }
 
+  check_fails : (job : JobOf) (text : List ℕ) → Rose sink.faults sink_now.faults → WritesPrefix text sink sink_now → AcceptsLog job before now text → CheckFails job before now sink sink_now
+  check_fails job text rose began accepted = record {
+    tables = accepted.tables;
+    done = accepted.done;
+    input = accepted.input;
+    replayed = accepted.replayed;
+    rose = rose;
+    quiet = accepted.quiet;
+    held = accepted.held;
+    began = subst (λ t. WritesPrefix t sink sink_now) accepted.printed began;
+  }
+
   found_fails : (text : List ℕ) → Rose sink.faults sink_now.faults → WritesPrefix text sink sink_now → OnCommand words (λ command. Stands command before now status.Found text) → OnCommand words (λ command. IsUnwritten command before now sink sink_now)
   found_fails text rose began (plan_command job, of, found) = (plan_command job, of, inr (plan_fails job text rose began found))
   found_fails text rose began (rows_command points candidates, of, listed) = (rows_command points candidates, of, list_fails (plain_sources points candidates) text rose began listed)
+  found_fails text rose began (check_command job, of, accepted) = (check_command job, of, check_fails job text rose began accepted)
 
   no_plan_fails : (text : List ℕ) → Rose sink.faults sink_now.faults → WritesPrefix text sink sink_now → OnCommand words (λ command. Stands command before now status.NoPlan text) → OnCommand words (λ command. IsUnwritten command before now sink sink_now)
   no_plan_fails text rose began (plan_command job, of, found) = (plan_command job, of, inr (none_fails job text rose began found))
   no_plan_fails text rose began (rows_command points candidates, of, never) = absurd never
+  no_plan_fails text rose began (check_command job, of, never) = absurd never
 
   undecided_fails : (text : List ℕ) → Rose sink.faults sink_now.faults → WritesPrefix text sink sink_now → OnCommand words (λ command. Stands command before now status.Undecided text) → OnCommand words (λ command. IsUnwritten command before now sink sink_now)
   undecided_fails text rose began (plan_command job, of, left) = (plan_command job, of, inr (open_fails job text rose began left))
   undecided_fails text rose began (rows_command points candidates, of, never) = absurd never
+  undecided_fails text rose began (check_command job, of, never) = absurd never
 
   put_fails : (begun : Status) (text : List ℕ) → after_failed_put begun ≡ status.WriteFault → Rose sink.faults sink_now.faults → WritesPrefix text sink sink_now → Answered words before now begun text → OnCommand words (λ command. IsUnwritten command before now sink sink_now)
   put_fails status.Found text after rose began answered = found_fails text rose began (by_command words status.Found status.Found before now text (λ e. cc) (λ e. cc) refl answered)
@@ -181,6 +212,7 @@ module _ (words : List (List ℕ)) (ended : Status) (before now : ShelfState) (s
   put_fails status.WriteFault text after rose began answered =
       log_fails text (λ none. silent_prefix text sink sink_now none began) (by_command words status.WriteFault status.WriteFault before now text (λ e. cc) (λ e. cc) refl answered)
   put_fails status.NoMemory text after rose began answered = absurd (cc)
+  put_fails status.LogRefused text after rose began answered = absurd (cc)
   put_fails status.FileTooLong text after rose began answered = absurd (cc)
 
   unwritten_by : (begun : Status) (text : List ℕ) → ended ≡ status.WriteFault → Answered words before now begun text → Prints begun text ended sink sink_now → OnCommand words (λ command. IsUnwritten command before now sink sink_now)

@@ -11,3 +11,4 @@ pub mod AnswerLemmas
 pub mod TopLemmas
 pub mod FaultLemmas
 pub mod MemoryLemmas
+pub mod CheckLemmas

@@ -1,6 +1,9 @@
 -- Laws of reading the tables and of what they give.
 use Rattle.std.proofs.Common.{◌≡◌, ◌+◌, ◌<◌, ◌≤◌, ℕ, Bool, true, false, if◌then◌else◌, List, [], ◌∷◌, ◌++◌, length, refl, sym, ◌∙◌, subst, arith, Some, None}
 use Rattle.std.specs.Prelude.{All}
+use Rattle.std.specs.Option.{option_map}
+use Rattle.shelf_io.specs.Files.{bytes_of}
+use Rattle.shelf_io.specs.Faults.{KeepsFaults}
 use Rattle.std.specs.List.{AllByRecursion, enumerate_from, flat_map}
 use Rattle.std.proofs.lemmas.List.{length-map}
 use Rattle.geo_model.specs.Network.{NetworkOf, IsNetwork}
@@ -15,43 +18,68 @@ use Rattle.design_rows.proofs.UnknownFacts.{every-append, every-weaker}
 use Rattle.net_build.specs.Build.{candidate_of, network_of}
 use Rattle.geoplan.specs.CommandOf.{SourcesOf}
 use Rattle.geoplan.specs.Input.{most_bytes, judged_input}
-use Rattle.geoplan.specs.Loading.{ReadsTable, IsGoodInput, Loads}
+use Rattle.geoplan.specs.Loading.{ReadsFile, ReadsLog, IsGoodInput, Loads}
 use Rattle.geoplan.specs.Standing.{IsGoodNetwork}
 use Rattle.geoplan.specs.Tables.{TablesOf}
 use Rattle.geoplan.specs.declared.input.Input.{Input}
 use Rattle.geoplan.specs.declared.input.Input.TheVariants as input
-use Rattle.geoplan.specs.declared.input.Table.TheVariants as table
-use Rattle.geoplan.proofs.InputLemmas.{input_from-long_points, input_from-long_candidates, input_from-judged}
+use Rattle.geoplan.specs.declared.input.File.{File}
+use Rattle.geoplan.specs.declared.input.File.TheVariants as file
+
+use Rattle.geoplan.proofs.InputLemmas.{input_from-long_points, input_from-long_candidates, input_from-long_log, input_from-judged, long_log, short_log, log_held}
 
 -- ---- reading
 
+never_long : (which : File) (tables : TablesOf) → input.TooLong which ≡ input.Built tables → ⊥
+never_long which tables is = cc
+
+-- no fault is counted in two steps where none is in each
+keeps : (before middle now : ShelfState) → KeepsFaults middle.faults now.faults middle.last_fault now.last_fault → KeepsFaults before.faults middle.faults before.last_fault middle.last_fault → KeepsFaults before.faults now.faults before.last_fault now.last_fault
+keeps before middle now two one = record { same_count = two.same_count ∙ one.same_count; same_last = two.same_last ∙ one.same_last }
+
 -- the points are too long
-pub Loads-long_points : (sources : SourcesOf) (before now : ShelfState) → ReadsTable sources.points None before now → Loads sources (input.TooLong table.Points) before now
-Loads-long_points sources before now read = record {
-  input = λ files told. sym (input_from-long_points sources.redundancy _ _ (read.has files told));
-  good = λ tables is. absurd (cc);
+pub Loads-long_points : (sources : SourcesOf) (given : Input) (log : List ℕ) (before now : ShelfState) → given ≡ input.TooLong file.Points → ReadsFile most_bytes sources.points None before now → Loads sources given log before now
+Loads-long_points sources given log before now is read = record {
+  input = λ files told. is ∙ sym (input_from-long_points sources.redundancy _ _ _ (read.has files told));
+  good = λ tables built. absurd (never_long file.Points tables (sym is ∙ built));
+  read = λ tables built. absurd (never_long file.Points tables (sym is ∙ built));
   held = read.held;
   quiet = read.quiet;
 }
 
 -- the candidates are
-pub Loads-long_candidates : (sources : SourcesOf) (points : List ℕ) (before middle now : ShelfState) → ReadsTable sources.points (Some points) before middle → ReadsTable sources.candidates None middle now → Loads sources (input.TooLong table.Candidates) before now
-Loads-long_candidates sources points before middle now one two = record {
+pub Loads-long_candidates : (sources : SourcesOf) (points : List ℕ) (given : Input) (log : List ℕ) (before middle now : ShelfState) → given ≡ input.TooLong file.Candidates → ReadsFile most_bytes sources.points (Some points) before middle → ReadsFile most_bytes sources.candidates None middle now → Loads sources given log before now
+Loads-long_candidates sources points given log before middle now is one two = record {
   input = λ files told.
-      sym (input_from-long_candidates sources.redundancy _ _ (subst (λ bytes. length bytes ≤ most_bytes) (one.has.1 files told) one.has.0) (two.has files (one.held ∙ told)));
-  good = λ tables is. absurd (cc);
+      is ∙ sym (input_from-long_candidates sources.redundancy _ _ _ (subst (λ bytes. length bytes ≤ most_bytes) (one.has.1 files told) one.has.0) (two.has files (one.held ∙ told)));
+  good = λ tables built. absurd (never_long file.Candidates tables (sym is ∙ built));
+  read = λ tables built. absurd (never_long file.Candidates tables (sym is ∙ built));
   held = two.held ∙ one.held;
-  quiet = record { same_count = two.quiet.same_count ∙ one.quiet.same_count; same_last = two.quiet.same_last ∙ one.quiet.same_last };
+  quiet = keeps before middle now two.quiet one.quiet;
 }
 
--- neither is, and they are judged
-pub Loads-judged : (sources : SourcesOf) (points candidates : List ℕ) (given : Input) (before middle now : ShelfState) → ReadsTable sources.points (Some points) before middle → ReadsTable sources.candidates (Some candidates) middle now → given ≡ judged_input sources.redundancy points candidates → IsGoodInput given → Loads sources given before now
-Loads-judged sources points candidates given before middle now one two is good = record {
+-- the log is
+pub Loads-long_log : (sources : SourcesOf) (points candidates : List ℕ) (given : Input) (log : List ℕ) (before first second now : ShelfState) → given ≡ input.TooLong file.Log → ReadsFile most_bytes sources.points (Some points) before first → ReadsFile most_bytes sources.candidates (Some candidates) first second → ReadsLog sources.log None second now → Loads sources given log before now
+Loads-long_log sources points candidates given log before first second now is one two three = record {
   input = λ files told.
-      is ∙ sym (rw (← one.has.1 files told, ← two.has.1 files (one.held ∙ told)) (input_from-judged sources.redundancy points candidates one.has.0 two.has.0));
+      is ∙ sym (input_from-long_log sources.redundancy _ _ _ (subst (λ bytes. length bytes ≤ most_bytes) (one.has.1 files told) one.has.0)
+      (subst (λ bytes. length bytes ≤ most_bytes) (two.has.1 files (one.held ∙ told)) two.has.0) (long_log sources.log second.held three.has files (two.held ∙ one.held ∙ told)));
+  good = λ tables built. absurd (never_long file.Log tables (sym is ∙ built));
+  read = λ tables built. absurd (never_long file.Log tables (sym is ∙ built));
+  held = three.held ∙ two.held ∙ one.held;
+  quiet = keeps before second now three.quiet (keeps before first second two.quiet one.quiet);
+}
+
+-- none is, and they are judged
+pub Loads-judged : (sources : SourcesOf) (points candidates log : List ℕ) (given : Input) (before first second now : ShelfState) → ReadsFile most_bytes sources.points (Some points) before first → ReadsFile most_bytes sources.candidates (Some candidates) first second → ReadsLog sources.log (Some log) second now → given ≡ judged_input sources.redundancy points candidates → IsGoodInput given → Loads sources given log before now
+Loads-judged sources points candidates log given before first second now one two three is good = record {
+  input = λ files told.
+      is ∙ sym (rw (← one.has.1 files told, ← two.has.1 files (one.held ∙ told))
+      (input_from-judged sources.redundancy points candidates (option_map (bytes_of files) sources.log) one.has.0 two.has.0 (short_log sources.log log second.held three.has files (two.held ∙ one.held ∙ told))));
   good = good;
-  held = two.held ∙ one.held;
-  quiet = record { same_count = two.quiet.same_count ∙ one.quiet.same_count; same_last = two.quiet.same_last ∙ one.quiet.same_last };
+  read = λ tables built name asked files told. log_held sources.log log second.held three.has name asked files (two.held ∙ one.held ∙ told);
+  held = three.held ∙ two.held ∙ one.held;
+  quiet = keeps before second now three.quiet (keeps before first second two.quiet one.quiet);
 }
 
 -- ---- the network

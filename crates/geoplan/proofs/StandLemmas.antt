@@ -5,24 +5,27 @@ use Rattle.shelf_io.specs.Files.{with_bytes}
 use Rattle.geo_model.specs.declared.answer.Answer.{Answer}
 use Rattle.geo_model.specs.declared.answer.Answer.TheVariants as answer
 use Rattle.geo_model.specs.declared.answer.SearchDone.{SearchDone}
+use Rattle.bound_log.specs.declared.bound.Bound.{Bound}
 use Rattle.bound_log.specs.LogText.{log_text}
 use Rattle.bound_log.specs.LogTree.{root_of, bound_at}
 use Rattle.bound_log.specs.Tree.{Tree}
 use Rattle.branch_bound.specs.Explored.{ShelfState}
 use Rattle.branch_bound.specs.Searched.{IsAnswer}
-use Rattle.geoplan.specs.CommandOf.{JobOf}
+use Rattle.log_check.specs.Replayed.{IsReplayed}
+use Rattle.log_check.specs.FirstFault.{IsFirstFault}
+use Rattle.geoplan.specs.CommandOf.{JobOf, checked_sources}
 use Rattle.geoplan.specs.Loading.{HasTables}
-use Rattle.geoplan.specs.Reporting.{Ends, Reports}
+use Rattle.geoplan.specs.Reporting.{CanReport, Ends, Reports, Replays, HasNoText}
 use Rattle.geoplan.specs.Solving.{Solves}
-use Rattle.geoplan.specs.Standing.{LeavesLog, PlanStands}
+use Rattle.geoplan.specs.Standing.{LeavesLog, PlanStands, CheckStands}
 use Rattle.geoplan.specs.Tables.{TablesOf}
 use Rattle.geoplan.specs.Texts.{tables_plan_text, no_plan_text, tables_undecided_text}
 use Rattle.geoplan.specs.declared.status.Status.{Status}
 use Rattle.geoplan.specs.declared.status.Status.TheVariants as status
 
 -- the log of a search that is done
-leaves_log : (job : JobOf) (tables : TablesOf) (done : SearchDone) (before middle now : ShelfState) → HasTables job.sources tables before middle → (solved : Solves tables job.log done middle now) → LeavesLog job before now tables solved.tree
-leaves_log job tables done before middle now has solved = record {
+leaves_log : (job : JobOf) (tables : TablesOf) (read : List ℕ) (done : SearchDone) (before middle now : ShelfState) → HasTables job.sources tables read before middle → (solved : Solves tables job.log done middle now) → LeavesLog job before now tables solved.tree
+leaves_log job tables read done before middle now has solved = record {
   input = has.input;
   good = has.good;
   allowed = solved.searched.allowed;
@@ -64,6 +67,45 @@ module _ (job : JobOf) (before now : ShelfState) (tables : TablesOf) (tree : Tre
       (reports is.open_limit.limit is.open_limit.named)
 
 -- what stands once the search is done and its answer is reported
-pub PlanStands-reported : (job : JobOf) (tables : TablesOf) (done : SearchDone) (before middle now : ShelfState) (ends : Status) (text : List ℕ) → HasTables job.sources tables before middle → Solves tables job.log done middle now → Reports tables done.answer ends text → PlanStands job before now ends text
-PlanStands-reported job tables done before middle now ends text has solved reports =
-    by_answer job before now tables solved.tree (leaves_log job tables done before middle now has solved) ends text done.answer solved.searched.answered reports
+pub PlanStands-reported : (job : JobOf) (tables : TablesOf) (read : List ℕ) (done : SearchDone) (before middle now : ShelfState) (ends : Status) (text : List ℕ) → HasTables job.sources tables read before middle → Solves tables job.log done middle now → Reports tables done.answer ends text → PlanStands job before now ends text
+PlanStands-reported job tables read done before middle now ends text has solved reports =
+    by_answer job before now tables solved.tree (leaves_log job tables read done before middle now has solved) ends text done.answer solved.searched.answered reports
+
+-- the answer of a search can be reported
+can_report : (tables : TablesOf) (bound : Bound) (given : Answer) → IsAnswer tables.network bound given → CanReport tables given
+can_report tables bound (answer.Best plan) is = is.certified.long
+can_report tables bound answer.NoPlan is = tt
+can_report tables bound (answer.Undecided plan number step lo hi) is = (is.long, record { limit = is.open_limit.limit; named = is.open_limit.named })
+
+pub CanReport-solved : (tables : TablesOf) (log : List ℕ) (done : SearchDone) (before now : ShelfState) → Solves tables log done before now → CanReport tables done.answer
+CanReport-solved tables log done before now solved = can_report tables (bound_at tables.network (root_of tables.network) solved.tree) done.answer solved.searched.answered
+
+-- ---- check
+
+module _ (job : JobOf) (tables : TablesOf) (log : List ℕ) (before now : ShelfState) (has : HasTables (checked_sources job) tables log before now) (ends : Status) (text : List ℕ) where
+  check_out : HasNoText ends text → CheckStands job before now ends text
+  check_out (is, none) = subst (λ s. CheckStands job before now s text) (sym is) (record { held = has.held; later = omega (arith, has.quiet.same_count); printed = none })
+
+  -- what stands once the log is replayed
+  pub CheckStands-replayed : Replays tables.network log ends text → CheckStands job before now ends text
+  CheckStands-replayed (inl (done, is, inl (e, said))) = subst (λ s. CheckStands job before now s text) (sym e) (record {
+    tables = tables;
+    done = done;
+    input = has.input;
+    replayed = λ files told. subst (λ bytes. IsReplayed tables.network bytes done) (has.read job.log refl files told) is;
+    held = has.held;
+    quiet = has.quiet;
+    printed = said;
+  })
+  CheckStands-replayed (inl (done, is, inr out)) = check_out out
+  CheckStands-replayed (inr (inl (fault, is, inl (e, said)))) = subst (λ s. CheckStands job before now s text) (sym e) (record {
+    tables = tables;
+    fault = fault;
+    input = has.input;
+    first = λ files told. subst (λ bytes. IsFirstFault tables.network bytes fault) (has.read job.log refl files told) is;
+    held = has.held;
+    quiet = has.quiet;
+    printed = said;
+  })
+  CheckStands-replayed (inr (inl (fault, is, inr out))) = check_out out
+  CheckStands-replayed (inr (inr out)) = check_out out

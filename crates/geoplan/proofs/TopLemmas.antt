@@ -10,14 +10,14 @@ use Rattle.bound_log.proofs.SoundLemmas.{HasBound-below}
 use Rattle.bound_log.specs.declared.bound.Bound.TheVariants.{NoPlan, AtLeast}
 use Rattle.branch_bound.specs.Explored.{ShelfState}
 use Rattle.geoplan.specs.Codes.{code_of}
-use Rattle.geoplan.specs.CommandOf.{SourcesOf, JobOf, plan_command, rows_command, plain_sources, sources_of, command_of, OnCommand, OnPlan, IfPlan, IfRows}
+use Rattle.geoplan.specs.CommandOf.{SourcesOf, JobOf, CommandOf, plan_command, rows_command, check_command, plain_sources, checked_sources, sources_of, command_of, OnCommand, OnPlan, OnCheck, IfPlan, IfRows, IfCheck}
 use Rattle.geoplan.specs.Printing.{SinkState, WritesAll, Answered, SaysWords, Runs}
-use Rattle.geoplan.specs.Promises.{WhereHeld, HoldsPlan, HoldsNone, HoldsUndecided, IsFound, IsNone, IsLeftOpen, AreListed, IsTableRefused, IsUnread, IsTooLong, Says}
-use Rattle.geoplan.specs.Standing.{FindsPlan, FindsNone, LeavesOpen, ListsRows, RefusesTable, FailsToRead, RefusesLength, Stands}
+use Rattle.geoplan.specs.Promises.{WhereHeld, HoldsPlan, HoldsNone, HoldsUndecided, IsFound, IsNone, IsLeftOpen, AreListed, IsTableRefused, IsUnread, IsTooLong, IsAccepted, IsLogRefused, Says}
+use Rattle.geoplan.specs.Standing.{FindsPlan, FindsNone, LeavesOpen, ListsRows, AcceptsLog, RefusesLog, RefusesTable, FailsToRead, RefusesLength, Stands}
 use Rattle.geoplan.specs.Texts.{words_text}
 use Rattle.geoplan.specs.declared.status.Status.{Status}
 use Rattle.geoplan.specs.declared.status.Status.TheVariants as status
-use Rattle.geoplan.proofs.AnswerLemmas.{by_command, by_plan, stands_for}
+use Rattle.geoplan.proofs.AnswerLemmas.{by_command, by_plan, by_check, stands_for}
 use Rattle.geoplan.proofs.CodeLemmas.{from_code, says-of, whole-of}
 
 -- ---- what stands with a report
@@ -33,6 +33,7 @@ HoldsPlan-of job before now text files after told told_now found =
     } in
     record {
       input = found.log.input files told;
+      network = found.log.good.bounds;
       certified = found.best.certified;
       meets = certified_meets found.tables.network found.plan found.log.good.bounds found.best.certified.certified;
       bound = log;
@@ -50,6 +51,7 @@ HoldsNone-of job before now text files after told told_now found =
     } in
     record {
       input = found.log.input files told;
+      network = found.log.good.bounds;
       bound = log;
       none = HasBound-below found.tables.network (bytes_of after job.log) NoPlan found.log.good.bounds log;
     }
@@ -65,6 +67,7 @@ HoldsUndecided-of job before now text files after told told_now left =
     } in
     record {
       input = left.log.input files told;
+      network = left.log.good.bounds;
       unsettled = record { long = left.undecided.long; unsettled = left.undecided.unsettled };
       bound = log;
       dearer = left.undecided.dearer;
@@ -103,6 +106,43 @@ module _ (words : List (List ℕ)) (ended : Status) (before now : ShelfState) (s
       let printed = whole-of status.Found runs.begun ended runs.text sink sink_now (λ e. cc) (λ e. cc) (λ e. cc) (from_code ended 0 is) runs.printed in
       listed_in (plain_sources points candidates) runs.text printed.1 (stands_for words (rows_command points candidates) status.Found before now runs.text of (subst (λ s. Answered words before now s runs.text) printed.0 runs.answered))
 
+  -- .. of `check`
+  accepted_in : (job : JobOf) (text : List ℕ) → WritesAll text sink sink_now → AcceptsLog job before now text → IsAccepted job before now sink sink_now
+  accepted_in job text all accepted = record {
+    tables = accepted.tables;
+    done = accepted.done;
+    input = accepted.input;
+    replayed = accepted.replayed;
+    held = accepted.held;
+    printed = subst (λ t. WritesAll t sink sink_now) accepted.printed all;
+  }
+
+  pub checked-of : Runs words ended before now sink sink_now → code_of ended ≡ 0 → IfCheck words (λ job. IsAccepted job before now sink sink_now)
+  checked-of runs is job of =
+      let printed = whole-of status.Found runs.begun ended runs.text sink sink_now (λ e. cc) (λ e. cc) (λ e. cc) (from_code ended 0 is) runs.printed in
+      accepted_in job runs.text printed.1 (stands_for words (check_command job) status.Found before now runs.text of (subst (λ s. Answered words before now s runs.text) printed.0 runs.answered))
+
+  -- the clause of status 8
+  log_in : (text : List ℕ) → Says text sink sink_now → OnCheck words (λ job. RefusesLog job before now text) → OnCheck words (λ job. IsLogRefused job before now sink sink_now)
+  log_in text says (job, of, refused) = (
+    job,
+    of,
+    record {
+      tables = refused.tables;
+      fault = refused.fault;
+      input = refused.input;
+      first = refused.first;
+      held = refused.held;
+      says = subst (λ t. Says t sink sink_now) refused.printed says;
+    },
+  )
+
+  pub log_refused-of : Runs words ended before now sink sink_now → code_of ended ≡ 8 → OnCheck words (λ job. IsLogRefused job before now sink sink_now)
+  log_refused-of runs is =
+      let said = says-of status.LogRefused runs.begun ended runs.text sink sink_now (λ e. cc) (λ e. cc) (from_code ended 8 is) runs.printed in
+      log_in runs.text said.1 (by_check words status.LogRefused before now runs.text (λ points candidates never. never) (λ job never. never)
+      (by_command words status.LogRefused runs.begun before now runs.text (λ e. cc) (λ e. cc) said.0 runs.answered))
+
   -- the clause of status 1
   none_in : (text : List ℕ) → WritesAll text sink sink_now → OnPlan words (λ job. FindsNone job before now text) → OnPlan words (λ job. WhereHeld before.held now.held (λ files after. IsNone job files after sink sink_now))
   none_in text all (job, of, found) = (
@@ -118,7 +158,7 @@ module _ (words : List (List ℕ)) (ended : Status) (before now : ShelfState) (s
   pub none-of : Runs words ended before now sink sink_now → code_of ended ≡ 1 → OnPlan words (λ job. WhereHeld before.held now.held (λ files after. IsNone job files after sink sink_now))
   none-of runs is =
       let printed = whole-of status.NoPlan runs.begun ended runs.text sink sink_now (λ e. cc) (λ e. cc) (λ e. cc) (from_code ended 1 is) runs.printed in
-      none_in runs.text printed.1 (by_plan words status.NoPlan before now runs.text (λ points candidates never. never)
+      none_in runs.text printed.1 (by_plan words status.NoPlan before now runs.text (λ points candidates never. never) (λ job never. never)
       (by_command words status.NoPlan runs.begun before now runs.text (λ e. cc) (λ e. cc) printed.0 runs.answered))
 
   -- the clause of status 4
@@ -142,13 +182,14 @@ module _ (words : List (List ℕ)) (ended : Status) (before now : ShelfState) (s
   pub undecided-of : Runs words ended before now sink sink_now → code_of ended ≡ 4 → OnPlan words (λ job. WhereHeld before.held now.held (λ files after. IsLeftOpen job files after sink sink_now))
   undecided-of runs is =
       let printed = whole-of status.Undecided runs.begun ended runs.text sink sink_now (λ e. cc) (λ e. cc) (λ e. cc) (from_code ended 4 is) runs.printed in
-      open_in runs.text printed.1 (by_plan words status.Undecided before now runs.text (λ points candidates never. never)
+      open_in runs.text printed.1 (by_plan words status.Undecided before now runs.text (λ points candidates never. never) (λ job never. never)
       (by_command words status.Undecided runs.begun before now runs.text (λ e. cc) (λ e. cc) printed.0 runs.answered))
 
   -- the clause of status 2
   words_in : (text : List ℕ) → Says text sink sink_now → Answered words before now status.WordsRefused text → (command_of words ≡ None) × Says words_text sink sink_now
   words_in text says (inl (plan_command job, of, never)) = absurd never
   words_in text says (inl (rows_command points candidates, of, never)) = absurd never
+  words_in text says (inl (check_command job, of, never)) = absurd never
   words_in text says (inr (none, refused)) = (none, said refused.says)
     where
       said : SaysWords status.WordsRefused text → Says words_text sink sink_now
@@ -170,6 +211,7 @@ module _ (words : List (List ℕ)) (ended : Status) (before now : ShelfState) (s
   table_in : (text : List ℕ) → Says text sink sink_now → OnCommand words (λ command. Stands command before now status.TableRefused text) → OnCommand words (λ command. IsTableRefused (sources_of command) before now sink sink_now)
   table_in text says (plan_command job, of, refused) = (plan_command job, of, table_refused job.sources text says refused)
   table_in text says (rows_command points candidates, of, refused) = (rows_command points candidates, of, table_refused (plain_sources points candidates) text says refused)
+  table_in text says (check_command job, of, refused) = (check_command job, of, table_refused (checked_sources job) text says refused)
 
   pub refused_table-of : Runs words ended before now sink sink_now → code_of ended ≡ 3 → OnCommand words (λ command. IsTableRefused (sources_of command) before now sink sink_now)
   refused_table-of runs is =
@@ -190,6 +232,7 @@ module _ (words : List (List ℕ)) (ended : Status) (before now : ShelfState) (s
   unread_in : (text : List ℕ) → Says text sink sink_now → OnCommand words (λ command. Stands command before now status.ReadFault text) → OnCommand words (λ command. IsUnread (sources_of command) before now sink sink_now)
   unread_in text says (plan_command job, of, failed) = (plan_command job, of, was_unread job.sources text says failed)
   unread_in text says (rows_command points candidates, of, failed) = (rows_command points candidates, of, was_unread (plain_sources points candidates) text says failed)
+  unread_in text says (check_command job, of, failed) = (check_command job, of, was_unread (checked_sources job) text says failed)
 
   pub unread-of : Runs words ended before now sink sink_now → code_of ended ≡ 5 → OnCommand words (λ command. IsUnread (sources_of command) before now sink sink_now)
   unread-of runs is =
@@ -199,13 +242,14 @@ module _ (words : List (List ℕ)) (ended : Status) (before now : ShelfState) (s
   -- the clause of status 9
   was_too_long : (sources : SourcesOf) (text : List ℕ) → Says text sink sink_now → RefusesLength sources before now text → IsTooLong sources before now sink sink_now
   was_too_long sources text says refused = record {
-    table = refused.table;
+    which = refused.which;
     refused = record { input = refused.refuses.input; held = refused.refuses.held; says = subst (λ t. Says t sink sink_now) refused.printed says };
   }
 
   long_in : (text : List ℕ) → Says text sink sink_now → OnCommand words (λ command. Stands command before now status.FileTooLong text) → OnCommand words (λ command. IsTooLong (sources_of command) before now sink sink_now)
   long_in text says (plan_command job, of, refused) = (plan_command job, of, was_too_long job.sources text says refused)
   long_in text says (rows_command points candidates, of, refused) = (rows_command points candidates, of, was_too_long (plain_sources points candidates) text says refused)
+  long_in text says (check_command job, of, refused) = (check_command job, of, was_too_long (checked_sources job) text says refused)
 
   pub too_long-of : Runs words ended before now sink sink_now → code_of ended ≡ 9 → OnCommand words (λ command. IsTooLong (sources_of command) before now sink sink_now)
   too_long-of runs is =

@@ -12,6 +12,7 @@ code_of status.Undecided = 4
 code_of status.ReadFault = 5
 code_of status.WriteFault = 6
 code_of status.NoMemory = 7
+code_of status.LogRefused = 8
 code_of status.FileTooLong = 9
 
 -- the status where a text could not be printed
@@ -24,4 +25,5 @@ after_failed_put status.Undecided = status.WriteFault
 after_failed_put status.ReadFault = status.ReadFault
 after_failed_put status.WriteFault = status.WriteFault
 after_failed_put status.NoMemory = status.NoMemory
+after_failed_put status.LogRefused = status.LogRefused
 after_failed_put status.FileTooLong = status.FileTooLong

@@ -4,30 +4,39 @@ use Rattle.geoplan.specs.Digits.{whole_of}
 
 -- The words of a command line, the program's name first. This project's own.
 
--- the two tables that a command reads, by their names, and the redundancy that is asked of their network, in thousandths
+-- what a command reads: its two tables, by their names, and the redundancy that is asked of their network, in
+-- thousandths; and the name of a log, if it reads one
 pub record SourcesOf : Type 0 where
   pub points : List ℕ
   pub candidates : List ℕ
   pub redundancy : ℕ
+  pub log : Option (List ℕ)
 
--- what the command `plan` is asked for: its tables, and the name of its log
+-- what the commands `plan` and `check` are asked for: their tables, and the name of the log that `plan` writes and
+-- `check` reads
 pub record JobOf : Type 0 where
   pub sources : SourcesOf
   pub log : List ℕ
 
--- a command: `plan`, or `rows` with the names of its two tables
+-- a command: `plan`, `check`, or `rows` with the names of its two tables
 pub data CommandOf : Type 0 where
   plan_command : JobOf → CommandOf
   rows_command : List ℕ → List ℕ → CommandOf
+  check_command : JobOf → CommandOf
 
 -- the tables of `rows`, of whose network no redundancy is asked
 abbrev pub plain_sources : List ℕ → List ℕ → SourcesOf
-plain_sources points candidates = record { points = points; candidates = candidates; redundancy = 0 }
+plain_sources points candidates = record { points = points; candidates = candidates; redundancy = 0; log = None }
 
--- the tables that a command reads
+-- the tables of `check`, and its log
+abbrev pub checked_sources : JobOf → SourcesOf
+checked_sources job = record { points = job.sources.points; candidates = job.sources.candidates; redundancy = job.sources.redundancy; log = Some job.log }
+
+-- what a command reads
 abbrev pub sources_of : CommandOf → SourcesOf
 sources_of (plan_command job) = job.sources
 sources_of (rows_command points candidates) = plain_sources points candidates
+sources_of (check_command job) = checked_sources job
 
 -- whether a word after the program's name may stand: it isn't empty, and doesn't begin with `-`
 abbrev pub is_plain : List ℕ → Bool
@@ -42,12 +51,13 @@ are_shared points candidates log = bytes_eq points candidates || (bytes_eq point
 abbrev pub job_of : List ℕ → List ℕ → List ℕ → List ℕ → Option JobOf
 job_of points candidates redundancy log =
     if are_shared points candidates log then None
-    else option_map (λ q. record { sources = record { points = points; candidates = candidates; redundancy = q }; log = log }) (whole_of 3 redundancy)
+    else option_map (λ q. record { sources = record { points = points; candidates = candidates; redundancy = q; log = None }; log = log }) (whole_of 3 redundancy)
 
 -- the command of words that are all plain
 abbrev pub command_from : List (List ℕ) → Option CommandOf
 command_from (program ∷ command ∷ points ∷ candidates ∷ redundancy ∷ log ∷ []) =
-    if bytes_eq command (codes "plan") then option_map plan_command (job_of points candidates redundancy log) else None
+    if bytes_eq command (codes "plan") then option_map plan_command (job_of points candidates redundancy log)
+    else (if bytes_eq command (codes "check") then option_map check_command (job_of points candidates redundancy log) else None)
 command_from (program ∷ command ∷ points ∷ candidates ∷ []) =
     if bytes_eq command (codes "rows") then (if bytes_eq points candidates then None else Some (rows_command points candidates)) else None
 command_from words = None
@@ -61,6 +71,7 @@ abbrev pub name_written : Option CommandOf → Option (List ℕ)
 name_written None = None
 name_written (Some (plan_command job)) = Some job.log
 name_written (Some (rows_command points candidates)) = None
+name_written (Some (check_command job)) = None
 
 -- the name that a command line writes, if there is one
 abbrev pub written_by : List (List ℕ) → Option (List ℕ)
@@ -81,3 +92,11 @@ IfPlan words P = (job : JobOf) → command_of words ≡ Some (plan_command job) 
 -- where the words are those of `rows`, P holds of its tables
 abbrev pub IfRows : List (List ℕ) → (SourcesOf → Type 0) → Type 0
 IfRows words P = (points candidates : List ℕ) → command_of words ≡ Some (rows_command points candidates) → P (plain_sources points candidates)
+
+-- the words are those of `check`, and P holds of its job
+abbrev pub OnCheck : List (List ℕ) → (JobOf → Type 0) → Type 0
+OnCheck words P = (job : JobOf) × (command_of words ≡ Some (check_command job)) × P job
+
+-- where the words are those of `check`, P holds of its job
+abbrev pub IfCheck : List (List ℕ) → (JobOf → Type 0) → Type 0
+IfCheck words P = (job : JobOf) → command_of words ≡ Some (check_command job) → P job

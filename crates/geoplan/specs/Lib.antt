@@ -11,3 +11,4 @@ pub mod Solving
 pub mod Reporting
 pub mod Printing
 pub mod Promises
+pub mod Checked

@@ -1,34 +1,51 @@
-use Rattle.std.specs.Prelude.{◌≡◌, ℕ, ◌<◌, ◌≤◌, List, length, Option, Some, None}
+use Rattle.std.specs.Prelude.{◌≡◌, ℕ, ◌<◌, ◌≤◌, List, [], length, Option, Some, None}
 use Rattle.std.specs.Option.{ForSome}
 use Rattle.shelf_io.specs.Files.{Files, bytes_of}
 use Rattle.shelf_io.specs.Faults.{Rose, KeepsFaults, read_of}
 use Rattle.branch_bound.specs.Explored.{ShelfState}
 use Rattle.geoplan.specs.CommandOf.{SourcesOf}
-use Rattle.geoplan.specs.Input.{most_bytes, input_of, name_of}
+use Rattle.geoplan.specs.Input.{most_log_bytes, input_of, name_of}
 use Rattle.geoplan.specs.Tables.{TablesOf}
-use Rattle.geoplan.specs.Standing.{AreTables, IsGoodNetwork}
+use Rattle.geoplan.specs.Standing.{AreTables, IsGoodNetwork, IsOfCommand}
 use Rattle.geoplan.specs.declared.load.LoadFault.{LoadFault}
 use Rattle.geoplan.specs.declared.load.LoadFault.TheVariants as load
 use Rattle.geoplan.specs.declared.load.ReadFault.{ReadFault}
 use Rattle.geoplan.specs.declared.load.ReadFault.TheVariants as read
 use Rattle.geoplan.specs.declared.input.Input.{Input}
 use Rattle.geoplan.specs.declared.input.Input.TheVariants as input
-use Rattle.geoplan.specs.declared.input.Table.{Table}
+use Rattle.geoplan.specs.declared.input.File.{File}
 
--- What reading the tables does. This project's own.
+-- What reading the files of a command does. This project's own.
 
--- the bytes that were read are those that the shelf holds, or it holds too many
-abbrev pub HasBytes : List ℕ → Option (List ℕ) → Option Files → Type 0
-HasBytes name None held = ForSome held (λ files. most_bytes < length (bytes_of files name))
-HasBytes name (Some bytes) held = (length bytes ≤ most_bytes) × ForSome held (λ files. bytes ≡ bytes_of files name)
+-- the bytes that were read are those that the shelf holds, or it holds more than the limit
+abbrev pub HasBytes : ℕ → List ℕ → Option (List ℕ) → Option Files → Type 0
+HasBytes most name None held = ForSome held (λ files. most < length (bytes_of files name))
+HasBytes most name (Some bytes) held = (length bytes ≤ most) × ForSome held (λ files. bytes ≡ bytes_of files name)
 
--- a table was read, and no fault was counted
-pub record ReadsTable (name : List ℕ) (bytes : Option (List ℕ)) (before now : ShelfState) : Type 0 where
-  pub has : HasBytes name bytes before.held
+-- a file was read, and no fault was counted
+pub record ReadsFile (most : ℕ) (name : List ℕ) (bytes : Option (List ℕ)) (before now : ShelfState) : Type 0 where
+  pub has : HasBytes most name bytes before.held
   pub held : now.held ≡ before.held
   pub quiet : KeepsFaults before.faults now.faults before.last_fault now.last_fault
 
--- a table was not read: its read failed, or memory ran out
+-- the bytes of a log that is read, if one is
+abbrev pub HasLog : Option (List ℕ) → Option (List ℕ) → Option Files → Type 0
+HasLog None bytes held = bytes ≡ Some []
+HasLog (Some name) bytes held = HasBytes most_log_bytes name bytes held
+
+-- a log was read, if one is, and no fault was counted
+pub record ReadsLog (log : Option (List ℕ)) (bytes : Option (List ℕ)) (before now : ShelfState) : Type 0 where
+  pub has : HasLog log bytes before.held
+  pub held : now.held ≡ before.held
+  pub quiet : KeepsFaults before.faults now.faults before.last_fault now.last_fault
+
+-- a log was not read: its read failed, or memory ran out
+pub record FailsLog (log : Option (List ℕ)) (why : ReadFault) (before now : ShelfState) : Type 0 where
+  pub held : now.held ≡ before.held
+  pub later : before.faults ≤ now.faults
+  pub failed : why ≡ read.Failed → Rose before.faults now.faults × ((name : List ℕ) × (log ≡ Some name) × (now.last_fault ≡ Some (read_of name)))
+
+-- a file was not read: its read failed, or memory ran out
 pub record FailsRead (name : List ℕ) (why : ReadFault) (before now : ShelfState) : Type 0 where
   pub held : now.held ≡ before.held
   pub later : before.faults ≤ now.faults
@@ -38,22 +55,39 @@ pub record FailsRead (name : List ℕ) (why : ReadFault) (before now : ShelfStat
 abbrev pub IsGoodInput : Input → Type 0
 IsGoodInput given = (tables : TablesOf) → given ≡ input.Built tables → IsGoodNetwork tables
 
--- the tables were read as far as they are asked for, and no fault was counted
-pub record Loads (sources : SourcesOf) (given : Input) (before now : ShelfState) : Type 0 where
+-- the log is that which the shelf holds, where one is read
+abbrev pub IsReadLog : SourcesOf → List ℕ → Option Files → Type 0
+IsReadLog sources log held = (name : List ℕ) → sources.log ≡ Some name → ForSome held (λ files. log ≡ bytes_of files name)
+
+-- .. and where the tables are accepted
+abbrev pub IsLogOf : SourcesOf → Input → List ℕ → Option Files → Type 0
+IsLogOf sources given log held = (tables : TablesOf) → given ≡ input.Built tables → IsReadLog sources log held
+
+-- the files were read as far as they are asked for, and no fault was counted
+pub record Loads (sources : SourcesOf) (given : Input) (log : List ℕ) (before now : ShelfState) : Type 0 where
   pub input : ForSome before.held (λ files. given ≡ input_of sources files)
   pub good : IsGoodInput given
+  pub read : IsLogOf sources given log before.held
   pub held : now.held ≡ before.held
   pub quiet : KeepsFaults before.faults now.faults before.last_fault now.last_fault
 
--- the tables were read and are accepted, these are they with their network, and no fault was counted
-pub record HasTables (sources : SourcesOf) (tables : TablesOf) (before now : ShelfState) : Type 0 where
+-- the tables were read and are accepted, these are they with their network, the log was read besides, and no fault was
+-- counted
+pub record HasTables (sources : SourcesOf) (tables : TablesOf) (log : List ℕ) (before now : ShelfState) : Type 0 where
   pub input : AreTables sources before.held tables
   pub good : IsGoodNetwork tables
+  pub read : IsReadLog sources log before.held
   pub held : now.held ≡ before.held
   pub quiet : KeepsFaults before.faults now.faults before.last_fault now.last_fault
 
--- the tables were not read: a read of one failed, or memory ran out
+-- the read of a file of the command failed
+pub record FailsAt (sources : SourcesOf) (which : File) (before now : ShelfState) : Type 0 where
+  pub rose : Rose before.faults now.faults
+  pub last : now.last_fault ≡ Some (read_of (name_of sources which))
+  pub of_command : IsOfCommand sources (name_of sources which)
+
+-- the files were not read: a read of one failed, or memory ran out
 pub record FailsLoad (sources : SourcesOf) (why : LoadFault) (before now : ShelfState) : Type 0 where
   pub held : now.held ≡ before.held
   pub later : before.faults ≤ now.faults
-  pub failed : (which : Table) → why ≡ load.Unread which → Rose before.faults now.faults × (now.last_fault ≡ Some (read_of (name_of sources which)))
+  pub failed : (which : File) → why ≡ load.Unread which → FailsAt sources which before now

@@ -6,21 +6,26 @@ use Rattle.shelf_io.specs.Files.{Files, bytes_of}
 use Rattle.shelf_io.specs.Faults.{Rose, KeepsFaults, read_of, write_of}
 use Rattle.geo_model.specs.Energy.{cost_of}
 use Rattle.geo_model.specs.Meeting.{MeetsLimits}
+use Rattle.geo_model.specs.Network.{IsNetwork}
 use Rattle.geo_model.specs.declared.limit.LimitKind.{LimitKind}
 use Rattle.bound_log.specs.declared.bound.Bound.TheVariants.{NoPlan, AtLeast}
 use Rattle.bound_log.specs.LogTree.{HasBound}
+use Rattle.log_check.specs.declared.fault.LogFault.{LogFault}
+use Rattle.log_check.specs.declared.replaying.Replayed.{Replayed}
+use Rattle.log_check.specs.FirstFault.{IsFirstFault}
+use Rattle.log_check.specs.Replayed.{IsReplayed}
 use Rattle.branch_bound.specs.Explored.{ShelfState}
 use Rattle.branch_bound.specs.Searched.{IsCertified, IsUnsettled, IsFirstOpen}
-use Rattle.geoplan.specs.CommandOf.{SourcesOf, JobOf, CommandOf, plan_command, rows_command, plain_sources, sources_of, written_by, OnPlan}
+use Rattle.geoplan.specs.CommandOf.{SourcesOf, JobOf, CommandOf, plan_command, rows_command, check_command, plain_sources, checked_sources, sources_of, written_by, OnPlan}
 use Rattle.geoplan.specs.Input.{input_of, name_of}
 use Rattle.geoplan.specs.Tables.{TablesOf}
 use Rattle.geoplan.specs.Printing.{SinkState, WritesPrefix, WritesAll}
-use Rattle.geoplan.specs.Standing.{BeganLog, KeepsOrBegan}
-use Rattle.geoplan.specs.Texts.{words_text, cannot_read_text, too_long_text, table_text, tables_plan_text, no_plan_text, tables_undecided_text, tables_rows_text}
+use Rattle.geoplan.specs.Standing.{AreTables, BeganLog, KeepsOrBegan, IsOfCommand}
+use Rattle.geoplan.specs.Texts.{words_text, cannot_read_text, too_long_text, table_text, tables_plan_text, no_plan_text, tables_undecided_text, tables_rows_text, checked_text, log_fault_text}
 use Rattle.point_tables.specs.declared.fault.TableFault.{TableFault}
 use Rattle.geoplan.specs.declared.input.Input.{Input}
 use Rattle.geoplan.specs.declared.input.Input.TheVariants as input
-use Rattle.geoplan.specs.declared.input.Table.{Table}
+use Rattle.geoplan.specs.declared.input.File.{File}
 
 -- What the top call promises. This project's own.
 
@@ -30,7 +35,7 @@ WhereHeld before now P = (files after : Files) → before ≡ Some files → now
 
 -- the exit statuses of the program
 abbrev pub IsStatus : ℕ → Type 0
-IsStatus status = IsTrue (list_any (nat_eq status) (0 ∷ 1 ∷ 2 ∷ 3 ∷ 4 ∷ 5 ∷ 6 ∷ 7 ∷ 9 ∷ []))
+IsStatus status = IsTrue (list_any (nat_eq status) (0 ∷ 1 ∷ 2 ∷ 3 ∷ 4 ∷ 5 ∷ 6 ∷ 7 ∷ 8 ∷ 9 ∷ []))
 
 -- ---- a plan, none, or one that is not decided
 
@@ -38,6 +43,7 @@ IsStatus status = IsTrue (list_any (nat_eq status) (0 ∷ 1 ∷ 2 ∷ 3 ∷ 4 �
 -- bound of the log is its price, and every plan that meets the limits costs at least as much.
 pub record HoldsPlan (job : JobOf) (files after : Files) (tables : TablesOf) (plan : List Bool) : Type 0 where
   pub input : input_of job.sources files ≡ input.Built tables
+  pub network : IsNetwork tables.network
   pub certified : IsCertified tables.network plan
   pub meets : MeetsLimits tables.network plan
   pub bound : HasBound tables.network (bytes_of after job.log) (AtLeast (cost_of tables.network.candidates plan))
@@ -46,6 +52,7 @@ pub record HoldsPlan (job : JobOf) (files after : Files) (tables : TablesOf) (pl
 -- No plan of the tables' network meets the limits, and the bound of the log says so.
 pub record HoldsNone (job : JobOf) (files after : Files) (tables : TablesOf) : Type 0 where
   pub input : input_of job.sources files ≡ input.Built tables
+  pub network : IsNetwork tables.network
   pub bound : HasBound tables.network (bytes_of after job.log) NoPlan
   pub none : (other : List Bool) → length other ≡ length tables.network.candidates → MeetsLimits tables.network other → ⊥
 
@@ -54,6 +61,7 @@ pub record HoldsNone (job : JobOf) (files after : Files) (tables : TablesOf) : T
 -- that is Open, at this step, with 0 in this interval.
 pub record HoldsUndecided (job : JobOf) (files after : Files) (tables : TablesOf) (plan : List Bool) (number step : ℕ) (lo hi : ℤ) : Type 0 where
   pub input : input_of job.sources files ≡ input.Built tables
+  pub network : IsNetwork tables.network
   pub unsettled : IsUnsettled tables.network plan
   pub bound : HasBound tables.network (bytes_of after job.log) (AtLeast (cost_of tables.network.candidates plan))
   pub dearer : (other : List Bool) → IsCertified tables.network other → cost_of tables.network.candidates plan < cost_of tables.network.candidates other
@@ -93,16 +101,28 @@ pub record AreListed (sources : SourcesOf) (before now : ShelfState) (sink sink_
   pub held : now.held ≡ before.held
   pub printed : WritesAll (tables_rows_text tables) sink sink_now
 
+-- ---- a log that is checked
+
+-- the shelf holds what it held; the text under the log's name is a log of the tables' network with this bound and these
+-- counts, where the shelf tells it, and they were printed
+pub record IsAccepted (job : JobOf) (before now : ShelfState) (sink sink_now : SinkState) : Type 0 where
+  pub tables : TablesOf
+  pub done : Replayed
+  pub input : AreTables (checked_sources job) before.held tables
+  pub replayed : ForSome before.held (λ files. IsReplayed tables.network (bytes_of files job.log) done)
+  pub held : now.held ≡ before.held
+  pub printed : WritesAll (checked_text done) sink sink_now
+
 -- ---- refusals and faults
 
 -- a text was printed, or its beginning where the sink counted a fault
 abbrev pub Says : List ℕ → SinkState → SinkState → Type 0
 Says text sink sink_now = WritesAll text sink sink_now ⊎ (Rose sink.faults sink_now.faults × WritesPrefix text sink sink_now)
 
--- a read of one of the command's tables failed in this call, and it is said so
+-- a read of a file of the command failed in this call, and it is said so
 pub record IsUnread (sources : SourcesOf) (before now : ShelfState) (sink sink_now : SinkState) : Type 0 where
   pub name : List ℕ
-  pub of_command : (name ≡ sources.points) ⊎ (name ≡ sources.candidates)
+  pub of_command : IsOfCommand sources name
   pub rose : Rose before.faults now.faults
   pub last : now.last_fault ≡ Some (read_of name)
   pub held : now.held ≡ before.held
@@ -140,10 +160,23 @@ pub record ListFails (sources : SourcesOf) (before now : ShelfState) (sink sink_
   pub held : now.held ≡ before.held
   pub began : WritesPrefix (tables_rows_text tables) sink sink_now
 
+-- the put of the bound and the counts of an accepted log failed in this call: the shelf counted no fault, and holds what
+-- it held
+pub record CheckFails (job : JobOf) (before now : ShelfState) (sink sink_now : SinkState) : Type 0 where
+  pub tables : TablesOf
+  pub done : Replayed
+  pub input : AreTables (checked_sources job) before.held tables
+  pub replayed : ForSome before.held (λ files. IsReplayed tables.network (bytes_of files job.log) done)
+  pub rose : Rose sink.faults sink_now.faults
+  pub quiet : KeepsFaults before.faults now.faults before.last_fault now.last_fault
+  pub held : now.held ≡ before.held
+  pub began : WritesPrefix (checked_text done) sink sink_now
+
 -- a write failed in this call: of the log, or of what was to be printed
 abbrev pub IsUnwritten : CommandOf → ShelfState → ShelfState → SinkState → SinkState → Type 0
 IsUnwritten (plan_command job) before now sink sink_now = LogFails job before now sink sink_now ⊎ PrintFails job before now sink sink_now
 IsUnwritten (rows_command points candidates) before now sink sink_now = ListFails (plain_sources points candidates) before now sink sink_now
+IsUnwritten (check_command job) before now sink sink_now = CheckFails job before now sink sink_now
 
 -- the command is refused for what its tables give, where the shelf tells it: the shelf holds what it held, and the
 -- refusal is said
@@ -157,10 +190,20 @@ pub record IsTableRefused (sources : SourcesOf) (before now : ShelfState) (sink 
   pub fault : TableFault
   pub refused : IsRefused sources (input.Refused fault) (table_text fault) before now sink sink_now
 
--- a table of the command is too long, and this is the first one
+-- a file of the command is too long, and this is the first one in the order of reading
 pub record IsTooLong (sources : SourcesOf) (before now : ShelfState) (sink sink_now : SinkState) : Type 0 where
-  pub table : Table
-  pub refused : IsRefused sources (input.TooLong table) (too_long_text (name_of sources table)) before now sink sink_now
+  pub which : File
+  pub refused : IsRefused sources (input.TooLong which) (too_long_text (name_of sources which)) before now sink sink_now
+
+-- the log has a first fault for the network of the tables, where the shelf tells it: the shelf holds what it held, and the
+-- fault is said
+pub record IsLogRefused (job : JobOf) (before now : ShelfState) (sink sink_now : SinkState) : Type 0 where
+  pub tables : TablesOf
+  pub fault : LogFault
+  pub input : AreTables (checked_sources job) before.held tables
+  pub first : ForSome before.held (λ files. IsFirstFault tables.network (bytes_of files job.log) fault)
+  pub held : now.held ≡ before.held
+  pub says : Says (log_fault_text fault) sink sink_now
 
 -- ---- what holds whatever the status
 
@@ -168,13 +211,15 @@ pub record IsTooLong (sources : SourcesOf) (before now : ShelfState) (sink sink_
 abbrev pub OthersStay : List (List ℕ) → Files → Files → Type 0
 OthersStay words files after = (name : List ℕ) → written_by words ≢ Some name → get after name ≡ get files name
 
--- a text of the command `plan`, or of `rows`
+-- a text of the command `plan`, of `rows`, or of `check`
 abbrev pub IsReport : List ℕ → Type 0
 IsReport text =
     ((tables : TablesOf) × (plan : List Bool) × (text ≡ tables_plan_text tables plan))
     ⊎ ((text ≡ no_plan_text)
     ⊎ (((tables : TablesOf) × (plan : List Bool) × (kind : LimitKind) × (step : ℕ) × (lo hi : ℤ) × (text ≡ tables_undecided_text tables plan kind step lo hi))
-    ⊎ ((tables : TablesOf) × (text ≡ tables_rows_text tables))))
+    ⊎ (((tables : TablesOf) × (text ≡ tables_rows_text tables))
+    ⊎ (((done : Replayed) × (text ≡ checked_text done))
+    ⊎ ((fault : LogFault) × (text ≡ log_fault_text fault))))))
 
 -- a text that the program prints
 abbrev pub IsText : List ℕ → Type 0
@@ -188,17 +233,25 @@ pub record RanOut (words : List (List ℕ)) (before now : ShelfState) (sink sink
   pub held : (now.held ≡ before.held) ⊎ OnPlan words (λ job. BeganLog job before.held now.held)
   pub printed : (sink_now.written ≡ sink.written) ⊎ ((text : List ℕ) × IsText text × WritesPrefix text sink sink_now)
 
+-- the status of `check` for a text and a network, or want of memory: 0 where it is a log, 8 where it has a first fault
+abbrev pub IsCheckStatus : TablesOf → List ℕ → ℕ → Type 0
+IsCheckStatus tables log status =
+    ((status ≡ 0) × ((done : Replayed) × IsReplayed tables.network log done))
+    ⊎ (((status ≡ 8) × ((fault : LogFault) × IsFirstFault tables.network log fault))
+    ⊎ (status ≡ 7))
+
 -- the status of a command for accepted tables, or want of memory
-abbrev pub IsAnswerStatus : CommandOf → ℕ → Type 0
-IsAnswerStatus (plan_command job) status = (status ≡ 0) ⊎ ((status ≡ 1) ⊎ ((status ≡ 4) ⊎ (status ≡ 7)))
-IsAnswerStatus (rows_command points candidates) status = (status ≡ 0) ⊎ (status ≡ 7)
+abbrev pub IsAnswerStatus : CommandOf → TablesOf → Files → ℕ → Type 0
+IsAnswerStatus (plan_command job) tables files status = (status ≡ 0) ⊎ ((status ≡ 1) ⊎ ((status ≡ 4) ⊎ (status ≡ 7)))
+IsAnswerStatus (rows_command points candidates) tables files status = (status ≡ 0) ⊎ (status ≡ 7)
+IsAnswerStatus (check_command job) tables files status = IsCheckStatus tables (bytes_of files job.log) status
 
--- the status that the tables give, or want of memory
-abbrev pub IsStatusOf : CommandOf → Input → ℕ → Type 0
-IsStatusOf command (input.TooLong table) status = (status ≡ 9) ⊎ (status ≡ 7)
-IsStatusOf command (input.Refused fault) status = (status ≡ 3) ⊎ (status ≡ 7)
-IsStatusOf command (input.Built tables) status = IsAnswerStatus command status
+-- the status that the files give, or want of memory
+abbrev pub IsStatusOf : CommandOf → Input → Files → ℕ → Type 0
+IsStatusOf command (input.TooLong which) files status = (status ≡ 9) ⊎ (status ≡ 7)
+IsStatusOf command (input.Refused fault) files status = (status ≡ 3) ⊎ (status ≡ 7)
+IsStatusOf command (input.Built tables) files status = IsAnswerStatus command tables files status
 
--- the status of accepted words, where no fault was counted: by what the tables give
+-- the status of accepted words, where no fault was counted: by what the files give
 abbrev pub IsComplete : CommandOf → Files → ℕ → Type 0
-IsComplete command files status = IsStatusOf command (input_of (sources_of command) files) status
+IsComplete command files status = IsStatusOf command (input_of (sources_of command) files) files status

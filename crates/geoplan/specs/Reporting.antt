@@ -1,9 +1,14 @@
 use Rattle.std.specs.Prelude.{◌≡◌, ◌⊎◌, ℕ, List, [], length, Some, slice_get}
 use Rattle.geo_model.specs.Limit.{LimitOf}
+use Rattle.geo_model.specs.Network.{NetworkOf}
 use Rattle.geo_model.specs.declared.answer.Answer.{Answer}
 use Rattle.geo_model.specs.declared.answer.Answer.TheVariants as answer
+use Rattle.log_check.specs.declared.fault.LogFault.{LogFault}
+use Rattle.log_check.specs.declared.replaying.Replayed.{Replayed}
+use Rattle.log_check.specs.FirstFault.{IsFirstFault}
+use Rattle.log_check.specs.Replayed.{IsReplayed}
 use Rattle.geoplan.specs.Tables.{TablesOf}
-use Rattle.geoplan.specs.Texts.{tables_plan_text, no_plan_text, tables_undecided_text}
+use Rattle.geoplan.specs.Texts.{tables_plan_text, no_plan_text, tables_undecided_text, checked_text, log_fault_text}
 use Rattle.geoplan.specs.declared.status.Status.{Status}
 use Rattle.geoplan.specs.declared.status.Status.TheVariants as status
 
@@ -35,3 +40,10 @@ Reports tables answer.NoPlan ends text = Ends status.NoPlan no_plan_text ends te
 Reports tables (answer.Undecided plan number step lo hi) ends text =
     (limit : LimitOf) → slice_get tables.network.limits number ≡ Some limit →
     Ends status.Undecided (tables_undecided_text tables plan limit.kind step lo hi) ends text
+
+-- the status and the text of a log that is replayed over a network
+abbrev pub Replays : NetworkOf → List ℕ → Status → List ℕ → Type 0
+Replays network log ends text =
+    ((done : Replayed) × IsReplayed network log done × Ends status.Found (checked_text done) ends text)
+    ⊎ (((fault : LogFault) × IsFirstFault network log fault × Ends status.LogRefused (log_fault_text fault) ends text)
+    ⊎ HasNoText ends text)

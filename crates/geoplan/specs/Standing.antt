@@ -1,21 +1,25 @@
 use Rattle.std.specs.Prelude.{◌≡◌, ◌⊎◌, ℕ, ◌<◌, ◌≤◌, ℤ, Bool, List, [], ◌++◌, length, All, Option, Some}
 use Rattle.std.specs.Option.{ForSome}
-use Rattle.shelf_io.specs.Files.{Files, with_bytes}
+use Rattle.shelf_io.specs.Files.{Files, bytes_of, with_bytes}
 use Rattle.shelf_io.specs.Faults.{Rose, KeepsFaults, read_of, write_of}
 use Rattle.geo_model.specs.Network.{IsNetwork}
 use Rattle.bound_log.specs.declared.bound.Bound.TheVariants.{NoPlan}
 use Rattle.bound_log.specs.LogText.{log_text}
 use Rattle.bound_log.specs.LogTree.{root_of, IsAllowed, bound_at}
 use Rattle.bound_log.specs.Tree.{Tree}
+use Rattle.log_check.specs.declared.fault.LogFault.{LogFault}
+use Rattle.log_check.specs.declared.replaying.Replayed.{Replayed}
+use Rattle.log_check.specs.FirstFault.{IsFirstFault}
+use Rattle.log_check.specs.Replayed.{IsReplayed}
 use Rattle.branch_bound.specs.Explored.{ShelfState}
 use Rattle.branch_bound.specs.Searched.{IsBest, IsUndecided}
-use Rattle.geoplan.specs.CommandOf.{SourcesOf, JobOf, CommandOf, plan_command, rows_command, plain_sources}
+use Rattle.geoplan.specs.CommandOf.{SourcesOf, JobOf, CommandOf, plan_command, rows_command, check_command, plain_sources, checked_sources}
 use Rattle.geoplan.specs.Input.{input_of, name_of}
 use Rattle.geoplan.specs.Tables.{TablesOf}
-use Rattle.geoplan.specs.Texts.{cannot_read_text, too_long_text, table_text, tables_plan_text, no_plan_text, tables_undecided_text, tables_rows_text}
+use Rattle.geoplan.specs.Texts.{cannot_read_text, too_long_text, table_text, tables_plan_text, no_plan_text, tables_undecided_text, tables_rows_text, checked_text, log_fault_text}
 use Rattle.geoplan.specs.declared.input.Input.{Input}
 use Rattle.geoplan.specs.declared.input.Input.TheVariants as input
-use Rattle.geoplan.specs.declared.input.Table.{Table}
+use Rattle.geoplan.specs.declared.input.File.{File}
 use Rattle.point_tables.specs.declared.fault.TableFault.{TableFault}
 use Rattle.geoplan.specs.declared.status.Status.{Status}
 use Rattle.geoplan.specs.declared.status.Status.TheVariants as status
@@ -78,6 +82,26 @@ pub record ListsRows (sources : SourcesOf) (before now : ShelfState) (text : Lis
   pub quiet : KeepsFaults before.faults now.faults before.last_fault now.last_fault
   pub printed : text ≡ tables_rows_text tables
 
+-- the log is one of the tables' network, with this bound and these counts, and the shelf stands as before
+pub record AcceptsLog (job : JobOf) (before now : ShelfState) (text : List ℕ) : Type 0 where
+  pub tables : TablesOf
+  pub done : Replayed
+  pub input : AreTables (checked_sources job) before.held tables
+  pub replayed : ForSome before.held (λ files. IsReplayed tables.network (bytes_of files job.log) done)
+  pub held : now.held ≡ before.held
+  pub quiet : KeepsFaults before.faults now.faults before.last_fault now.last_fault
+  pub printed : text ≡ checked_text done
+
+-- the log has a first fault for the tables' network, and the shelf stands as before
+pub record RefusesLog (job : JobOf) (before now : ShelfState) (text : List ℕ) : Type 0 where
+  pub tables : TablesOf
+  pub fault : LogFault
+  pub input : AreTables (checked_sources job) before.held tables
+  pub first : ForSome before.held (λ files. IsFirstFault tables.network (bytes_of files job.log) fault)
+  pub held : now.held ≡ before.held
+  pub quiet : KeepsFaults before.faults now.faults before.last_fault now.last_fault
+  pub printed : text ≡ log_fault_text fault
+
 -- the log's name holds the beginning of a log of the tables' network, and all other names what they held
 pub record BeganLog (job : JobOf) (before now : Option Files) : Type 0 where
   pub tables : TablesOf
@@ -93,10 +117,14 @@ pub record BeganLog (job : JobOf) (before now : Option Files) : Type 0 where
 abbrev pub KeepsOrBegan : JobOf → Option Files → Option Files → Type 0
 KeepsOrBegan job before now = (now ≡ before) ⊎ BeganLog job before now
 
--- a read of one of the tables failed
+-- the name is that of a file that the command reads
+abbrev pub IsOfCommand : SourcesOf → List ℕ → Type 0
+IsOfCommand sources name = (name ≡ sources.points) ⊎ ((name ≡ sources.candidates) ⊎ (sources.log ≡ Some name))
+
+-- a read of one of the files failed
 pub record FailsToRead (sources : SourcesOf) (before now : ShelfState) (text : List ℕ) : Type 0 where
   pub name : List ℕ
-  pub of_command : (name ≡ sources.points) ⊎ (name ≡ sources.candidates)
+  pub of_command : IsOfCommand sources name
   pub rose : Rose before.faults now.faults
   pub last : now.last_fault ≡ Some (read_of name)
   pub held : now.held ≡ before.held
@@ -132,11 +160,11 @@ pub record RefusesTable (sources : SourcesOf) (before now : ShelfState) (text : 
   pub refuses : Refuses sources (input.Refused fault) before now
   pub printed : text ≡ table_text fault
 
--- a table is too long
+-- a file is too long
 pub record RefusesLength (sources : SourcesOf) (before now : ShelfState) (text : List ℕ) : Type 0 where
-  pub table : Table
-  pub refuses : Refuses sources (input.TooLong table) before now
-  pub printed : text ≡ too_long_text (name_of sources table)
+  pub which : File
+  pub refuses : Refuses sources (input.TooLong which) before now
+  pub printed : text ≡ too_long_text (name_of sources which)
 
 -- what the status of a command that got no network says
 abbrev pub NoTables : SourcesOf → ShelfState → ShelfState → Status → List ℕ → Type 0
@@ -148,6 +176,7 @@ NoTables sources before now status.Undecided text = ⊥
 NoTables sources before now status.ReadFault text = FailsToRead sources before now text
 NoTables sources before now status.WriteFault text = ⊥
 NoTables sources before now status.NoMemory text = RunsOut KeepsAll before now text
+NoTables sources before now status.LogRefused text = ⊥
 NoTables sources before now status.FileTooLong text = RefusesLength sources before now text
 
 -- what a status of the command `plan` says before anything is printed
@@ -160,6 +189,7 @@ PlanStands job before now status.Undecided text = LeavesOpen job before now text
 PlanStands job before now status.ReadFault text = FailsToRead job.sources before now text
 PlanStands job before now status.WriteFault text = FailsToWrite job before now text
 PlanStands job before now status.NoMemory text = RunsOut (KeepsOrBegan job) before now text
+PlanStands job before now status.LogRefused text = ⊥
 PlanStands job before now status.FileTooLong text = RefusesLength job.sources before now text
 
 -- what a status of the command `rows` says before anything is printed
@@ -172,9 +202,24 @@ RowsStand sources before now status.Undecided text = ⊥
 RowsStand sources before now status.ReadFault text = FailsToRead sources before now text
 RowsStand sources before now status.WriteFault text = ⊥
 RowsStand sources before now status.NoMemory text = RunsOut KeepsAll before now text
+RowsStand sources before now status.LogRefused text = ⊥
 RowsStand sources before now status.FileTooLong text = RefusesLength sources before now text
+
+-- what a status of the command `check` says before anything is printed
+abbrev pub CheckStands : JobOf → ShelfState → ShelfState → Status → List ℕ → Type 0
+CheckStands job before now status.Found text = AcceptsLog job before now text
+CheckStands job before now status.NoPlan text = ⊥
+CheckStands job before now status.WordsRefused text = ⊥
+CheckStands job before now status.TableRefused text = RefusesTable (checked_sources job) before now text
+CheckStands job before now status.Undecided text = ⊥
+CheckStands job before now status.ReadFault text = FailsToRead (checked_sources job) before now text
+CheckStands job before now status.WriteFault text = ⊥
+CheckStands job before now status.NoMemory text = RunsOut KeepsAll before now text
+CheckStands job before now status.LogRefused text = RefusesLog job before now text
+CheckStands job before now status.FileTooLong text = RefusesLength (checked_sources job) before now text
 
 -- what a status of a command says before anything is printed
 abbrev pub Stands : CommandOf → ShelfState → ShelfState → Status → List ℕ → Type 0
 Stands (plan_command job) before now ends text = PlanStands job before now ends text
 Stands (rows_command points candidates) before now ends text = RowsStand (plain_sources points candidates) before now ends text
+Stands (check_command job) before now ends text = CheckStands job before now ends text

@@ -13,6 +13,13 @@ use Rattle.point_tables.specs.declared.fault.TableName.TheVariants as table
 use Rattle.point_tables.specs.PointTable as point
 use Rattle.candidate_tables.specs.CandidateTable as candidate
 use Rattle.plan_report.specs.RowsText.{rows_text}
+use Rattle.geo_model.specs.declared.answer.Counts.{Counts}
+use Rattle.bound_log.specs.declared.bound.Bound.{Bound}
+use Rattle.bound_log.specs.declared.bound.Bound.TheVariants.{NoPlan, AtLeast}
+use Rattle.log_check.specs.declared.fault.LogFault.{LogFault}
+use Rattle.log_check.specs.declared.fault.LogKind.{LogKind}
+use Rattle.log_check.specs.declared.fault.LogKind.TheVariants as log_kind
+use Rattle.log_check.specs.declared.replaying.Replayed.{Replayed}
 use Rattle.geoplan.specs.Tables.{TablesOf}
 
 -- What is printed. Each line ends with LF. This project's own.
@@ -25,7 +32,7 @@ words_text = codes "words not understood\n"
 abbrev pub cannot_read_text : List ℕ → List ℕ
 cannot_read_text name = codes "cannot read " ++ (name ++ codes "\n")
 
--- a file that holds a table is too long
+-- a file is too long
 abbrev pub too_long_text : List ℕ → List ℕ
 too_long_text name = codes "too long " ++ (name ++ codes "\n")
 
@@ -105,6 +112,39 @@ open_text which step lo hi = codes "open," ++ (which ++ (codes "," ++ (decimal s
 unfoldable pub undecided_text : List (List ℕ) → List CandidateOf → List Bool → List ℕ → List ℕ
 undecided_text names candidates plan line =
     codes "undecided\n" ++ (price_text (codes "cost ") (cost_of candidates plan) ++ (takes_text names plan ++ (line ++ price_text (codes "bound ") (cost_of candidates plan))))
+
+-- the word for a kind of fault of a log
+unfoldable pub log_kind_word : LogKind → List ℕ
+log_kind_word log_kind.Extra = codes "Extra"
+log_kind_word log_kind.Form = codes "Form"
+log_kind_word log_kind.Range = codes "Range"
+log_kind_word log_kind.NotOpen = codes "NotOpen"
+log_kind_word log_kind.Owner = codes "Owner"
+log_kind_word log_kind.NotRefuted = codes "NotRefuted"
+log_kind_word log_kind.CutHolds = codes "CutHolds"
+log_kind_word log_kind.Short = codes "Short"
+
+-- a log is refused for a fault: the number of the line, the kind
+abbrev pub log_fault_text : LogFault → List ℕ
+log_fault_text fault = codes "refused," ++ (decimal fault.line ++ (codes "," ++ (log_kind_word fault.kind ++ codes "\n")))
+
+-- a count, after a comma
+abbrev pub count_text : ℕ → List ℕ
+count_text count = codes "," ++ decimal count
+
+-- the numbers of lines of each kind
+unfoldable pub counts_text : Counts → List ℕ
+counts_text counts =
+    codes "log" ++ (count_text counts.splits ++ (count_text counts.costs ++ (count_text counts.pivots ++ (count_text counts.cuts ++ (count_text counts.duals ++ codes "\n")))))
+
+-- the bound of a log
+unfoldable pub bound_text : Bound → List ℕ
+bound_text NoPlan = codes "bound none\n"
+bound_text (AtLeast price) = price_text (codes "bound ") price
+
+-- a log is accepted: its lines are counted, and this is its bound
+abbrev pub checked_text : Replayed → List ℕ
+checked_text done = codes "accepted\n" ++ (counts_text done.counts ++ bound_text done.bound)
 
 -- ---- the reports for two tables
 

@@ -4,18 +4,19 @@ ghost use Rattle.branch_bound.specs.Explored.{state_of};
 ghost use Rattle.geoplan.specs.CommandOf.{sources_of};
 ghost use Rattle.geoplan.specs.CommandView.{sources_view, job_view, command_view};
 ghost use Rattle.geoplan.specs.Loading.{HasTables};
-ghost use Rattle.geoplan.specs.Reporting.{CanReport, Ends, Reports};
-ghost use Rattle.geoplan.specs.Standing.{IsGoodNetwork, NoTables, PlanStands, RowsStand, Stands};
+ghost use Rattle.geoplan.specs.Reporting.{CanReport, Ends, Reports, Replays};
+ghost use Rattle.geoplan.specs.Standing.{IsGoodNetwork, NoTables, PlanStands, RowsStand, CheckStands, Stands};
 ghost use Rattle.geoplan.specs.Texts.{tables_rows_text, tables_undecided_text};
 ghost use Rattle.geoplan.specs.declared.status.Status.TheVariants as status;
 
 use crate::command::{Command, Job, Sources};
 use crate::input::Input;
-use crate::load::{LoadFault, load};
+use crate::load::{LoadFault, Loaded, load};
 use crate::open_line::open_line;
 use crate::outcome::Outcome;
 use crate::report::{
-    found_report, no_plan_report, table_refusal, too_long_refusal, undecided_report, unread_refusal,
+    checked_report, found_report, log_refusal, no_plan_report, table_refusal, too_long_refusal,
+    undecided_report, unread_refusal,
 };
 use crate::solve::solve;
 use crate::status::Status;
@@ -23,6 +24,7 @@ use crate::tables::Tables;
 use branch_bound::{Answer, SearchDone, SearchFault};
 use geo_base::NoMemory;
 use geo_model::{LimitKind, Plan};
+use log_check::{ReplayAnswer, replay};
 use plan_report::rows_text;
 use shelf_io::Shelf;
 use std::alloc::Global;
@@ -85,14 +87,21 @@ fn report(alloc: Global, tables: &Tables, done: &SearchDone) -> Outcome
     }
 }
 
-/// The tables of a command with their network, or the refusal where there is none.
+/// The tables of a command with their network, and the bytes of the log that it reads.
+#[derive(Drop)]
+struct Accepted {
+    tables: Tables,
+    log: Vec<u8>,
+}
+
+/// The tables of a command with their network and its log, or the refusal where there is no network.
 fn tables_of<H: Shelf>(
     alloc: Global,
     sources: &Sources<'_>,
     shelf: &mut H,
-) -> Result<Tables, Outcome>
+) -> Result<Accepted, Outcome>
     requires { sources.now.redundancy ≤ 999 }
-    ensures tables { IfOk result (λ tables. HasTables (sources_view sources.now) tables
+    ensures tables { IfOk result (λ accepted. HasTables (sources_view sources.now) accepted.tables accepted.log.items
         (state_of H.held H.faults H.last_fault H.started shelf.old)
         (state_of H.held H.faults H.last_fault H.started shelf.new)) }
     ensures refused { IfErr result (λ refusal. NoTables (sources_view sources.now)
@@ -100,18 +109,19 @@ fn tables_of<H: Shelf>(
         (state_of H.held H.faults H.last_fault H.started shelf.new) refusal.status refusal.text.items) }
 {
     match load(alloc, sources, shelf) {
-        Ok(Input::Built(tables)) => Ok(tables),
-        Ok(Input::Refused(fault)) => Err(Outcome::made(
-            alloc,
-            Status::TableRefused,
-            table_refusal(alloc, fault),
-        )),
-        Ok(Input::TooLong(table)) => {
-            let text = too_long_refusal(alloc, sources.name_of(table));
-            Err(Outcome::made(alloc, Status::FileTooLong, text))
-        }
-        Err(LoadFault::Unread(table)) => {
-            let text = unread_refusal(alloc, sources.name_of(table));
+        Ok(Loaded { input, log }) => match input {
+            Input::Built(tables) => Ok(Accepted { tables, log }),
+            Input::Refused(fault) => {
+                let text = table_refusal(alloc, fault);
+                Err(Outcome::made(alloc, Status::TableRefused, text))
+            }
+            Input::TooLong(file) => {
+                let text = too_long_refusal(alloc, sources.name_of(file));
+                Err(Outcome::made(alloc, Status::FileTooLong, text))
+            }
+        },
+        Err(LoadFault::Unread(file)) => {
+            let text = unread_refusal(alloc, sources.name_of(file));
             Err(Outcome::made(alloc, Status::ReadFault, text))
         }
         Err(LoadFault::NoMemory) => Err(Outcome::silent(alloc, Status::NoMemory)),
@@ -125,12 +135,13 @@ fn answer_plan<H: Shelf>(alloc: Global, job: &Job<'_>, shelf: &mut H) -> Outcome
         (state_of H.held H.faults H.last_fault H.started shelf.old)
         (state_of H.held H.faults H.last_fault H.started shelf.new) result.status result.text.items }
 {
-    let tables = match tables_of(alloc, &job.sources, shelf) {
-        Ok(tables) => tables,
+    let accepted = match tables_of(alloc, &job.sources, shelf) {
+        Ok(accepted) => accepted,
         Err(refusal) => return refusal,
     };
-    match solve(alloc, &tables, shelf, job.log) {
-        Ok(done) => report(alloc, &tables, &done),
+    let tables = &accepted.tables;
+    match solve(alloc, tables, shelf, job.log) {
+        Ok(done) => report(alloc, tables, &done),
         Err(SearchFault::WriteFault) => Outcome::silent(alloc, Status::WriteFault),
         Err(SearchFault::NoMemory) => Outcome::silent(alloc, Status::NoMemory),
     }
@@ -158,7 +169,34 @@ fn answer_rows<H: Shelf>(alloc: Global, sources: &Sources<'_>, shelf: &mut H) ->
         (state_of H.held H.faults H.last_fault H.started shelf.new) result.status result.text.items }
 {
     match tables_of(alloc, sources, shelf) {
-        Ok(tables) => list(alloc, &tables),
+        Ok(accepted) => list(alloc, &accepted.tables),
+        Err(refusal) => refusal,
+    }
+}
+
+/// The outcome of a log that is replayed over the network of tables.
+fn replayed(alloc: Global, tables: &Tables, log: &[u8]) -> Outcome
+    ensures { Replays tables.now.network log.now result.status result.text.items }
+{
+    match replay(alloc, tables.network(), log) {
+        Ok(done) => Outcome::made(alloc, Status::Found, checked_report(alloc, &done)),
+        Err(ReplayAnswer::Fault(fault)) => {
+            Outcome::made(alloc, Status::LogRefused, log_refusal(alloc, fault))
+        }
+        Err(ReplayAnswer::NoMemory) => Outcome::silent(alloc, Status::NoMemory),
+    }
+}
+
+/// The answer of the command `check`.
+fn answer_check<H: Shelf>(alloc: Global, job: &Job<'_>, shelf: &mut H) -> Outcome
+    requires { job.now.sources.redundancy ≤ 999 }
+    ensures { CheckStands (job_view job.now)
+        (state_of H.held H.faults H.last_fault H.started shelf.old)
+        (state_of H.held H.faults H.last_fault H.started shelf.new) result.status result.text.items }
+{
+    let sources = job.checked_sources();
+    match tables_of(alloc, &sources, shelf) {
+        Ok(accepted) => replayed(alloc, &accepted.tables, accepted.log.as_slice()),
         Err(refusal) => refusal,
     }
 }
@@ -177,8 +215,10 @@ pub fn answer<H: Shelf>(alloc: Global, command: &Command<'_>, shelf: &mut H) -> 
                 points,
                 candidates,
                 redundancy: 0,
+                log: None,
             };
             answer_rows(alloc, &sources, shelf)
         }
+        Command::Check(job) => answer_check(alloc, job, shelf),
     }
 }

@@ -1,35 +1,48 @@
 ghost use Rattle.std.specs.Prelude.{◌≡◌, ◌≤◌, length, option_map, drop, bytes_eq, IfSome};
 ghost use Rattle.std.specs.List.{list_all};
-ghost use Rattle.geoplan.specs.CommandOf.{is_plain, job_of, command_from, command_of, sources_of};
+ghost use Rattle.geoplan.specs.CommandOf.{is_plain, job_of, command_from, command_of, sources_of, checked_sources};
 ghost use Rattle.geoplan.specs.CommandView.{sources_view, job_view, command_view};
-ghost use Rattle.geoplan.specs.Input.{name_of};
+ghost use Rattle.geoplan.specs.Input.{log_name, name_of};
 
 use crate::digits::whole;
-use crate::input::Table;
+use crate::input::File;
 use crate::words::Words;
 
-/// The two tables that a command reads, by their names, and the redundancy that is asked of their
-/// network, in thousandths.
+/// What a command reads: its two tables, by their names, and the redundancy that is asked of their
+/// network, in thousandths; and the name of a log, if it reads one.
 #[derive(Clone, Copy)]
 pub struct Sources<'a> {
     pub points: &'a str,
     pub candidates: &'a str,
     pub redundancy: u32,
+    pub log: Option<&'a str>,
 }
 
 impl<'a> Sources<'a> {
-    /// The name of the file that holds a table.
-    pub fn name_of(&self, table: Table) -> &'a str
-        ensures { result.now ≡ name_of (sources_view self.now) table }
+    /// The name of a file that the command reads.
+    pub fn name_of(&self, file: File) -> &'a str
+        ensures { result.now ≡ name_of (sources_view self.now) file }
     {
-        match table {
-            Table::Points => self.points,
-            Table::Candidates => self.candidates,
+        match file {
+            File::Points => self.points,
+            File::Candidates => self.candidates,
+            File::Log => log_name(self.log),
         }
     }
 }
 
-/// What the command `plan` is asked for: its tables, and the name of its log.
+/// The name of a log, no bytes where none is read.
+fn log_name(log: Option<&str>) -> &str
+    ensures { result.now ≡ log_name (option_map (λ name. name.now) log.entry) }
+{
+    match log {
+        Some(name) => name,
+        None => "",
+    }
+}
+
+/// What the commands `plan` and `check` are asked for: their tables, and the name of the log that
+/// `plan` writes and `check` reads.
 #[derive(Clone, Copy)]
 pub struct Job<'a> {
     pub sources: Sources<'a>,
@@ -37,6 +50,18 @@ pub struct Job<'a> {
 }
 
 impl<'a> Job<'a> {
+    /// What `check` reads: its tables, and its log.
+    pub fn checked_sources(&self) -> Sources<'a>
+        ensures { sources_view result ≡ checked_sources (job_view self.now) }
+    {
+        Sources {
+            points: self.sources.points,
+            candidates: self.sources.candidates,
+            redundancy: self.sources.redundancy,
+            log: Some(self.log),
+        }
+    }
+
     /// The job of its words.
     fn of(points: &'a str, candidates: &'a str, redundancy: &str, log: &'a str) -> Option<Job<'a>>
         ensures job { option_map job_view result ≡ job_of points.entry.now candidates.entry.now redundancy.now log.entry.now }
@@ -52,6 +77,7 @@ impl<'a> Job<'a> {
                     points,
                     candidates,
                     redundancy: redundancy as u32,
+                    log: None,
                 };
                 Some(Job { sources, log })
             }
@@ -59,7 +85,7 @@ impl<'a> Job<'a> {
     }
 }
 
-/// A command: `plan`, or `rows` with the names of its two tables.
+/// A command: `plan`, `check`, or `rows` with the names of its two tables.
 #[derive(Clone, Copy)]
 pub enum Command<'a> {
     Plan(Job<'a>),
@@ -67,6 +93,7 @@ pub enum Command<'a> {
         points: &'a str,
         candidates: &'a str,
     },
+    Check(Job<'a>),
 }
 
 impl<'a> Command<'a> {
@@ -88,24 +115,31 @@ impl<'a> Command<'a> {
         ensures within { IfSome result (λ command. (sources_of (command_view command)).redundancy ≤ 999) }
     {
         match words.len() {
-            6 => Command::plan(words),
+            6 => Command::with_log(words),
             4 => Command::rows(words),
             _ => None,
         }
     }
 
-    /// The command `plan` of six words.
-    fn plan(words: &'a Words) -> Option<Command<'a>>
+    /// The command `plan` or `check` of six words.
+    fn with_log(words: &'a Words) -> Option<Command<'a>>
         requires { length words.now ≡ 6 }
         ensures command { option_map command_view result ≡ command_from words.now }
         ensures within { IfSome result (λ command. (sources_of (command_view command)).redundancy ≤ 999) }
     {
-        if !is_same(words.get(1), "plan") {
-            return None;
-        }
-        match Job::of(words.get(2), words.get(3), words.get(4), words.get(5)) {
-            None => None,
-            Some(job) => Some(Command::Plan(job)),
+        let word = words.get(1);
+        if is_same(word, "plan") {
+            match Job::of(words.get(2), words.get(3), words.get(4), words.get(5)) {
+                None => None,
+                Some(job) => Some(Command::Plan(job)),
+            }
+        } else if is_same(word, "check") {
+            match Job::of(words.get(2), words.get(3), words.get(4), words.get(5)) {
+                None => None,
+                Some(job) => Some(Command::Check(job)),
+            }
+        } else {
+            None
         }
     }
 

@@ -1,18 +1,19 @@
 use crate::tables::Tables;
 use point_tables::TableFault;
 
-/// One of the two tables of a command.
+/// A file that a command reads.
 #[derive(Clone, Copy, Debug, PartialEq, Eq)]
-pub enum Table {
+pub enum File {
     Points,
     Candidates,
+    Log,
 }
 
-/// What the two tables of a command give.
+/// What the files of a command give.
 #[derive(Drop)]
 pub enum Input {
-    /// A table is too long.
-    TooLong(Table),
+    /// A file is too long.
+    TooLong(File),
     /// A table has a fault, of which this is the first, or their network has one.
     Refused(TableFault),
     /// Both tables and their network are accepted, and this is what they give.

@@ -5,6 +5,7 @@ mod answer;
 mod command;
 mod digits;
 mod input;
+mod laws;
 mod load;
 mod open_line;
 mod outcome;
@@ -16,8 +17,11 @@ mod tables;
 mod top;
 mod words;
 
+pub use laws::what_plan_writes_check_accepts;
 pub use top::geoplan;
 pub use words::Words;
 
+#[cfg(test)]
+mod check_tests;
 #[cfg(test)]
 mod tests;

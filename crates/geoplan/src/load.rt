@@ -1,13 +1,14 @@
-//! Reading the tables of a command.
-ghost use Rattle.std.specs.Prelude.{◌≡◌, ◌≤◌, length, option_map, IfOk, IfErr};
+//! Reading the files of a command.
+ghost use Rattle.std.specs.Prelude.{◌≡◌, ◌≤◌, ◌^◌, length, option_map, IfOk, IfErr};
 ghost use Rattle.candidate_tables.specs.Accepted.{AreCandidates};
 ghost use Rattle.branch_bound.specs.Explored.{state_of};
 ghost use Rattle.geoplan.specs.CommandView.{sources_view};
 ghost use Rattle.geoplan.specs.Input.{accepted_input, judged_input};
-ghost use Rattle.geoplan.specs.Loading.{ReadsTable, FailsRead, IsGoodInput, Loads, FailsLoad};
+ghost use Rattle.geoplan.specs.declared.input.Input.TheVariants as input;
+ghost use Rattle.geoplan.specs.Loading.{ReadsFile, FailsRead, ReadsLog, FailsLog, IsGoodInput, Loads, FailsLoad};
 
 use crate::command::Sources;
-use crate::input::{Input, Table};
+use crate::input::{File, Input};
 use crate::tables::Tables;
 use candidate_tables::{Candidates, read_candidates};
 use geo_base::NoMemory;
@@ -19,27 +20,52 @@ use std::alloc::Global;
 /// The most bytes of a table.
 const MOST_BYTES: u64 = 1048576;
 
-/// Why a table was not read: the read failed, or memory ran out.
+/// The most bytes of a log that is read.
+const MOST_LOG_BYTES: u64 = 268435456;
+
+/// Why a file was not read: the read failed, or memory ran out.
 #[derive(Clone, Copy, Debug, PartialEq, Eq)]
 pub enum ReadFault {
     Failed,
     NoMemory,
 }
 
-/// Why the tables of a command were not read: one of them could not be, or memory ran out.
+/// Why the files of a command were not read: one of them could not be, or memory ran out.
 #[derive(Clone, Copy, Debug, PartialEq, Eq)]
 pub enum LoadFault {
-    Unread(Table),
+    Unread(File),
     NoMemory,
 }
 
-/// The bytes of a table, or none where it is too long.
-fn read_table<H: Shelf>(
+/// What the files of a command give, and the bytes of the log that it reads. There are none where it
+/// reads no log, or where a file is too long.
+#[derive(Drop)]
+pub struct Loaded {
+    pub input: Input,
+    pub log: Vec<u8>,
+}
+
+impl Loaded {
+    /// A file is too long.
+    fn too_long(alloc: Global, file: File) -> Loaded
+        ensures { result.input ≡ input.TooLong file }
+    {
+        Loaded {
+            input: Input::TooLong(file),
+            log: Vec::new(alloc),
+        }
+    }
+}
+
+/// The bytes of a file, or none where it has more than so many.
+fn read_file<H: Shelf>(
     alloc: Global,
     shelf: &mut H,
     name: &str,
+    most: u64,
 ) -> Result<Option<Vec<u8>>, ReadFault>
-    ensures read { IfOk result (λ read. ReadsTable name.now (option_map (λ bytes. bytes.items) read)
+    requires { most ≤ 2 ^ 28 }
+    ensures read { IfOk result (λ read. ReadsFile most name.now (option_map (λ bytes. bytes.items) read)
         (state_of H.held H.faults H.last_fault H.started shelf.old)
         (state_of H.held H.faults H.last_fault H.started shelf.new)) }
     ensures fault { IfErr result (λ why. FailsRead name.now why
@@ -47,11 +73,31 @@ fn read_table<H: Shelf>(
         (state_of H.held H.faults H.last_fault H.started shelf.new)) }
 {
     let mut bytes = Vec::new(alloc);
-    match shelf.read_whole(name, MOST_BYTES, &mut bytes) {
+    match shelf.read_whole(name, most, &mut bytes) {
         Ok(()) => Ok(Some(bytes)),
         Err(ReadAnswer::TooLong) => Ok(None),
         Err(ReadAnswer::Failed) => Err(ReadFault::Failed),
         Err(ReadAnswer::NoMemory) => Err(ReadFault::NoMemory),
+    }
+}
+
+/// The bytes of the log that is read, or none where it is too long. Where none is read there are no
+/// bytes.
+fn read_log<H: Shelf>(
+    alloc: Global,
+    shelf: &mut H,
+    log: Option<&str>,
+) -> Result<Option<Vec<u8>>, ReadFault>
+    ensures read { IfOk result (λ read. ReadsLog (option_map (λ name. name.now) log.entry) (option_map (λ bytes. bytes.items) read)
+        (state_of H.held H.faults H.last_fault H.started shelf.old)
+        (state_of H.held H.faults H.last_fault H.started shelf.new)) }
+    ensures fault { IfErr result (λ why. FailsLog (option_map (λ name. name.now) log.entry) why
+        (state_of H.held H.faults H.last_fault H.started shelf.old)
+        (state_of H.held H.faults H.last_fault H.started shelf.new)) }
+{
+    match log {
+        None => Ok(Some(Vec::new(alloc))),
+        Some(name) => read_file(alloc, shelf, name, MOST_LOG_BYTES),
     }
 }
 
@@ -104,31 +150,37 @@ fn judge(
     accept(alloc, redundancy, points, candidates)
 }
 
-/// Reads the tables of a command, the points first, and judges what they give. The redundancy is at
-/// most 999.
+/// Reads the files of a command, the points first and the log last, and judges what the tables give.
+/// The redundancy is at most 999.
 pub fn load<H: Shelf>(
     alloc: Global,
     sources: &Sources<'_>,
     shelf: &mut H,
-) -> Result<Input, LoadFault>
+) -> Result<Loaded, LoadFault>
     requires { sources.now.redundancy ≤ 999 }
-    ensures loaded { IfOk result (λ given. Loads (sources_view sources.now) given
+    ensures loaded { IfOk result (λ loaded. Loads (sources_view sources.now) loaded.input loaded.log.items
         (state_of H.held H.faults H.last_fault H.started shelf.old)
         (state_of H.held H.faults H.last_fault H.started shelf.new)) }
     ensures fault { IfErr result (λ why. FailsLoad (sources_view sources.now) why
         (state_of H.held H.faults H.last_fault H.started shelf.old)
         (state_of H.held H.faults H.last_fault H.started shelf.new)) }
 {
-    let points = match read_table(alloc, shelf, sources.points) {
+    let points = match read_file(alloc, shelf, sources.points, MOST_BYTES) {
         Ok(Some(points)) => points,
-        Ok(None) => return Ok(Input::TooLong(Table::Points)),
-        Err(ReadFault::Failed) => return Err(LoadFault::Unread(Table::Points)),
+        Ok(None) => return Ok(Loaded::too_long(alloc, File::Points)),
+        Err(ReadFault::Failed) => return Err(LoadFault::Unread(File::Points)),
         Err(ReadFault::NoMemory) => return Err(LoadFault::NoMemory),
     };
-    let candidates = match read_table(alloc, shelf, sources.candidates) {
+    let candidates = match read_file(alloc, shelf, sources.candidates, MOST_BYTES) {
         Ok(Some(candidates)) => candidates,
-        Ok(None) => return Ok(Input::TooLong(Table::Candidates)),
-        Err(ReadFault::Failed) => return Err(LoadFault::Unread(Table::Candidates)),
+        Ok(None) => return Ok(Loaded::too_long(alloc, File::Candidates)),
+        Err(ReadFault::Failed) => return Err(LoadFault::Unread(File::Candidates)),
+        Err(ReadFault::NoMemory) => return Err(LoadFault::NoMemory),
+    };
+    let log = match read_log(alloc, shelf, sources.log) {
+        Ok(Some(log)) => log,
+        Ok(None) => return Ok(Loaded::too_long(alloc, File::Log)),
+        Err(ReadFault::Failed) => return Err(LoadFault::Unread(File::Log)),
         Err(ReadFault::NoMemory) => return Err(LoadFault::NoMemory),
     };
     match judge(
@@ -137,7 +189,7 @@ pub fn load<H: Shelf>(
         points.as_slice(),
         candidates.as_slice(),
     ) {
-        Ok(input) => Ok(input),
+        Ok(input) => Ok(Loaded { input, log }),
         Err(NoMemory) => Err(LoadFault::NoMemory),
     }
 }

@@ -1,12 +1,14 @@
 //! The texts that are printed.
 ghost use Rattle.std.specs.Prelude.{◌≡◌, ◌++◌, length, IfOk, OnOk};
 ghost use Rattle.candidate_tables.specs.CandidateTable.{names_of};
-ghost use Rattle.geoplan.specs.Texts.{words_text, cannot_read_text, too_long_text, table_word, kind_word, table_text, take_text, takes_text, price_text, plan_text, no_plan_text, undecided_text};
+ghost use Rattle.geoplan.specs.Texts.{words_text, cannot_read_text, too_long_text, table_word, kind_word, table_text, take_text, takes_text, price_text, plan_text, no_plan_text, undecided_text, log_kind_word, log_fault_text, count_text, counts_text, bound_text, checked_text};
 
+use bound_log::Bound;
 use candidate_tables::Candidates;
 use geo_base::NoMemory;
-use geo_model::{Network, Plan, cost};
+use geo_model::{Counts, Network, Plan, cost};
 use itoa::Buffer;
+use log_check::{LogFault, LogKind, Replayed};
 use point_tables::{FaultKind, Name, TableFault, TableName};
 use std::alloc::Global;
 
@@ -111,7 +113,7 @@ pub fn unread_refusal(alloc: Global, name: &str) -> Result<Vec<u8>, NoMemory>
     Ok(text)
 }
 
-/// What is printed where a file that holds a table is too long.
+/// What is printed where a file is too long.
 pub fn too_long_refusal(alloc: Global, name: &str) -> Result<Vec<u8>, NoMemory>
     ensures { IfOk result (λ text. text.items ≡ too_long_text name.now) }
 {
@@ -173,5 +175,89 @@ pub fn table_refusal(alloc: Global, fault: TableFault) -> Result<Vec<u8>, NoMemo
     text.extend_from_slice(b",")?;
     text.extend_from_slice(kind_word(fault.kind).as_bytes())?;
     text.extend_from_slice(b"\n")?;
+    Ok(text)
+}
+
+/// The word for a kind of fault of a log.
+#[tactic(auto, unfolding(crate::specs::Texts::log_kind_word))]
+fn log_kind_word(kind: LogKind) -> &'static str
+    ensures { result.now ≡ log_kind_word kind }
+{
+    match kind {
+        LogKind::Extra => "Extra",
+        LogKind::Form => "Form",
+        LogKind::Range => "Range",
+        LogKind::NotOpen => "NotOpen",
+        LogKind::Owner => "Owner",
+        LogKind::NotRefuted => "NotRefuted",
+        LogKind::CutHolds => "CutHolds",
+        LogKind::Short => "Short",
+    }
+}
+
+/// What is printed where a log is refused for a fault.
+pub fn log_refusal(alloc: Global, fault: LogFault) -> Result<Vec<u8>, NoMemory>
+    ensures { IfOk result (λ text. text.items ≡ log_fault_text fault) }
+{
+    let mut buffer = Buffer::new();
+    let mut text = Vec::from_slice(alloc, b"refused,")?;
+    text.extend_from_slice(buffer.format(fault.line).as_bytes())?;
+    text.extend_from_slice(b",")?;
+    text.extend_from_slice(log_kind_word(fault.kind).as_bytes())?;
+    text.extend_from_slice(b"\n")?;
+    Ok(text)
+}
+
+/// Appends a count, after a comma.
+fn put_count(text: &mut Vec<u8>, count: u64) -> Result<(), NoMemory>
+    ensures { OnOk result (text.new.items ≡ text.old.items ++ count_text count) }
+{
+    let mut buffer = Buffer::new();
+    text.extend_from_slice(b",")?;
+    text.extend_from_slice(buffer.format(count).as_bytes())?;
+    Ok(())
+}
+
+/// Appends the line of the numbers of lines of each kind.
+#[tactic(auto, unfolding(crate::specs::Texts::counts_text))]
+fn put_counts(text: &mut Vec<u8>, counts: &Counts) -> Result<(), NoMemory>
+    ensures { OnOk result (text.new.items ≡ text.old.items ++ counts_text counts.now) }
+{
+    text.extend_from_slice(b"log")?;
+    put_count(text, counts.splits)?;
+    put_count(text, counts.costs)?;
+    put_count(text, counts.pivots)?;
+    put_count(text, counts.cuts)?;
+    put_count(text, counts.duals)?;
+    text.extend_from_slice(b"\n")?;
+    Ok(())
+}
+
+/// Appends the line of the bound of a log.
+#[tactic(auto, unfolding(crate::specs::Texts::bound_text))]
+fn put_bound(text: &mut Vec<u8>, bound: Bound) -> Result<(), NoMemory>
+    ensures { OnOk result (text.new.items ≡ text.old.items ++ bound_text bound) }
+{
+    match bound {
+        Bound::NoPlan => {
+            text.extend_from_slice(b"bound none\n")?;
+        }
+        Bound::AtLeast(price) => {
+            let mut buffer = Buffer::new();
+            text.extend_from_slice(b"bound ")?;
+            text.extend_from_slice(buffer.format(price).as_bytes())?;
+            text.extend_from_slice(b"\n")?;
+        }
+    }
+    Ok(())
+}
+
+/// What is printed where a log is accepted: the numbers of its lines, and its bound.
+pub fn checked_report(alloc: Global, done: &Replayed) -> Result<Vec<u8>, NoMemory>
+    ensures { IfOk result (λ text. text.items ≡ checked_text done.now) }
+{
+    let mut text = Vec::from_slice(alloc, b"accepted\n")?;
+    put_counts(&mut text, &done.counts)?;
+    put_bound(&mut text, done.bound)?;
     Ok(text)
 }

@@ -11,6 +11,7 @@ pub enum Status {
     ReadFault,
     WriteFault,
     NoMemory,
+    LogRefused,
     FileTooLong,
 }
 
@@ -30,6 +31,7 @@ impl Status {
             Status::ReadFault => 5,
             Status::WriteFault => 6,
             Status::NoMemory => 7,
+            Status::LogRefused => 8,
             Status::FileTooLong => 9,
         }
     }

@@ -3,9 +3,9 @@ ghost use Rattle.std.specs.Prelude.{◌≡◌, ◌⊎◌, ◌≤◌, Some, None,
 ghost use Rattle.std.specs.Option.{ForSome};
 ghost use Rattle.shelf_io.specs.Faults.{Rose};
 ghost use Rattle.branch_bound.specs.Explored.{state_of};
-ghost use Rattle.geoplan.specs.CommandOf.{CommandOf, command_of, sources_of, written_by, OnCommand, OnPlan, IfPlan, IfRows};
+ghost use Rattle.geoplan.specs.CommandOf.{CommandOf, command_of, sources_of, written_by, OnCommand, OnPlan, IfPlan, IfRows, OnCheck, IfCheck};
 ghost use Rattle.geoplan.specs.Printing.{sink_state_of};
-ghost use Rattle.geoplan.specs.Promises.{WhereHeld, IsStatus, IsFound, IsNone, IsLeftOpen, AreListed, IsTableRefused, IsUnread, IsUnwritten, IsTooLong, OthersStay, RanOut, Says, IsComplete};
+ghost use Rattle.geoplan.specs.Promises.{WhereHeld, IsStatus, IsFound, IsNone, IsLeftOpen, AreListed, IsTableRefused, IsUnread, IsUnwritten, IsTooLong, IsAccepted, IsLogRefused, OthersStay, RanOut, Says, IsComplete};
 ghost use Rattle.geoplan.specs.Texts.{words_text};
 
 use crate::run::run;
@@ -14,7 +14,7 @@ use shelf_io::{Shelf, Sink};
 use std::alloc::Global;
 
 /// Does all that the program does: reads the words of a command line, the program's name first,
-/// reads the tables that they name from `shelf`, writes the log to it, prints to `out`, and answers
+/// reads the files that they name from `shelf`, writes the log to it, prints to `out`, and answers
 /// the exit status.
 pub fn geoplan<H: Shelf, O: Sink>(alloc: Global, words: &Words, shelf: &mut H, out: &mut O) -> u8
     ensures status { IsStatus result }
@@ -27,6 +27,13 @@ pub fn geoplan<H: Shelf, O: Sink>(alloc: Global, words: &Words, shelf: &mut H, o
 
     // 0 of `rows`: the unknowns and rows of the network of the two tables were printed.
     ensures rows { result ≡ 0 → IfRows words.now (λ sources. AreListed sources
+        (state_of H.held H.faults H.last_fault H.started shelf.old)
+        (state_of H.held H.faults H.last_fault H.started shelf.new)
+        (sink_state_of O.written O.faults out.old) (sink_state_of O.written O.faults out.new)) }
+
+    // 0 of `check`: the text under the log's name is a log of the network, and its lines were counted
+    // and its bound printed.
+    ensures checked { result ≡ 0 → IfCheck words.now (λ job. IsAccepted job
         (state_of H.held H.faults H.last_fault H.started shelf.old)
         (state_of H.held H.faults H.last_fault H.started shelf.new)
         (sink_state_of O.written O.faults out.old) (sink_state_of O.written O.faults out.new)) }
@@ -54,7 +61,7 @@ pub fn geoplan<H: Shelf, O: Sink>(alloc: Global, words: &Words, shelf: &mut H, o
         (λ files after. IsLeftOpen job files after
         (sink_state_of O.written O.faults out.old) (sink_state_of O.written O.faults out.new))) }
 
-    // 5: a read of a table failed in this call.
+    // 5: a read of a file of the command failed in this call.
     ensures unread { result ≡ 5 → OnCommand words.now (λ command. IsUnread (sources_of command)
         (state_of H.held H.faults H.last_fault H.started shelf.old)
         (state_of H.held H.faults H.last_fault H.started shelf.new)
@@ -72,19 +79,27 @@ pub fn geoplan<H: Shelf, O: Sink>(alloc: Global, words: &Words, shelf: &mut H, o
         (state_of H.held H.faults H.last_fault H.started shelf.new)
         (sink_state_of O.written O.faults out.old) (sink_state_of O.written O.faults out.new) }
 
+    // 8 of `check`: the shown fault is the first one of the text under the log's name.
+    ensures log_refused { result ≡ 8 → OnCheck words.now (λ job. IsLogRefused job
+        (state_of H.held H.faults H.last_fault H.started shelf.old)
+        (state_of H.held H.faults H.last_fault H.started shelf.new)
+        (sink_state_of O.written O.faults out.old) (sink_state_of O.written O.faults out.new)) }
+
     // 9: the shown file is the first one, in the order of reading, that is too long.
     ensures too_long { result ≡ 9 → OnCommand words.now (λ command. IsTooLong (sources_of command)
         (state_of H.held H.faults H.last_fault H.started shelf.old)
         (state_of H.held H.faults H.last_fault H.started shelf.new)
         (sink_state_of O.written O.faults out.old) (sink_state_of O.written O.faults out.new)) }
 
-    // Accepted words and no fault counted: the status is what the tables give, or want of memory.
+    // Accepted words and no fault counted: the status is what the files give, or want of memory.
+    // Of `check` it is 0 where the text is a log, and 8 where it has a first fault, and never both
+    // may be (`each_text_has_one_verdict`).
     ensures complete { (command : CommandOf) → command_of words.now ≡ Some command →
         (Rose (H.faults shelf.old) (H.faults shelf.new) → ⊥) → (Rose (O.faults out.old) (O.faults out.new) → ⊥) →
         ForSome (H.held shelf.old) (λ files. IsComplete command files result) }
 
-    // Every name but the log's of `plan` holds what it held; `rows`, and words that aren't accepted,
-    // change nothing.
+    // Every name but the log's of `plan` holds what it held; `rows`, `check`, and words that aren't
+    // accepted, change nothing.
     ensures others { WhereHeld (H.held shelf.old) (H.held shelf.new) (OthersStay words.now) }
     ensures untouched { written_by words.now ≡ None → H.held shelf.new ≡ H.held shelf.old }
 

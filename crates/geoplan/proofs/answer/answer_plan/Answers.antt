@@ -1,12 +1,19 @@
 use Rattle.branch_bound.specs.Explored.{state_of}
 use Rattle.geoplan.specs.CommandView.{job_view}
-use Rattle.geoplan.proofs.StandLemmas.{PlanStands-reported}
+use Rattle.geoplan.proofs.StandLemmas.{PlanStands-reported, CanReport-solved}
 use Rattle.geoplan.proofs.answer.answer_plan.Goals as goal
 
 pub returns-in-Ok-solve : goal.returns-in-Ok-solve
 returns-in-Ok-solve g c =
-    PlanStands-reported (job_view c.args.job.now) c.in-Ok.tables c.in-Ok-solve.done
+    PlanStands-reported (job_view c.args.job.now) c.in-Ok.accepted.tables c.in-Ok.accepted.log.items c.in-Ok-solve.done
     (state_of g.H.Shelf.held g.H.Shelf.faults g.H.Shelf.last_fault g.H.Shelf.started c.args.shelf.now)
     (state_of g.H.Shelf.held g.H.Shelf.faults g.H.Shelf.last_fault g.H.Shelf.started c.tables_of.new.shelf)
     (state_of g.H.Shelf.held g.H.Shelf.faults g.H.Shelf.last_fault g.H.Shelf.started c.solve.new.shelf)
     c.report.result.status c.report.result.text.items c.in-Ok.ensures.tables c.in-Ok-solve.ensures.solved c.report.ensures
+
+pub report-requires-clause-answer : goal.report-requires-clause-answer
+report-requires-clause-answer g c =
+    CanReport-solved c.in-Ok.accepted.tables (job_view c.args.job.now).log c.in-Ok-solve.done
+    (state_of g.H.Shelf.held g.H.Shelf.faults g.H.Shelf.last_fault g.H.Shelf.started c.tables_of.new.shelf)
+    (state_of g.H.Shelf.held g.H.Shelf.faults g.H.Shelf.last_fault g.H.Shelf.started c.solve.new.shelf)
+    c.in-Ok-solve.ensures.solved

@@ -3,7 +3,7 @@ use Rattle.branch_bound.specs.Explored.{state_of}
 use Rattle.geoplan.specs.Printing.{sink_state_of}
 use Rattle.geoplan.proofs.FaultLemmas.{unwritten-of, others-of, untouched-of, shelf_told-of, out_told-of}
 use Rattle.geoplan.proofs.MemoryLemmas.{ran_out-of, complete-of, refused-of}
-use Rattle.geoplan.proofs.TopLemmas.{found-of, rows-of, none-of, undecided-of, words-of, refused_table-of, unread-of, too_long-of}
+use Rattle.geoplan.proofs.TopLemmas.{found-of, rows-of, checked-of, log_refused-of, none-of, undecided-of, words-of, refused_table-of, unread-of, too_long-of}
 use Rattle.geoplan.proofs.top.geoplan.Goals as goal
 
 pub returns-clause-found : goal.returns-clause-found
@@ -131,3 +131,19 @@ returns-clause-out_told g c =
     out_told-of c.run.ensures.begun c.run.result c.run.ensures.text
     (sink_state_of g.O.Sink.written g.O.Sink.faults c.args.out.now) (sink_state_of g.O.Sink.written g.O.Sink.faults c.run.new.out)
     c.run.ensures.printed
+
+pub returns-clause-checked : goal.returns-clause-checked
+returns-clause-checked g c = λ is.
+    checked-of c.args.words.now c.run.result
+    (state_of g.H.Shelf.held g.H.Shelf.faults g.H.Shelf.last_fault g.H.Shelf.started c.args.shelf.now)
+    (state_of g.H.Shelf.held g.H.Shelf.faults g.H.Shelf.last_fault g.H.Shelf.started c.run.new.shelf)
+    (sink_state_of g.O.Sink.written g.O.Sink.faults c.args.out.now) (sink_state_of g.O.Sink.written g.O.Sink.faults c.run.new.out)
+    c.run.ensures (sym c.code.ensures ∙ is)
+
+pub returns-clause-log_refused : goal.returns-clause-log_refused
+returns-clause-log_refused g c = λ is.
+    log_refused-of c.args.words.now c.run.result
+    (state_of g.H.Shelf.held g.H.Shelf.faults g.H.Shelf.last_fault g.H.Shelf.started c.args.shelf.now)
+    (state_of g.H.Shelf.held g.H.Shelf.faults g.H.Shelf.last_fault g.H.Shelf.started c.run.new.shelf)
+    (sink_state_of g.O.Sink.written g.O.Sink.faults c.args.out.now) (sink_state_of g.O.Sink.written g.O.Sink.faults c.run.new.out)
+    c.run.ensures (sym c.code.ensures ∙ is)
