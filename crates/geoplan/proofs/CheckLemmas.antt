@@ -1,24 +1,21 @@
 -- What `check` makes of the log that `plan` left.
-use Rattle.std.proofs.Common.{◌≡◌, ◌≢◌, ◌⊎◌, inl, inr, ℕ, ◌≤◌, Bool, true, false, ◌||◌, if◌then◌else◌, List, [], ◌∷◌, length, refl, sym, ap, ◌∙◌, subst, Option, None, Some}
+use Rattle.std.proofs.Common.{◌≡◌, ℕ, Bool, true, false, ◌||◌, if◌then◌else◌, List, [], ◌∷◌, refl, sym, ap, ◌∙◌, subst, Option, None, Some}
 use Rattle.std.specs.Prelude.{codes, drop}
 use Rattle.std.specs.List.{list_all}
 use Rattle.std.specs.Str.{bytes_eq}
 use Rattle.std.specs.Option.{option_map}
-use Rattle.std.specs.FinMap.{get}
 use Rattle.std.proofs.lemmas.Slice.Eq.{bytes_eq-Decides}
 use Rattle.shelf_io.specs.Files.{Files, bytes_of}
 use Rattle.shelf_io.proofs.FileLaws.{bytes_of-get}
-use Rattle.geo_model.specs.Network.{NetworkOf, IsNetwork}
+use Rattle.geo_model.specs.Network.{IsNetwork}
 use Rattle.bound_log.specs.declared.bound.Bound.{Bound}
 use Rattle.bound_log.specs.LogTree.{HasBound}
 use Rattle.bound_log.proofs.TreeLemmas.{one_bound}
-use Rattle.log_check.specs.Replayed.{IsReplayed}
-use Rattle.log_check.specs.declared.replaying.Replayed.{Replayed}
 use Rattle.log_check.proofs.VerdictLemmas.{logs_have_no_fault}
 use Rattle.geoplan.specs.Checked.{IsPlanned, ChecksWith}
-use Rattle.geoplan.specs.CommandOf.{JobOf, plan_command, check_command, rows_command, checked_sources, is_plain, are_shared, job_of, command_from, command_of, name_written}
+use Rattle.geoplan.specs.CommandOf.{JobOf, plan_command, check_command, rows_command, is_plain, are_shared, job_of, command_from, command_of, name_written}
 use Rattle.geoplan.specs.Digits.{whole_of}
-use Rattle.geoplan.specs.Input.{most_log_bytes, input_from, input_of}
+use Rattle.geoplan.specs.Input.{input_from, input_of}
 use Rattle.geoplan.specs.Tables.{TablesOf}
 use Rattle.geoplan.specs.declared.input.Input.TheVariants as input
 use Rattle.geoplan.proofs.InputLemmas.{input_from-other_log, fits_log}

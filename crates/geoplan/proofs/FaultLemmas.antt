@@ -9,10 +9,10 @@ use Rattle.shelf_io.proofs.WrittenLaws.{with_written-nothing, is_some-with_writt
 use Rattle.bound_log.specs.LogText.{log_text}
 use Rattle.branch_bound.specs.Explored.{ShelfState}
 use Rattle.geoplan.specs.Codes.{code_of, after_failed_put}
-use Rattle.geoplan.specs.CommandOf.{SourcesOf, JobOf, CommandOf, plan_command, rows_command, check_command, plain_sources, command_of, name_written, written_by, OnCommand, OnPlan}
+use Rattle.geoplan.specs.CommandOf.{SourcesOf, JobOf, plan_command, rows_command, check_command, plain_sources, command_of, name_written, written_by, OnCommand, OnPlan}
 use Rattle.geoplan.specs.Printing.{SinkState, WritesPrefix, WritesAll, Prints, Answered, Runs}
-use Rattle.geoplan.specs.Promises.{WhereHeld, LogFails, PrintFails, ListFails, CheckFails, IsUnwritten, OthersStay}
-use Rattle.geoplan.specs.Standing.{KeepsOrBegan, FindsPlan, FindsNone, LeavesOpen, ListsRows, AcceptsLog, FailsToWrite, PlanStands, RowsStand, CheckStands, Stands}
+use Rattle.geoplan.specs.Promises.{WhereHeld, PrintFails, ListFails, CheckFails, IsUnwritten, OthersStay}
+use Rattle.geoplan.specs.Standing.{KeepsOrBegan, FindsPlan, FindsNone, LeavesOpen, ListsRows, AcceptsLog, PlanStands, RowsStand, CheckStands, Stands}
 use Rattle.geoplan.specs.declared.status.Status.{Status}
 use Rattle.geoplan.specs.declared.status.Status.TheVariants as status
 use Rattle.geoplan.proofs.AnswerLemmas.{by_command}

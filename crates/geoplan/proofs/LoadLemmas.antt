@@ -25,7 +25,6 @@ use Rattle.geoplan.specs.declared.input.Input.{Input}
 use Rattle.geoplan.specs.declared.input.Input.TheVariants as input
 use Rattle.geoplan.specs.declared.input.File.{File}
 use Rattle.geoplan.specs.declared.input.File.TheVariants as file
-
 use Rattle.geoplan.proofs.InputLemmas.{input_from-long_points, input_from-long_candidates, input_from-long_log, input_from-judged, long_log, short_log, log_held}
 
 -- ---- reading

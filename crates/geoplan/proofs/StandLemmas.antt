@@ -1,5 +1,5 @@
 -- What stands once the network of the tables is searched and its answer is reported.
-use Rattle.std.proofs.Common.{◌≡◌, inl, inr, ℕ, List, [], sym, ap, ◌∙◌, subst, arith}
+use Rattle.std.proofs.Common.{◌≡◌, inl, inr, ℕ, List, [], refl, sym, ap, ◌∙◌, subst, arith}
 use Rattle.std.proofs.lemmas.List.{append-nil}
 use Rattle.shelf_io.specs.Files.{with_bytes}
 use Rattle.geo_model.specs.declared.answer.Answer.{Answer}

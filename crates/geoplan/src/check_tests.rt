@@ -29,12 +29,7 @@ fn words_of(rt: &impl Abort, alloc: Global, line: &str) -> Words {
 }
 
 /// A shelf with two tables and a log.
-fn shelf_of(
-    alloc: Global,
-    points: &[u8],
-    candidates: &[u8],
-    log: &[u8],
-) -> Result<MemShelf, Fail> {
+fn shelf_of(alloc: Global, points: &[u8], candidates: &[u8], log: &[u8]) -> Result<MemShelf, Fail> {
     let mut shelf = MemShelf::new(alloc, Vec::new(alloc));
     shelf.put_file("p.csv", points)?;
     shelf.put_file("c.csv", candidates)?;
@@ -52,7 +47,10 @@ fn expect(
     printed: &str,
 ) -> Result<(), Fail> {
     let mut out = MemSink::new(alloc, Vec::new(alloc));
-    assert_eq!(rt; geoplan(alloc, &words_of(rt, alloc, line), shelf, &mut out), status);
+    assert_eq!(rt;
+        geoplan(alloc, &words_of(rt, alloc, line), shelf, &mut out),
+        status
+    );
     assert_eq!(rt; out.bytes(), printed.as_bytes());
     Ok(())
 }
@@ -71,11 +69,7 @@ const LOGS: [(&[u8], u8, &str); 6] = [
         "refused,7,Extra\n",
     ),
     (b"geoplan-log 1\np 1\n", 8, "refused,2,Owner\n"),
-    (
-        b"geoplan-log 1\ns 0\np 1\ns 0\n",
-        8,
-        "refused,4,NotOpen\n",
-    ),
+    (b"geoplan-log 1\ns 0\np 1\ns 0\n", 8, "refused,4,NotOpen\n"),
     (b"", 8, "refused,1,Form\n"),
 ];
 
