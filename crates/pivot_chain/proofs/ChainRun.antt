@@ -1,16 +1,15 @@
 -- A chain as a loop runs it: what each row adds.
-use Rattle.std.proofs.Common.{◌≡◌, ℕ, suc, ◌+◌, ◌-◌, ◌<◌, ◌≤◌, false, List, length, sym, ◌∙◌, ap, ap₂, subst, arith, inl, inr, ℤ, pos, ◌≤ℤ◌}
+use Rattle.std.proofs.Common.{◌≡◌, ℕ, suc, ◌+◌, ◌-◌, ◌<◌, ◌≤◌, false, List, length, sym, ◌∙◌, ap, subst, arith, inl, inr, ℤ}
 use Rattle.std.specs.Prelude.{slice_set}
 use Rattle.std.proofs.lemmas.Bool.{cases_lt}
-use Rattle.whole_algebra.specs.Matrices.{at, IsTriangle}
+use Rattle.whole_algebra.specs.Matrices.{IsTriangle}
 use Rattle.whole_algebra.specs.Chains.{step_of, is_stop, stop, matrix_after, stops}
 use Rattle.whole_algebra.specs.Grid.{row_at}
-use Rattle.lent_parts.specs.Triangle.{IsTri, tri_row, refilled}
+use Rattle.lent_parts.specs.Triangle.{IsTri, tri_row}
 use Rattle.lent_parts.proofs.Triangles.{length-IsTri, length-tri_row}
 use Rattle.pivot_chain.specs.Step.{over_of, IsPivotRow}
 use Rattle.pivot_chain.specs.Chain.{chain_of, StopsAt}
 use Rattle.pivot_chain.specs.declared.side.Side.{Side}
-use Rattle.pivot_chain.specs.declared.chain.Stop.{Stop}
 use Rattle.pivot_chain.proofs.Matrices.{GoesOn, row_kept}
 use Rattle.pivot_chain.proofs.ChainSteps.{no_stop, stops_at}
 

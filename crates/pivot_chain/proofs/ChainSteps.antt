@@ -1,5 +1,5 @@
 -- Where a chain stops, told by the first rows of its matrices.
-use Rattle.std.proofs.Common.{◌≡◌, ℕ, zero, suc, ◌-◌, ◌<◌, ◌≤◌, Bool, true, false, cond, ◌||◌, List, [], ◌∷◌, map, length, get_or, refl, sym, ◌∙◌, ap, ap₂, subst, arith, ℤ, pos}
+use Rattle.std.proofs.Common.{◌≡◌, ℕ, zero, suc, ◌-◌, ◌<◌, ◌≤◌, Bool, true, false, cond, ◌||◌, List, [], ◌∷◌, map, get_or, refl, sym, ◌∙◌, ap, ap₂, subst, arith, ℤ}
 use Rattle.whole_algebra.specs.Matrices.{at, IsTriangle}
 use Rattle.whole_algebra.specs.Chains.{Step, free, pivot, stop, step_of, is_stop, next, chain_rows, matrix_after, chain_steps, stops, stop_place, stop_value, pivot_value, pivot_at, met, refuted, open_at, outcome_of}
 use Rattle.whole_algebra.specs.Grid.{row_at}

@@ -1,19 +1,19 @@
 -- The row of a pivot that can be divided by.
-use Rattle.std.proofs.Common.{◌≡◌, ℕ, zero, suc, ◌+◌, ◌*◌, ◌^◌, ◌<◌, ◌≤◌, Bool, true, false, ◌&&◌, List, [], ◌∷◌, length, refl, sym, ◌∙◌, ap, subst, arith, inl, inr, ℤ, pos, ◌+ℤ◌, ◌-ℤ◌, ◌*ℤ◌, neg_ℤ, ◌≤ℤ◌, ◌<ℤ◌, unsigned_abs, IsFalse}
+use Rattle.std.proofs.Common.{◌≡◌, ℕ, zero, suc, ◌+◌, ◌*◌, ◌^◌, ◌≤◌, true, false, List, [], ◌∷◌, length, refl, sym, arith, inl, inr, ℤ, pos, ◌+ℤ◌, ◌*ℤ◌, neg_ℤ, ◌≤ℤ◌, ◌<ℤ◌, unsigned_abs}
 use Rattle.std.specs.List.{list_all}
 use Rattle.std.proofs.lemmas.Int.{ints, unsigned_abs-mul}
 use Rattle.std.proofs.lemmas.Bool.{cases_lt}
 use Rattle.std.proofs.lemmas.Nat.{mul-le}
 use Rattle.whole_algebra.specs.Rounding.{is_zero, floor_over, gap_over}
 use Rattle.whole_algebra.specs.Matrices.{at}
-use Rattle.whole_algebra.specs.Chains.{size_limit, is_too_large, step_of, pivot, is_stop}
-use Rattle.whole_algebra.proofs.Order.{square_nonneg, mul_nonneg, mul_le_mul, mul_le_mul_right}
+use Rattle.whole_algebra.specs.Chains.{size_limit, is_too_large, step_of, is_stop}
+use Rattle.whole_algebra.proofs.Order.{square_nonneg, mul_nonneg, mul_le_mul_right}
 use Rattle.whole_algebra.proofs.Ring.{mul_zero}
 use Rattle.whole_algebra.proofs.Rounding.{floor_at_most, ceil_at_most}
 use Rattle.whole_algebra.proofs.ChainLaws.{step_cases, is_zero-true, and_left, and_right, positive}
 use Rattle.whole_algebra.proofs.Refutation.{false_is_not_true}
 use Rattle.whole_algebra.proofs.Sizes.{squares_at_most, taken_within}
-use Rattle.pivot_chain.specs.Step.{IsPivotRow, IsDividing, taken}
+use Rattle.pivot_chain.specs.Step.{IsDividing, taken}
 
 -- what a step that goes on, beside a number that isn't 0, shows of its row
 pub record IsPivot (pivot : List ℤ) : Type 0 where

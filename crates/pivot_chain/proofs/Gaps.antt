@@ -1,14 +1,13 @@
 -- Gaps of quotients, and their sums.
-use Rattle.std.proofs.Common.{◌≡◌, ℕ, zero, suc, ◌+◌, ◌-◌, ◌<◌, ◌≤◌, cond, List, [], ◌∷◌, map, length, refl, sym, ◌∙◌, ap, ap₂, subst, arith, ◌^◌, ℤ, pos, negsuc, ◌+ℤ◌, ◌*ℤ◌, neg_ℤ, ◌≤ℤ◌, ◌<ℤ◌, unsigned_abs}
+use Rattle.std.proofs.Common.{◌≡◌, ℕ, zero, suc, ◌+◌, ◌-◌, ◌<◌, ◌≤◌, cond, List, [], ◌∷◌, map, length, refl, sym, ◌∙◌, ap, ap₂, arith, ◌^◌, ℤ, pos, negsuc, ◌+ℤ◌, ◌*ℤ◌, neg_ℤ, ◌≤ℤ◌, ◌<ℤ◌, unsigned_abs}
 use Rattle.std.specs.Int.{int_rem_euclid}
 use Rattle.std.proofs.lemmas.Int.{ints}
 use Rattle.whole_algebra.specs.Sums.{int_sum}
 use Rattle.whole_algebra.specs.Rounding.{is_zero, floor_over, gap_over}
 use Rattle.whole_algebra.specs.Matrices.{at}
 use Rattle.whole_algebra.specs.Chains.{beside}
-use Rattle.whole_algebra.proofs.Ring.{add_zero, zero_add, add_comm, add_assoc, mul_comm}
-use Rattle.whole_algebra.proofs.Rounding.{floor_split, floor_low, floor_high, gap_range, remainder_range}
-use Rattle.whole_algebra.proofs.Places.{at-beside}
+use Rattle.whole_algebra.proofs.Ring.{add_zero, zero_add, add_assoc, mul_comm}
+use Rattle.whole_algebra.proofs.Rounding.{floor_split, floor_low, floor_high, gap_range}
 use Rattle.pivot_chain.specs.Step.{gap_at, sum_from, slack_of}
 
 -- ---- one gap, told by the floor

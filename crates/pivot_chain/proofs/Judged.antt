@@ -1,9 +1,9 @@
 -- The verdict as the code puts it together.
-use Rattle.std.proofs.Common.{◌≡◌, ℕ, zero, suc, [], ◌∷◌, ◌+◌, ◌-◌, ◌^◌, ◌<◌, ◌≤◌, Bool, List, length, get_or, Some, slice_get, refl, sym, ◌∙◌, ap, ap₂, subst, arith, ℤ, pos, ◌+ℤ◌, ◌-ℤ◌, ◌≤ℤ◌}
+use Rattle.std.proofs.Common.{◌≡◌, ℕ, zero, suc, [], ◌∷◌, ◌+◌, ◌^◌, ◌<◌, ◌≤◌, Bool, List, length, get_or, Some, slice_get, sym, ◌∙◌, ap, ap₂, subst, arith, ℤ, pos, ◌+ℤ◌, ◌-ℤ◌, ◌≤ℤ◌}
 use Rattle.std.proofs.lemmas.Int.{ints}
 use Rattle.whole_algebra.specs.Rounding.{floor_over, gap_over}
-use Rattle.whole_algebra.specs.Matrices.{at, diagonal, slacks, IsTriangle}
-use Rattle.whole_algebra.specs.Chains.{stop_place, verdict_of as outcome_on}
+use Rattle.whole_algebra.specs.Matrices.{at, slacks, IsTriangle}
+use Rattle.whole_algebra.specs.Chains.{verdict_of as outcome_on}
 use Rattle.whole_algebra.specs.Grid.{row_at}
 use Rattle.whole_algebra.proofs.Rounding.{gap_range}
 use Rattle.whole_algebra.proofs.Shapes.{length-triangle}

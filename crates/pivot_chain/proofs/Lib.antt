@@ -4,6 +4,7 @@ pub mod Dividing
 pub mod RowSteps
 pub mod Matrices
 pub mod ChainSteps
+pub mod HeightNetworks
 pub mod Judged
 pub mod ChainRun
 pub mod Plans

@@ -1,5 +1,5 @@
 -- Plans that are changed at one place.
-use Rattle.std.proofs.Common.{◌≡◌, ℕ, zero, suc, ◌<◌, Bool, List, [], ◌∷◌, length, refl, ap, ap₂, arith, Some, None, slice_get}
+use Rattle.std.proofs.Common.{◌≡◌, ℕ, zero, suc, ◌<◌, Bool, List, [], ◌∷◌, length, refl, ap, ap₂, arith, Some, slice_get}
 use Rattle.std.specs.Prelude.{slice_set}
 
 -- an entry that is written again

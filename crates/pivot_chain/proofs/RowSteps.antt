@@ -1,17 +1,15 @@
 -- A step on one row is the step of the recursion, read at that row.
-use Rattle.std.proofs.Common.{◌≡◌, ℕ, zero, suc, ◌+◌, ◌-◌, ◌^◌, ◌<◌, ◌≤◌, Bool, true, false, cond, List, [], ◌∷◌, map, length, refl, sym, ◌∙◌, ap, ap₂, subst, arith, inl, inr, ℤ, pos, ◌+ℤ◌, ◌-ℤ◌, ◌*ℤ◌, neg_ℤ, ◌≤ℤ◌, ◌<ℤ◌, unsigned_abs}
+use Rattle.std.proofs.Common.{◌≡◌, ℕ, zero, suc, ◌+◌, ◌-◌, ◌^◌, ◌<◌, ◌≤◌, false, List, [], ◌∷◌, length, refl, sym, ◌∙◌, ap, ap₂, subst, arith, inl, inr, ℤ, pos, ◌+ℤ◌, ◌*ℤ◌, neg_ℤ, ◌≤ℤ◌, ◌<ℤ◌, unsigned_abs}
 use Rattle.std.specs.List.{list_all}
 use Rattle.std.proofs.lemmas.Int.{ints}
 use Rattle.std.proofs.lemmas.Bool.{cases_lt}
-use Rattle.whole_algebra.specs.Sums.{int_sum}
 use Rattle.whole_algebra.specs.Rounding.{is_zero, floor_over, gap_over}
-use Rattle.whole_algebra.specs.Matrices.{at, schur, slacks, lower_over, upper_over, IsTriangle}
+use Rattle.whole_algebra.specs.Matrices.{at, schur, slacks, IsTriangle}
 use Rattle.whole_algebra.specs.Chains.{step_of, is_stop, left_after, next, matrix_after}
 use Rattle.whole_algebra.specs.Grid.{row_at}
 use Rattle.whole_algebra.proofs.Ring.{add_zero, mul_comm, mul_zero}
 use Rattle.whole_algebra.proofs.Rounding.{floor_of_zero, gap_of_zero, gap_range}
 use Rattle.whole_algebra.proofs.Shapes.{triangle-schur, triangle-lower_over, triangle-upper_over}
-use Rattle.whole_algebra.proofs.Places.{at-beside}
 use Rattle.whole_algebra.proofs.PivotStep.{lower_step-right, lower_step-diagonal, upper_step-right, upper_step-diagonal, slack_of_step}
 use Rattle.whole_algebra.proofs.ChainLaws.{step_cases, positive, is_zero-true, and_left}
 use Rattle.whole_algebra.proofs.Refutation.{false_is_not_true}

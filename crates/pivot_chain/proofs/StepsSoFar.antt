@@ -1,7 +1,7 @@
 -- A row that has taken some of the steps before it.
 use Rattle.std.proofs.Common.{◌≡◌, ℕ, suc, ◌+◌, ◌-◌, ◌*◌, ◌^◌, ◌<◌, ◌≤◌, List, length, sym, ◌∙◌, ap, ap₂, subst, arith, ℤ, pos, ◌+ℤ◌, ◌≤ℤ◌, unsigned_abs}
 use Rattle.std.proofs.lemmas.Int.{ints}
-use Rattle.whole_algebra.specs.Matrices.{at, IsTriangle}
+use Rattle.whole_algebra.specs.Matrices.{IsTriangle}
 use Rattle.whole_algebra.specs.Chains.{step_of, is_stop, matrix_after}
 use Rattle.whole_algebra.specs.Grid.{row_at}
 use Rattle.lent_parts.specs.Triangle.{tri_row}

@@ -1,15 +1,14 @@
 -- What the verdict on a limit says of the limit.
-use Rattle.std.proofs.Common.{◌≡◌, ℕ, ◌≤◌, List, Bool, length, refl, ap, arith, ℤ, pos, ◌*ℤ◌, ◌≤ℤ◌, ◌<ℤ◌}
+use Rattle.std.proofs.Common.{◌≡◌, ℕ, ◌≤◌, List, Bool, length, refl, arith, ℤ, pos, ◌*ℤ◌, ◌≤ℤ◌, ◌<ℤ◌}
 use Rattle.std.proofs.lemmas.Int.{ints}
 use Rattle.whole_algebra.specs.Chains.{Outcome, met, refuted, open_at, verdict_of as outcome_on}
 use Rattle.whole_algebra.proofs.VerdictLaws.{verdict-open}
 use Rattle.geo_model.specs.Row.{Displaced}
 use Rattle.geo_model.specs.Energy.{energy, IsWithin}
-use Rattle.geo_model.specs.Limit.{LimitOf, IsInForce, load}
+use Rattle.geo_model.specs.Limit.{LimitOf, load}
 use Rattle.geo_model.specs.Network.{NetworkOf, IsNetwork, IsLimit}
 use Rattle.geo_model.specs.Meeting.{MeetsLimit, MeetsLimits, Breaks}
 use Rattle.geo_model.specs.Verdicts.{IsCertifiedBy}
-use Rattle.geo_model.specs.declared.verdict.Verdict.{Verdict}
 use Rattle.geo_model.specs.declared.verdict.Verdict.TheVariants.{Met, Refuted, Open}
 use Rattle.geo_model.proofs.EnergyLemmas.{MeetsLimit-grows}
 use Rattle.limit_forms.specs.Grid.{lower_grid, upper_grid}

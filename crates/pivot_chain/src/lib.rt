@@ -10,6 +10,8 @@ mod room;
 mod side;
 mod step;
 mod stop;
+#[cfg(test)]
+mod tests;
 
 pub use chain::{Stop, run_chain};
 pub use judging::verdict;

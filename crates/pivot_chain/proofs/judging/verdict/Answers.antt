@@ -1,7 +1,7 @@
-use Rattle.std.proofs.Common.{rules, ◌≡◌, length, sym, ◌∙◌, ap, subst, arith, w64, FitsSigned}
+use Rattle.std.proofs.Common.{rules, ◌≡◌, length, sym, ◌∙◌, ap, subst, w64, FitsSigned}
 use Rattle.std.proofs.lemmas.Int.{to_z-of_z}
 use Rattle.lent_parts.specs.Triangle.{IsTri}
-use Rattle.geo_model.specs.Limit.{LimitOf, SquareOf}
+use Rattle.geo_model.specs.Limit.{LimitOf}
 use Rattle.limit_forms.proofs.GridReads.{length-grid_of}
 use Rattle.pivot_chain.specs.Room.{RoomOf}
 use Rattle.pivot_chain.specs.Chain.{IsSmall}

@@ -1,7 +1,6 @@
-use Rattle.std.proofs.Common.{◌≡◌, ◌+◌, ◌-◌, ◌<◌, length, ap, arith, w64, FitsSigned}
+use Rattle.std.proofs.Common.{◌≡◌, ◌-◌, ◌<◌, length, ap, arith, w64, FitsSigned}
 use Rattle.std.proofs.lemmas.Int.{to_z-of_z}
 use Rattle.whole_algebra.specs.Grid.{row_at}
-use Rattle.lent_parts.specs.Triangle.{IsTri}
 use Rattle.lent_parts.proofs.Triangles.{length-IsTri}
 use Rattle.limit_forms.specs.Grid.{lower_grid, upper_grid}
 use Rattle.limit_forms.proofs.GridEntries.{lower_triangle, upper_triangle}

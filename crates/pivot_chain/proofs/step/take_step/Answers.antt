@@ -1,4 +1,4 @@
-use Rattle.std.proofs.Common.{rules, ◌≡◌, ◌-◌, ◌<◌, ◌≤◌, get_or, length, pos, ap, arith, to_z, of_z, FitsSigned}
+use Rattle.std.proofs.Common.{rules, ◌-◌, get_or, length, pos, ap, arith, to_z, of_z, FitsSigned}
 use Rattle.std.specs.Int.{w128}
 use Rattle.std.proofs.lemmas.Int.{to_z-of_z}
 use Rattle.pivot_chain.proofs.RowSteps.{IsStepped, stepped_law, skipped_law, stepped_size, stepped_head, dividing_at}

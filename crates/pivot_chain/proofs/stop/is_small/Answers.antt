@@ -1,4 +1,4 @@
-use Rattle.std.proofs.Common.{◌^◌, ◌<◌, ◌∙◌, arith, unsigned_abs, FitsSigned}
+use Rattle.std.proofs.Common.{◌^◌, ◌<◌, arith, unsigned_abs, FitsSigned}
 use Rattle.std.specs.Int.{w128}
 use Rattle.std.proofs.lemmas.Int.{to_z-of_z}
 use Rattle.whole_algebra.proofs.Refutation.{false_is_not_true}

@@ -1,7 +1,7 @@
-use Rattle.std.proofs.Common.{rules, get_or, pos, ◌≡◌, ◌*ℤ◌, ◌≤ℤ◌, ◌<ℤ◌, arith, sym, ◌∙◌, subst, FitsSigned}
+use Rattle.std.proofs.Common.{rules, get_or, pos, ◌*ℤ◌, ◌≤ℤ◌, sym, ◌∙◌, subst, FitsSigned}
 use Rattle.std.specs.Prelude.{All}
 use Rattle.std.specs.Int.{w128}
-use Rattle.std.proofs.lemmas.Int.{ints, to_z-of_z}
+use Rattle.std.proofs.lemmas.Int.{to_z-of_z}
 use Rattle.whole_algebra.specs.Chains.{size_limit}
 use Rattle.whole_algebra.proofs.Refutation.{false_is_not_true}
 use Rattle.psd_cert.proofs.LowerEntries.{rest_is_beside}
