@@ -1,4 +1,5 @@
-ghost use Rattle.std.specs.Prelude.{◌≡◌, length, IfOk};
+ghost use Rattle.std.specs.Prelude.{◌≡◌, [], ◌∷◌, length, IfOk};
+ghost use Rattle.geo_model.specs.declared.network.Component.TheVariants as component;
 
 use crate::rows_text;
 use candidate_tables::{Candidates, read_candidates};
@@ -25,7 +26,7 @@ fn unknown(point: u32, component: Component) -> Unknown
 
 // The network of the two tables.
 fn network(alloc: Global) -> Result<Network, NoMemory>
-    ensures { IfOk result (λ network. (length network.unknowns ≡ 3) × (length network.candidates ≡ 2)) }
+    ensures { IfOk result (λ network. (network.unknowns ≡ (record { point = 1; component = component.X }) ∷ (record { point = 1; component = component.Y }) ∷ (record { point = 0; component = component.Turn }) ∷ []) × (length network.candidates ≡ 2)) }
 {
     let unknowns = vec![in alloc;
         unknown(1, Component::X),
