@@ -1,5 +1,6 @@
 //! Runs of `check` over shelves and sinks in memory.
 use super::*;
+use crate::tests::many_levels;
 use shelf_io::{MemShelf, MemSink};
 use std::alloc::Global;
 use std::process::Abort;
@@ -94,6 +95,34 @@ fn leaves_are_checked(rt: HostRuntime) -> Result<(), Fail> {
     expect(&rt, alloc, &mut shelf, PLAIN, 8, "refused,2,Form\n")?;
     let mut shelf = shelf_of(alloc, LOOSE_POINTS, ONE_LEVEL, b"geoplan-log 1\np 0\n")?;
     expect(&rt, alloc, &mut shelf, PLAIN, 8, "refused,2,NotRefuted\n")
+}
+
+/// The splits of 256 levels one after another, and so many leaves.
+fn deep_log(alloc: Global, leaves: u32) -> Result<Vec<u8>, Fail> {
+    let mut log = b"geoplan-log 1\n".as_slice().to_vec(alloc)?;
+    for candidate in 0..256u32 {
+        let line = format!(in alloc; "s {candidate}\n")?;
+        log.extend_from_slice(line.as_bytes())?;
+    }
+    for _leaf in 0..leaves {
+        log.extend_from_slice(b"c\n".as_slice())?;
+    }
+    Ok(log)
+}
+
+#[test]
+fn a_log_of_256_levels_has_257_leaves(rt: HostRuntime) -> Result<(), Fail> {
+    let alloc = rt.alloc();
+    let levels = many_levels(alloc, 256)?;
+    for (leaves, status, printed) in [
+        (257, 0, "accepted\nlog,256,257,0,0,0\nbound 0\n"),
+        (256, 8, "refused,514,Short\n"),
+    ] {
+        let log = deep_log(alloc, leaves)?;
+        let mut shelf = shelf_of(alloc, LOOSE_POINTS, levels.as_slice(), log.as_slice())?;
+        expect(&rt, alloc, &mut shelf, PLAIN, status, printed)?;
+    }
+    Ok(())
 }
 
 #[test]

@@ -452,6 +452,40 @@ fn expect_run(
     );
     assert_eq!(rt; out.bytes(), printed.as_bytes());
     assert!(rt; is_left(shelf.file("l.log"), words, status));
+    match words.strip_prefix("geoplan plan ") {
+        Some(files) if status < 2 || status == 4 => {
+            expect_check(rt, alloc, &mut shelf, files, last_word(printed))
+        }
+        _ => Ok(()),
+    }
+}
+
+/// The last word of a text, with the end of its line.
+fn last_word(text: &str) -> &str {
+    let mut last = text;
+    for word in text.split(' ') {
+        last = word;
+    }
+    last
+}
+
+/// Runs `check` on what `plan` left, and asserts that the log is accepted with this bound.
+fn expect_check(
+    rt: &impl Abort,
+    alloc: Global,
+    shelf: &mut MemShelf,
+    files: &str,
+    bound: &str,
+) -> Result<(), Fail> {
+    let line = format!(in alloc; "geoplan check {files}")?;
+    let mut out = MemSink::new(alloc, Vec::new(alloc));
+    assert_eq!(rt;
+        geoplan(alloc, &words_of(rt, alloc, line.as_str()), shelf, &mut out),
+        0
+    );
+    let end = format!(in alloc; "\nbound {bound}")?;
+    assert!(rt; out.bytes().starts_with(b"accepted\nlog,"));
+    assert!(rt; out.bytes().ends_with(end.as_bytes()));
     Ok(())
 }
 
@@ -535,7 +569,7 @@ fn tables_have_at_most_1048576_bytes(rt: HostRuntime) -> Result<(), Fail> {
 }
 
 /// So many levels to the new height.
-fn many_levels(alloc: Global, count: u32) -> Result<Vec<u8>, Fail> {
+pub fn many_levels(alloc: Global, count: u32) -> Result<Vec<u8>, Fail> {
     let mut bytes = NO_CANDIDATES.as_bytes().to_vec(alloc)?;
     for number in 0..count {
         let record = format!(in alloc; "l{number},level,A,H,,1.00,,{number}\n")?;
@@ -557,46 +591,23 @@ fn many_points(alloc: Global, count: u32) -> Result<Vec<u8>, Fail> {
 #[test]
 fn tables_have_so_many_records(rt: HostRuntime) -> Result<(), Fail> {
     let alloc = rt.alloc();
-    let points = POINTS.as_bytes();
-    let plan = (0, "plan\ncost 0\ntake,l0\nbound 0\n");
-    expect_run(
-        &rt,
-        alloc,
-        (points, many_levels(alloc, 20)?.as_slice()),
-        PLAN,
-        plan,
-    )?;
-    expect_run(
-        &rt,
-        alloc,
-        (points, many_levels(alloc, 256)?.as_slice()),
-        PLAN,
-        plan,
-    )?;
-    let refused = (3, "table,candidates,258,TooMany\n");
-    expect_run(
-        &rt,
-        alloc,
-        (points, many_levels(alloc, 257)?.as_slice()),
-        PLAN,
-        refused,
-    )?;
-    let none = NO_CANDIDATES.as_bytes();
-    expect_run(
-        &rt,
-        alloc,
-        (many_points(alloc, 1000)?.as_slice(), none),
-        PLAN,
-        (0, "plan\ncost 0\nbound 0\n"),
-    )?;
-    let refused = (3, "table,points,1002,TooMany\n");
-    expect_run(
-        &rt,
-        alloc,
-        (many_points(alloc, 1001)?.as_slice(), none),
-        PLAN,
-        refused,
-    )?;
+    for (count, status, printed) in [
+        (20, 0, "plan\ncost 0\ntake,l0\nbound 0\n"),
+        (256, 0, "plan\ncost 0\ntake,l0\nbound 0\n"),
+        (257, 3, "table,candidates,258,TooMany\n"),
+    ] {
+        let levels = many_levels(alloc, count)?;
+        let tables = (POINTS.as_bytes(), levels.as_slice());
+        expect_run(&rt, alloc, tables, PLAN, (status, printed))?;
+    }
+    for (count, status, printed) in [
+        (1000, 0, "plan\ncost 0\nbound 0\n"),
+        (1001, 3, "table,points,1002,TooMany\n"),
+    ] {
+        let points = many_points(alloc, count)?;
+        let tables = (points.as_slice(), NO_CANDIDATES.as_bytes());
+        expect_run(&rt, alloc, tables, PLAN, (status, printed))?;
+    }
     Ok(())
 }
 

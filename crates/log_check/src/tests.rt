@@ -170,55 +170,33 @@ fn logs_that_are_cut_off(rt: HostRuntime) -> Result<(), Fail> {
     Ok(())
 }
 
+// Texts that are no log of two levels: the line and the kind of the first fault.
+const FAULTS: [(&[u8], u64, LogKind); 17] = [
+    (b"geoplan-log 1\ns 0\np 1\ns 1\np 2\np 0\nc\n", 7, LogKind::Extra),
+    (b"geoplan-log 1\ns 0\np 1\ns 1\np 2\np 0\nc", 7, LogKind::Extra),
+    (b"geoplan-log 1\np 1\n", 2, LogKind::Owner),
+    (b"geoplan-log 1\ns 0\np 1\ns 0\n", 4, LogKind::NotOpen),
+    (b"geoplan-log 1\ns 0\ns 0\n", 3, LogKind::NotOpen),
+    (b"geoplan-log 1\ns 0\nc\np 0\n", 4, LogKind::NotRefuted),
+    (b"geoplan-log 1\ns 2\n", 2, LogKind::Range),
+    (b"geoplan-log 1\np 3\n", 2, LogKind::Range),
+    (b"geoplan-log 1\ns 9999999999999999999\n", 2, LogKind::Range),
+    (b"geoplan-log 1\ns 10000000000000000000\n", 2, LogKind::Form),
+    (b"geoplan-log 1\ns 00\n", 2, LogKind::Form),
+    (b"geoplan-log 1\ns  0\n", 2, LogKind::Form),
+    (b"geoplan-log 1\ns 0\r\n", 2, LogKind::Form),
+    (b"geoplan-log 1\n\n", 2, LogKind::Form),
+    (b"geoplan-log 1\nx 0 1 0 1\n", 2, LogKind::Form),
+    (b"geoplan-log 1\nd 1 0\n", 2, LogKind::Form),
+    (b"geoplan-log 2\ns 0\n", 1, LogKind::Form),
+];
+
 #[test]
 fn logs_with_a_fault(rt: HostRuntime) -> Result<(), Fail> {
-    let alloc = rt.alloc();
-    let network = two_levels(alloc)?;
-    let further = b"geoplan-log 1\ns 0\np 1\ns 1\np 2\np 0\nc\n".as_slice();
-    assert_eq!(rt; replay(alloc, &network, further), fault(7, LogKind::Extra));
-    assert_eq!(rt;
-        replay(alloc, &network, &further[..35]),
-        fault(7, LogKind::Extra)
-    );
-    let not_owned = b"geoplan-log 1\np 1\n";
-    assert_eq!(rt;
-        replay(alloc, &network, not_owned),
-        fault(2, LogKind::Owner)
-    );
-    let left_out = b"geoplan-log 1\ns 0\np 1\ns 0\n";
-    assert_eq!(rt;
-        replay(alloc, &network, left_out),
-        fault(4, LogKind::NotOpen)
-    );
-    let chosen = b"geoplan-log 1\ns 0\ns 0\n";
-    assert_eq!(rt; replay(alloc, &network, chosen), fault(3, LogKind::NotOpen));
-    let met = b"geoplan-log 1\ns 0\nc\np 0\n";
-    assert_eq!(rt; replay(alloc, &network, met), fault(4, LogKind::NotRefuted));
-    let no_such_limit = b"geoplan-log 1\np 3\n";
-    assert_eq!(rt;
-        replay(alloc, &network, no_such_limit),
-        fault(2, LogKind::Range)
-    );
-    let long_number = b"geoplan-log 1\ns 9999999999999999999\n";
-    assert_eq!(rt;
-        replay(alloc, &network, long_number),
-        fault(2, LogKind::Range)
-    );
-    let longer_number = b"geoplan-log 1\ns 10000000000000000000\n";
-    assert_eq!(rt;
-        replay(alloc, &network, longer_number),
-        fault(2, LogKind::Form)
-    );
-    let leading_zero = b"geoplan-log 1\ns 00\n";
-    assert_eq!(rt;
-        replay(alloc, &network, leading_zero),
-        fault(2, LogKind::Form)
-    );
-    let other_head = b"geoplan-log 2\ns 0\n";
-    assert_eq!(rt;
-        replay(alloc, &network, other_head),
-        fault(1, LogKind::Form)
-    );
+    let network = two_levels(rt.alloc())?;
+    for (log, line, kind) in &FAULTS {
+        assert_eq!(rt; replay(rt.alloc(), &network, log), fault(*line, *kind));
+    }
     Ok(())
 }
 
