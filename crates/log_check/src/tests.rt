@@ -172,8 +172,16 @@ fn logs_that_are_cut_off(rt: HostRuntime) -> Result<(), Fail> {
 
 // Texts that are no log of two levels: the line and the kind of the first fault.
 const FAULTS: [(&[u8], u64, LogKind); 17] = [
-    (b"geoplan-log 1\ns 0\np 1\ns 1\np 2\np 0\nc\n", 7, LogKind::Extra),
-    (b"geoplan-log 1\ns 0\np 1\ns 1\np 2\np 0\nc", 7, LogKind::Extra),
+    (
+        b"geoplan-log 1\ns 0\np 1\ns 1\np 2\np 0\nc\n",
+        7,
+        LogKind::Extra,
+    ),
+    (
+        b"geoplan-log 1\ns 0\np 1\ns 1\np 2\np 0\nc",
+        7,
+        LogKind::Extra,
+    ),
     (b"geoplan-log 1\np 1\n", 2, LogKind::Owner),
     (b"geoplan-log 1\ns 0\np 1\ns 0\n", 4, LogKind::NotOpen),
     (b"geoplan-log 1\ns 0\ns 0\n", 3, LogKind::NotOpen),
