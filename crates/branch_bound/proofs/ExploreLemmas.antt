@@ -17,7 +17,8 @@ use Rattle.branch_bound.specs.declared.line.Line.{Line}
 use Rattle.branch_bound.specs.declared.line.Line.TheVariants as line
 use Rattle.branch_bound.specs.declared.search_fault.SearchFault.{SearchFault}
 use Rattle.branch_bound.specs.declared.search_fault.SearchFault.TheVariants as fault
-use Rattle.branch_bound.specs.Explored.{ShelfState, Adds, Breaks, line_of, counted_on, counts_with, IsNode, IsLineAt, Explores, BreaksOff}
+use Rattle.shelf_io.specs.States.{ShelfState}
+use Rattle.branch_bound.specs.Explored.{Adds, Breaks, line_of, counted_on, counts_with, IsNode, IsLineAt, Explores, BreaksOff}
 use Rattle.branch_bound.specs.Found.{IsKept}
 use Rattle.branch_bound.proofs.DoneLemmas.{IsDone-split}
 use Rattle.branch_bound.proofs.PieceLemmas.{Breaks-nothing, Adds-then, Breaks-after, Breaks-longer}

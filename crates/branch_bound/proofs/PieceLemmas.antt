@@ -3,7 +3,8 @@ use Rattle.std.specs.Prelude.{Option}
 use Rattle.shelf_io.specs.Files.{Files, IsHeld, with_piece}
 use Rattle.shelf_io.specs.Faults.{Rose}
 use Rattle.shelf_io.proofs.FileLaws.{with_piece-nothing, with_piece-with_piece}
-use Rattle.branch_bound.specs.Explored.{ShelfState, Adds, Breaks}
+use Rattle.shelf_io.specs.States.{ShelfState}
+use Rattle.branch_bound.specs.Explored.{Adds, Breaks}
 use Rattle.branch_bound.specs.declared.search_fault.SearchFault.{SearchFault}
 use Rattle.branch_bound.specs.declared.search_fault.SearchFault.TheVariants as fault
 

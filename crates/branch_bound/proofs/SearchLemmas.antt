@@ -18,7 +18,8 @@ use Rattle.branch_bound.specs.declared.search_fault.SearchFault.{SearchFault}
 use Rattle.branch_bound.specs.declared.search_fault.SearchFault.TheVariants as fault
 use Rattle.branch_bound.specs.declared.best.Best.{Best}
 use Rattle.branch_bound.specs.declared.best.Best.TheVariants as best
-use Rattle.branch_bound.specs.Explored.{ShelfState, Adds, Breaks, Explores, BreaksOff, counted_on, counts_with}
+use Rattle.shelf_io.specs.States.{ShelfState}
+use Rattle.branch_bound.specs.Explored.{Adds, Breaks, Explores, BreaksOff, counted_on, counts_with}
 use Rattle.branch_bound.specs.Found.{IsDone, IsAnswerOf}
 use Rattle.branch_bound.specs.Logged.{Searches, BreaksLog}
 use Rattle.branch_bound.specs.Searched.{IsAnswer, no_counts}

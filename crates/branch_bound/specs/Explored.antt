@@ -1,5 +1,6 @@
 use Rattle.std.specs.Prelude.{◌≡◌, ℕ, ◌+◌, ◌-◌, ◌^◌, ◌≤◌, min, if◌then◌else◌, Bool, List, [], ◌∷◌, ◌++◌, length, Option, Some}
 use Rattle.shelf_io.specs.Files.{Files, with_piece}
+use Rattle.shelf_io.specs.States.{ShelfState}
 use Rattle.shelf_io.specs.Faults.{LastFault, Rose, KeepsFaults, write_of}
 use Rattle.geo_model.specs.Energy.{IsWithin}
 use Rattle.geo_model.specs.Network.{NetworkOf}
@@ -17,17 +18,6 @@ use Rattle.branch_bound.specs.declared.search_fault.SearchFault.TheVariants as f
 use Rattle.branch_bound.specs.Found.{IsDone}
 
 -- What the parts of a search do. This project's own.
-
--- what a contract sees of a shelf
-pub record ShelfState : Type 0 where
-  pub held : Option Files
-  pub faults : ℕ
-  pub last_fault : Option LastFault
-  pub started : Option (List ℕ)
-
--- the state of a shelf, from what its trait shows
-abbrev pub state_of : {S : Type 0} → (S → Option Files) → (S → ℕ) → (S → Option LastFault) → (S → Option (List ℕ)) → S → ShelfState
-state_of held faults last_fault started shelf = record { held = held shelf; faults = faults shelf; last_fault = last_fault shelf; started = started shelf }
 
 -- a text was added under the started name, and no fault was counted
 pub record Adds (name text : List ℕ) (before now : ShelfState) : Type 0 where

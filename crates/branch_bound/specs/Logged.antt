@@ -5,7 +5,8 @@ use Rattle.bound_log.specs.LogText.{log_text}
 use Rattle.bound_log.specs.LogTree.{root_of, IsAllowed}
 use Rattle.bound_log.specs.Tree.{Tree}
 use Rattle.branch_bound.specs.declared.search_fault.SearchFault.{SearchFault}
-use Rattle.branch_bound.specs.Explored.{ShelfState, Adds, Breaks}
+use Rattle.shelf_io.specs.States.{ShelfState}
+use Rattle.branch_bound.specs.Explored.{Adds, Breaks}
 use Rattle.branch_bound.specs.Searched.{IsSearched}
 
 -- What a search leaves on a shelf. This project's own.

@@ -1,7 +1,8 @@
 //! The lines that the search writes.
 ghost use Rattle.std.specs.Prelude.{◌≡◌, ◌+◌, ◌-◌, ◌^◌, [], ◌∷◌, ◌++◌, min, Some, OnOk, OnErr, IfErr};
 ghost use Rattle.bound_log.specs.LogText.{line_text};
-ghost use Rattle.branch_bound.specs.Explored.{state_of, Adds, Breaks, line_of, counts_with};
+ghost use Rattle.shelf_io.specs.States.{state_of};
+ghost use Rattle.branch_bound.specs.Explored.{Adds, Breaks, line_of, counts_with};
 
 use crate::search_fault::SearchFault;
 use bound_log::{put_cost, put_pivot, put_split};

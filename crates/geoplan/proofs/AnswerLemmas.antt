@@ -1,6 +1,6 @@
 -- The answer of a command from the status that it has.
 use Rattle.std.proofs.Common.{◌≡◌, ◌⊎◌, inl, inr, ℕ, List, sym, ◌∙◌, subst, None, Some}
-use Rattle.branch_bound.specs.Explored.{ShelfState}
+use Rattle.shelf_io.specs.States.{ShelfState}
 use Rattle.geoplan.specs.CommandOf.{JobOf, CommandOf, plan_command, rows_command, check_command, plain_sources, command_of, OnCommand, OnPlan, OnCheck}
 use Rattle.geoplan.specs.Printing.{SaysWords, Answered}
 use Rattle.geoplan.specs.Standing.{PlanStands, RowsStand, CheckStands, Stands}

@@ -2,7 +2,8 @@
 use Rattle.std.proofs.Common.{◌≡◌, inl, inr, ℕ, if◌then◌else◌, List, refl, sym, ap, ◌∙◌}
 use Rattle.std.specs.Prelude.{◌==◌}
 use Rattle.geoplan.specs.Codes.{code_of, after_failed_put}
-use Rattle.geoplan.specs.Printing.{SinkState, WritesAll, Prints}
+use Rattle.shelf_io.specs.States.{SinkState}
+use Rattle.geoplan.specs.Printing.{WritesAll, Prints}
 use Rattle.geoplan.specs.Promises.{Says}
 use Rattle.geoplan.specs.declared.status.Status.{Status}
 use Rattle.geoplan.specs.declared.status.Status.TheVariants as status

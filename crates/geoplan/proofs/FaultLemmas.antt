@@ -7,10 +7,10 @@ use Rattle.shelf_io.specs.Written.{with_written}
 use Rattle.shelf_io.proofs.FileLaws.{is_some-with_bytes, KeepsOthers-with_bytes}
 use Rattle.shelf_io.proofs.WrittenLaws.{with_written-nothing, is_some-with_written}
 use Rattle.bound_log.specs.LogText.{log_text}
-use Rattle.branch_bound.specs.Explored.{ShelfState}
+use Rattle.shelf_io.specs.States.{SinkState, ShelfState}
 use Rattle.geoplan.specs.Codes.{code_of, after_failed_put}
 use Rattle.geoplan.specs.CommandOf.{SourcesOf, JobOf, plan_command, rows_command, check_command, plain_sources, command_of, name_written, written_by, OnCommand, OnPlan}
-use Rattle.geoplan.specs.Printing.{SinkState, WritesPrefix, WritesAll, Prints, Answered, Runs}
+use Rattle.geoplan.specs.Printing.{WritesPrefix, WritesAll, Prints, Answered, Runs}
 use Rattle.geoplan.specs.Promises.{WhereHeld, PrintFails, ListFails, CheckFails, IsUnwritten, OthersStay}
 use Rattle.geoplan.specs.Standing.{KeepsOrBegan, FindsPlan, FindsNone, LeavesOpen, ListsRows, AcceptsLog, PlanStands, RowsStand, CheckStands, Stands}
 use Rattle.geoplan.specs.declared.status.Status.{Status}

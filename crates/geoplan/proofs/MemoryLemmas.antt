@@ -5,12 +5,12 @@ use Rattle.shelf_io.specs.Files.{Files}
 use Rattle.shelf_io.specs.Faults.{Rose}
 use Rattle.bound_log.specs.LogText.{log_text}
 use Rattle.bound_log.specs.Tree.{Tree}
-use Rattle.branch_bound.specs.Explored.{ShelfState}
+use Rattle.shelf_io.specs.States.{SinkState, ShelfState}
 use Rattle.geoplan.specs.Codes.{code_of, after_failed_put}
 use Rattle.geoplan.specs.CommandOf.{SourcesOf, JobOf, CommandOf, plan_command, rows_command, check_command, plain_sources, checked_sources, sources_of, command_of, OnPlan}
 use Rattle.geoplan.specs.Input.{input_of, name_of}
 use Rattle.geoplan.specs.Tables.{TablesOf}
-use Rattle.geoplan.specs.Printing.{SinkState, WritesPrefix, WritesAll, Prints, SaysWords, Answered, Runs}
+use Rattle.geoplan.specs.Printing.{WritesPrefix, WritesAll, Prints, SaysWords, Answered, Runs}
 use Rattle.geoplan.specs.Promises.{IsText, RanOut, IsStatusOf, IsComplete}
 use Rattle.geoplan.specs.Standing.{LeavesLog, BeganLog, KeepsOrBegan, PlanStands, RowsStand, CheckStands, Stands}
 use Rattle.geoplan.specs.declared.input.Input.{Input}

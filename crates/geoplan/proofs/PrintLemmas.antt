@@ -7,7 +7,8 @@ use Rattle.shelf_io.specs.Faults.{Rose}
 use Rattle.shelf_io.specs.Written.{with_written}
 use Rattle.shelf_io.proofs.WrittenLaws.{with_written-nothing}
 use Rattle.geoplan.specs.Codes.{after_failed_put}
-use Rattle.geoplan.specs.Printing.{SinkState, WritesPrefix, Prints}
+use Rattle.shelf_io.specs.States.{SinkState}
+use Rattle.geoplan.specs.Printing.{WritesPrefix, Prints}
 use Rattle.geoplan.specs.declared.status.Status.{Status}
 use Rattle.geoplan.specs.declared.status.Status.TheVariants as status
 

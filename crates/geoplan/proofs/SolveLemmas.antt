@@ -7,7 +7,7 @@ use Rattle.bound_log.specs.LogText.{log_text}
 use Rattle.bound_log.specs.Tree.{tip, cost}
 use Rattle.branch_bound.specs.declared.search_fault.SearchFault.{SearchFault}
 use Rattle.branch_bound.specs.declared.search_fault.SearchFault.TheVariants as search
-use Rattle.branch_bound.specs.Explored.{ShelfState}
+use Rattle.shelf_io.specs.States.{ShelfState}
 use Rattle.branch_bound.specs.Logged.{Searches, BreaksLog}
 use Rattle.geoplan.specs.Tables.{TablesOf}
 use Rattle.geoplan.specs.Solving.{Solves, HoldsBeginning, FailsSolve}

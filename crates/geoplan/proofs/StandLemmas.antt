@@ -9,7 +9,7 @@ use Rattle.bound_log.specs.declared.bound.Bound.{Bound}
 use Rattle.bound_log.specs.LogText.{log_text}
 use Rattle.bound_log.specs.LogTree.{root_of, bound_at}
 use Rattle.bound_log.specs.Tree.{Tree}
-use Rattle.branch_bound.specs.Explored.{ShelfState}
+use Rattle.shelf_io.specs.States.{ShelfState}
 use Rattle.branch_bound.specs.Searched.{IsAnswer}
 use Rattle.log_check.specs.Replayed.{IsReplayed}
 use Rattle.log_check.specs.FirstFault.{IsFirstFault}

@@ -8,10 +8,10 @@ use Rattle.bound_log.specs.LogText.{log_text}
 use Rattle.bound_log.specs.LogTree.{HasBound}
 use Rattle.bound_log.proofs.SoundLemmas.{HasBound-below}
 use Rattle.bound_log.specs.declared.bound.Bound.TheVariants.{NoPlan, AtLeast}
-use Rattle.branch_bound.specs.Explored.{ShelfState}
+use Rattle.shelf_io.specs.States.{SinkState, ShelfState}
 use Rattle.geoplan.specs.Codes.{code_of}
 use Rattle.geoplan.specs.CommandOf.{SourcesOf, JobOf, plan_command, rows_command, check_command, plain_sources, checked_sources, sources_of, command_of, OnCommand, OnPlan, OnCheck, IfPlan, IfRows, IfCheck}
-use Rattle.geoplan.specs.Printing.{SinkState, WritesAll, Answered, SaysWords, Runs}
+use Rattle.geoplan.specs.Printing.{WritesAll, Answered, SaysWords, Runs}
 use Rattle.geoplan.specs.Promises.{WhereHeld, HoldsPlan, HoldsNone, HoldsUndecided, IsFound, IsNone, IsLeftOpen, AreListed, IsTableRefused, IsUnread, IsTooLong, IsAccepted, IsLogRefused, Says}
 use Rattle.geoplan.specs.Standing.{FindsPlan, FindsNone, LeavesOpen, ListsRows, AcceptsLog, RefusesLog, RefusesTable, FailsToRead, RefusesLength, Stands}
 use Rattle.geoplan.specs.Texts.{words_text}

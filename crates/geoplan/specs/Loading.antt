@@ -2,7 +2,7 @@ use Rattle.std.specs.Prelude.{◌≡◌, ℕ, ◌<◌, ◌≤◌, List, [], leng
 use Rattle.std.specs.Option.{ForSome}
 use Rattle.shelf_io.specs.Files.{Files, bytes_of}
 use Rattle.shelf_io.specs.Faults.{Rose, KeepsFaults, read_of}
-use Rattle.branch_bound.specs.Explored.{ShelfState}
+use Rattle.shelf_io.specs.States.{ShelfState}
 use Rattle.geoplan.specs.CommandOf.{SourcesOf}
 use Rattle.geoplan.specs.Input.{most_log_bytes, input_of, name_of}
 use Rattle.geoplan.specs.Tables.{TablesOf}

@@ -1,7 +1,7 @@
 use Rattle.std.specs.Prelude.{◌≡◌, ◌⊎◌, ℕ, List, ◌++◌, Option}
 use Rattle.shelf_io.specs.Faults.{Rose}
 use Rattle.shelf_io.specs.Written.{with_written}
-use Rattle.branch_bound.specs.Explored.{ShelfState}
+use Rattle.shelf_io.specs.States.{SinkState, ShelfState}
 use Rattle.geoplan.specs.Codes.{after_failed_put}
 use Rattle.geoplan.specs.CommandOf.{command_of, OnCommand}
 use Rattle.geoplan.specs.Reporting.{Ends}
@@ -12,15 +12,6 @@ use Rattle.geoplan.specs.declared.status.Status.TheVariants as status
 use Rattle.std.specs.Prelude.{None}
 
 -- What printing does, and the whole run. This project's own.
-
--- what a contract sees of a sink
-pub record SinkState : Type 0 where
-  pub written : Option (List ℕ)
-  pub faults : ℕ
-
--- the state of a sink, from what its trait shows
-abbrev pub sink_state_of : {S : Type 0} → (S → Option (List ℕ)) → (S → ℕ) → S → SinkState
-sink_state_of written faults sink = record { written = written sink; faults = faults sink }
 
 -- the beginning of a text was written
 pub record WritesPrefix (text : List ℕ) (before now : SinkState) : Type 0 where

@@ -14,12 +14,12 @@ use Rattle.log_check.specs.declared.fault.LogFault.{LogFault}
 use Rattle.log_check.specs.declared.replaying.Replayed.{Replayed}
 use Rattle.log_check.specs.FirstFault.{IsFirstFault}
 use Rattle.log_check.specs.Replayed.{IsReplayed}
-use Rattle.branch_bound.specs.Explored.{ShelfState}
+use Rattle.shelf_io.specs.States.{SinkState, ShelfState}
 use Rattle.branch_bound.specs.Searched.{IsCertified, IsUnsettled, IsFirstOpen}
 use Rattle.geoplan.specs.CommandOf.{SourcesOf, JobOf, CommandOf, plan_command, rows_command, check_command, plain_sources, checked_sources, sources_of, written_by, OnPlan}
 use Rattle.geoplan.specs.Input.{input_of, name_of}
 use Rattle.geoplan.specs.Tables.{TablesOf}
-use Rattle.geoplan.specs.Printing.{SinkState, WritesPrefix, WritesAll}
+use Rattle.geoplan.specs.Printing.{WritesPrefix, WritesAll}
 use Rattle.geoplan.specs.Standing.{AreTables, BeganLog, KeepsOrBegan, IsOfCommand}
 use Rattle.geoplan.specs.Texts.{words_text, cannot_read_text, too_long_text, table_text, tables_plan_text, no_plan_text, tables_undecided_text, tables_rows_text, checked_text, log_fault_text}
 use Rattle.point_tables.specs.declared.fault.TableFault.{TableFault}

@@ -7,7 +7,7 @@ use Rattle.bound_log.specs.LogTree.{root_of, IsAllowed}
 use Rattle.bound_log.specs.Tree.{Tree}
 use Rattle.branch_bound.specs.declared.search_fault.SearchFault.{SearchFault}
 use Rattle.branch_bound.specs.declared.search_fault.SearchFault.TheVariants as search
-use Rattle.branch_bound.specs.Explored.{ShelfState}
+use Rattle.shelf_io.specs.States.{ShelfState}
 use Rattle.branch_bound.specs.Searched.{IsSearched}
 use Rattle.geoplan.specs.Tables.{TablesOf}
 

@@ -1,6 +1,6 @@
 //! The answer of a command, before anything is printed.
 ghost use Rattle.std.specs.Prelude.{◌≡◌, ◌≤◌, length, IfOk, IfErr};
-ghost use Rattle.branch_bound.specs.Explored.{state_of};
+ghost use Rattle.shelf_io.specs.States.{state_of};
 ghost use Rattle.geoplan.specs.CommandOf.{sources_of};
 ghost use Rattle.geoplan.specs.CommandView.{sources_view, job_view, command_view};
 ghost use Rattle.geoplan.specs.Loading.{HasTables};

@@ -1,7 +1,7 @@
 //! Reading the files of a command.
 ghost use Rattle.std.specs.Prelude.{◌≡◌, ◌≤◌, ◌^◌, length, option_map, IfOk, IfErr};
 ghost use Rattle.candidate_tables.specs.Accepted.{AreCandidates};
-ghost use Rattle.branch_bound.specs.Explored.{state_of};
+ghost use Rattle.shelf_io.specs.States.{state_of};
 ghost use Rattle.geoplan.specs.CommandView.{sources_view};
 ghost use Rattle.geoplan.specs.Input.{accepted_input, judged_input};
 ghost use Rattle.geoplan.specs.declared.input.Input.TheVariants as input;

@@ -1,6 +1,6 @@
 //! Searching the network of the tables, and writing its log.
 ghost use Rattle.std.specs.Prelude.{◌≡◌, IfOk, IfErr};
-ghost use Rattle.branch_bound.specs.Explored.{state_of};
+ghost use Rattle.shelf_io.specs.States.{state_of};
 ghost use Rattle.geoplan.specs.Solving.{Solves, FailsSolve};
 
 use crate::tables::Tables;

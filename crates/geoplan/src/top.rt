@@ -2,9 +2,8 @@
 ghost use Rattle.std.specs.Prelude.{◌≡◌, ◌⊎◌, ◌≤◌, Some, None, is_some};
 ghost use Rattle.std.specs.Option.{ForSome};
 ghost use Rattle.shelf_io.specs.Faults.{Rose};
-ghost use Rattle.branch_bound.specs.Explored.{state_of};
+ghost use Rattle.shelf_io.specs.States.{sink_state_of, state_of};
 ghost use Rattle.geoplan.specs.CommandOf.{CommandOf, command_of, sources_of, written_by, OnCommand, OnPlan, IfPlan, IfRows, OnCheck, IfCheck};
-ghost use Rattle.geoplan.specs.Printing.{sink_state_of};
 ghost use Rattle.geoplan.specs.Promises.{WhereHeld, IsStatus, IsFound, IsNone, IsLeftOpen, AreListed, IsTableRefused, IsUnread, IsUnwritten, IsTooLong, IsAccepted, IsLogRefused, OthersStay, RanOut, Says, IsComplete};
 ghost use Rattle.geoplan.specs.Texts.{words_text};
 

@@ -2,6 +2,7 @@ pub mod Files
 pub mod Faults
 pub mod Stored
 pub mod Written
+pub mod States
 pub mod FailingCalls
 pub mod MemShelf
 pub mod MemSink

@@ -1,5 +1,6 @@
 use Rattle.bound_log.specs.LogText.{line_text}
-use Rattle.branch_bound.specs.Explored.{state_of, line_of}
+use Rattle.shelf_io.specs.States.{state_of}
+use Rattle.branch_bound.specs.Explored.{line_of}
 use Rattle.branch_bound.proofs.PieceLemmas.{Breaks-nothing}
 use Rattle.branch_bound.proofs.line.write_line.Goals as goal
 

@@ -1,7 +1,8 @@
 use Rattle.std.proofs.Common.{rules, ◌≡◌, ◌<◌, sym, ◌∙◌, subst, refl, Some}
 use Rattle.geo_model.specs.declared.plan.Node.{Node}
 use Rattle.bound_log.specs.LogTree.{with_chosen, without_chosen, IsOpenAt}
-use Rattle.branch_bound.specs.Explored.{state_of, IsNode}
+use Rattle.shelf_io.specs.States.{state_of}
+use Rattle.branch_bound.specs.Explored.{IsNode}
 use Rattle.branch_bound.specs.Found.{IsKept}
 use Rattle.branch_bound.proofs.ExploreLemmas.{BreaksOff-nothing, BreaksOff-line, BreaksOff-first, BreaksOff-second, Explores-leaf, Explores-split, IsNode-with, IsNode-without, IsNode-same, IsKept-same, IsOpenAt-line, IsKept-line, Adds-line, Counts-line, BreaksOff-same, Explores-same, child_with, child_without, node_back}
 use Rattle.branch_bound.proofs.OpenCount.{open_count, open_count-with, open_count-without}

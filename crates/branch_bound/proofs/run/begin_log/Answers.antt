@@ -1,5 +1,5 @@
 use Rattle.bound_log.specs.LogText.{head_text}
-use Rattle.branch_bound.specs.Explored.{state_of}
+use Rattle.shelf_io.specs.States.{state_of}
 use Rattle.branch_bound.proofs.PieceLemmas.{Breaks-nothing}
 use Rattle.branch_bound.proofs.run.begin_log.Goals as goal
 

@@ -1,4 +1,4 @@
-use Rattle.branch_bound.specs.Explored.{state_of}
+use Rattle.shelf_io.specs.States.{state_of}
 use Rattle.branch_bound.proofs.SearchLemmas.{BreaksLog-nothing, BreaksLog-head, BreaksLog-tree, Searches-done}
 use Rattle.branch_bound.proofs.run.search.Goals as goal
 

@@ -1,4 +1,4 @@
-use Rattle.branch_bound.specs.Explored.{state_of}
+use Rattle.shelf_io.specs.States.{state_of}
 use Rattle.geoplan.specs.CommandView.{job_view}
 use Rattle.geoplan.proofs.StandLemmas.{PlanStands-reported, CanReport-solved}
 use Rattle.geoplan.proofs.answer.answer_plan.Goals as goal

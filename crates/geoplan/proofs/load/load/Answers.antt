@@ -1,4 +1,4 @@
-use Rattle.branch_bound.specs.Explored.{state_of}
+use Rattle.shelf_io.specs.States.{state_of}
 use Rattle.geoplan.specs.CommandView.{sources_view}
 use Rattle.geoplan.proofs.LoadLemmas.{Loads-long_points, Loads-long_candidates, Loads-long_log, Loads-judged}
 use Rattle.geoplan.proofs.load.load.Goals as goal

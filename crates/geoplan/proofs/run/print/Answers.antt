@@ -1,5 +1,5 @@
 use Rattle.std.proofs.Common.{◌≡◌, [], ap, sym, ◌∙◌, Err}
-use Rattle.geoplan.specs.Printing.{sink_state_of}
+use Rattle.shelf_io.specs.States.{sink_state_of}
 use Rattle.geoplan.proofs.PrintLemmas.{no_bytes, Prints-nothing, Prints-failed, Prints-out}
 use Rattle.geoplan.proofs.run.print.Goals as goal
 

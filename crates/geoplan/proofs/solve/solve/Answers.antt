@@ -1,6 +1,6 @@
 use Rattle.std.proofs.Common.{ap, ◌∙◌, Err, refl}
 use Rattle.branch_bound.specs.declared.search_fault.SearchFault.TheVariants as search
-use Rattle.branch_bound.specs.Explored.{state_of}
+use Rattle.shelf_io.specs.States.{state_of}
 use Rattle.geoplan.proofs.SolveLemmas.{Solves-after, FailsSolve-after, FailsSolve-start}
 use Rattle.geoplan.proofs.solve.solve.Goals as goal
 

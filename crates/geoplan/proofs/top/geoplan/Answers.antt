@@ -1,6 +1,5 @@
 use Rattle.std.proofs.Common.{sym, ◌∙◌}
-use Rattle.branch_bound.specs.Explored.{state_of}
-use Rattle.geoplan.specs.Printing.{sink_state_of}
+use Rattle.shelf_io.specs.States.{sink_state_of, state_of}
 use Rattle.geoplan.proofs.FaultLemmas.{unwritten-of, others-of, untouched-of, shelf_told-of, out_told-of}
 use Rattle.geoplan.proofs.MemoryLemmas.{ran_out-of, complete-of, refused-of}
 use Rattle.geoplan.proofs.TopLemmas.{found-of, rows-of, checked-of, log_refused-of, none-of, undecided-of, words-of, refused_table-of, unread-of, too_long-of}
