@@ -29,7 +29,7 @@ pub fn grid_matrices_surround_the_form()
 {}
 
 /// Both grid matrices are triangles of as many rows as there are unknowns. Their entries stay below
-/// 2 ^ 110 in size, and the heads of the upper one at most 2 ^ 60 + 64.
+/// 2 ^ 109 in size, and their heads are at most 2 ^ 60 + 64.
 pub fn grid_matrices_are_small()
     ensures lower_shape { (network : NetworkOf) (plan : List Bool) (alpha : ℤ) (squares : List SquareOf)
         → IsTriangle (length network.unknowns) (lower_grid network plan alpha squares) }
@@ -37,11 +37,14 @@ pub fn grid_matrices_are_small()
         → IsTriangle (length network.unknowns) (upper_grid network plan alpha squares) }
     ensures lower_size { (network : NetworkOf) (plan : List Bool) (alpha : ℤ) (squares : List SquareOf) (i k : ℕ)
         → IsNetwork network → IsLoad (length network.unknowns) network.candidates alpha squares
-        → unsigned_abs (at (row_at (lower_grid network plan alpha squares) i) k) < 2 ^ 110 }
+        → unsigned_abs (at (row_at (lower_grid network plan alpha squares) i) k) < 2 ^ 109 }
     ensures upper_size { (network : NetworkOf) (plan : List Bool) (alpha : ℤ) (squares : List SquareOf) (i k : ℕ)
         → IsNetwork network → IsLoad (length network.unknowns) network.candidates alpha squares
-        → unsigned_abs (at (row_at (upper_grid network plan alpha squares) i) k) < 2 ^ 110 }
-    ensures heads { (network : NetworkOf) (plan : List Bool) (alpha : ℤ) (squares : List SquareOf) (i : ℕ)
+        → unsigned_abs (at (row_at (upper_grid network plan alpha squares) i) k) < 2 ^ 109 }
+    ensures lower_heads { (network : NetworkOf) (plan : List Bool) (alpha : ℤ) (squares : List SquareOf) (i : ℕ)
+        → IsNetwork network → IsLoad (length network.unknowns) network.candidates alpha squares
+        → at (diagonal (lower_grid network plan alpha squares)) i ≤ℤ pos (2 ^ 60 + 64) }
+    ensures upper_heads { (network : NetworkOf) (plan : List Bool) (alpha : ℤ) (squares : List SquareOf) (i : ℕ)
         → IsNetwork network → IsLoad (length network.unknowns) network.candidates alpha squares
         → at (diagonal (upper_grid network plan alpha squares)) i ≤ℤ pos (2 ^ 60 + 64) }
 {}
