@@ -51,7 +51,7 @@ at-scaled_packed sc f (u ∷ us) (suc i) k lt =
     one_more : (i k : ℕ) → suc (i + k) ≡ suc i + k
     one_more i k = omega arith
 
-past-scaled_packed : (sc : ℕ → ℤ) (f : ℕ → ℕ → ℤ) (us : List ℕ) (i k : ℕ) → length us ≤ i + k → at (row_at (scaled (map sc us) (packed f us)) i) k ≡ pos 0
+pub past-scaled_packed : (sc : ℕ → ℤ) (f : ℕ → ℕ → ℤ) (us : List ℕ) (i k : ℕ) → length us ≤ i + k → at (row_at (scaled (map sc us) (packed f us)) i) k ≡ pos 0
 past-scaled_packed sc f [] i k le = refl
 past-scaled_packed sc f (u ∷ us) zero k le = row_past (sc u) sc (f u) (u ∷ us) k (omega arith)
 past-scaled_packed sc f (u ∷ us) (suc i) k le = past-scaled_packed sc f us i k (omega arith)

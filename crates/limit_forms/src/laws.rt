@@ -1,5 +1,5 @@
 //! Laws of the form of a limit and of its grid. Each function is its contract: it does nothing.
-ghost use Rattle.std.specs.Prelude.{◌≡◌, ℕ, ◌+◌, ◌<◌, ◌≤◌, ◌^◌, ℤ, pos, ◌-ℤ◌, ◌*ℤ◌, ◌≤ℤ◌, ◌<ℤ◌, List, Bool, length, map, unsigned_abs};
+ghost use Rattle.std.specs.Prelude.{◌≡◌, ℕ, suc, ◌+◌, ◌<◌, ◌≤◌, ◌^◌, ℤ, pos, ◌-ℤ◌, ◌*ℤ◌, ◌≤ℤ◌, ◌<ℤ◌, List, Bool, length, map, unsigned_abs};
 ghost use Rattle.whole_algebra.specs.Matrices.{at, diagonal, quad, IsTriangle};
 ghost use Rattle.whole_algebra.specs.Chains.{met, refuted, verdict_of};
 ghost use Rattle.whole_algebra.specs.Grid.{times_lists, row_at};
@@ -7,7 +7,7 @@ ghost use Rattle.geo_model.specs.Row.{Displaced};
 ghost use Rattle.geo_model.specs.Energy.{energy};
 ghost use Rattle.geo_model.specs.Limit.{SquareOf, IsLoad, load};
 ghost use Rattle.geo_model.specs.Network.{NetworkOf, IsNetwork};
-ghost use Rattle.limit_forms.specs.Grid.{order_of, scales_of, form_matrix, grid_step, lower_grid, upper_grid};
+ghost use Rattle.limit_forms.specs.Grid.{order_of, scales_of, form_matrix, grid_step, lower_grid, upper_grid, IsLight};
 
 /// The quadratic form of a limit's matrix is the factor times the energy, less the load.
 pub fn form_is_energy_less_load()
@@ -47,6 +47,17 @@ pub fn grid_matrices_are_small()
     ensures upper_heads { (network : NetworkOf) (plan : List Bool) (alpha : ℤ) (squares : List SquareOf) (i : ℕ)
         → IsNetwork network → IsLoad (length network.unknowns) network.candidates alpha squares
         → at (diagonal (upper_grid network plan alpha squares)) i ≤ℤ pos (2 ^ 60 + 64) }
+{}
+
+/// Beside the diagonal the entries of both grid matrices stay below 2 ^ 71 in size, where the load of
+/// the limit is small against the energy of all candidates or has no entry there itself.
+pub fn entries_beside_the_diagonal_are_small()
+    ensures lower { (network : NetworkOf) (plan : List Bool) (alpha : ℤ) (squares : List SquareOf) (i k : ℕ)
+        → IsNetwork network → IsLoad (length network.unknowns) network.candidates alpha squares → IsLight network alpha squares
+        → unsigned_abs (at (row_at (lower_grid network plan alpha squares) i) (suc k)) < 2 ^ 71 }
+    ensures upper { (network : NetworkOf) (plan : List Bool) (alpha : ℤ) (squares : List SquareOf) (i k : ℕ)
+        → IsNetwork network → IsLoad (length network.unknowns) network.candidates alpha squares → IsLight network alpha squares
+        → unsigned_abs (at (row_at (upper_grid network plan alpha squares) i) (suc k)) < 2 ^ 71 }
 {}
 
 /// The verdict on the two grid matrices decides the limit: met, no displacement breaks it; refuted,
