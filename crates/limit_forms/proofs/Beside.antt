@@ -1,5 +1,5 @@
 -- Beside the diagonal the grid matrices of a limit with a light load are small.
-use Rattle.std.proofs.Common.{◌≡◌, ◌≢◌, ℕ, suc, ◌+◌, ◌*◌, ◌^◌, ◌<◌, ◌≤◌, inl, inr, Bool, List, [], ◌∷◌, length, refl, ◌∙◌, ap, arith, ℤ, pos, ◌+ℤ◌, ◌*ℤ◌, neg_ℤ, ◌≤ℤ◌}
+use Rattle.std.proofs.Common.{◌≡◌, ◌≢◌, ℕ, suc, ◌+◌, ◌^◌, ◌<◌, inl, inr, Bool, List, [], ◌∷◌, length, refl, ◌∙◌, ap, arith, ℤ, pos, ◌+ℤ◌, ◌*ℤ◌, neg_ℤ, ◌≤ℤ◌}
 use Rattle.std.specs.Prelude.{unsigned_abs}
 use Rattle.std.proofs.lemmas.Bool.{cases_lt}
 use Rattle.std.proofs.lemmas.Int.{ints}
@@ -14,10 +14,10 @@ use Rattle.whole_algebra.proofs.Normal.{ring, x0, x1, x2, ◌⊗◌}
 use Rattle.geo_model.specs.Limit.{SquareOf, IsLoad}
 use Rattle.geo_model.specs.Network.{NetworkOf, IsNetwork}
 use Rattle.limit_forms.specs.Form.{load_entry, form_of, full_entry}
-use Rattle.limit_forms.specs.Grid.{order_of, scale_of, on_grid, grid_step, lower_grid, upper_grid, IsNear, HasNoneBeside, IsLight}
+use Rattle.limit_forms.specs.Grid.{order_of, scale_of, on_grid, grid_step, lower_grid, upper_grid, IsNear, IsLight}
 use Rattle.limit_forms.proofs.Gram.{pair_within, load_pair}
 use Rattle.limit_forms.proofs.Orders.{length-order_of, order_of-below, order_of-apart}
-use Rattle.limit_forms.proofs.Sizes.{energy_limit, IsWithin, scaled_unknown, grid_number, number_by}
+use Rattle.limit_forms.proofs.Sizes.{energy_limit, IsWithin, scaled_unknown, number_by}
 use Rattle.limit_forms.proofs.GridEntries.{unknown_at, at-on_grid, past-scaled_packed, step_above}
 
 -- the largest scaled entries of a light load
