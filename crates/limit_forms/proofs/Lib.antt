@@ -11,3 +11,4 @@ pub mod GridSteps
 pub mod Shifts
 pub mod GridReads
 pub mod Rows
+pub mod Beside

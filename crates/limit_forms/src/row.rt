@@ -33,7 +33,7 @@ fn grid_entry(
     requires inside { column < length network.now.unknowns }
     ensures floor { result.0 ≡ floor_over grid_step (at (row_at (on_grid network.now normal.now.plan alpha squares.now) row) (column - row)) }
     ensures whole { gap_over grid_step (at (row_at (on_grid network.now normal.now.plan alpha squares.now) row) (column - row)) ≡ (if result.1 then pos 0 else pos 1) }
-    ensures size { unsigned_abs result.0 ≤ 2 ^ 109 }
+    ensures size { unsigned_abs result.0 < 2 ^ 109 }
 {
     let _bounds = network.candidates();
     let first = grid.unknown(row);
