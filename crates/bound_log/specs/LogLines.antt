@@ -1,7 +1,8 @@
 -- What the code's lines stand for, and how they are read word by word. This project's own.
 use Rattle.std.specs.Prelude.{◌≡◌, ℕ, List, ◌++◌, map}
 use Rattle.lent_parts.specs.Pieces.{TokenOf}
-use Rattle.bound_log.specs.Grammar.{HasNumbersBelow, number_bound, line_words}
+use Rattle.bound_log.specs.Grammar.{HasNumbersBelow, number_bound}
+use Rattle.bound_log.specs.LogText.{line_words}
 use Rattle.bound_log.specs.Tree.{LineOf, split, leaf, cost, pivot}
 use Rattle.bound_log.specs.declared.log_line.LogLine.{LogLine}
 use Rattle.bound_log.specs.declared.log_line.LogLine.TheVariants.{Split, Cost, Pivot}

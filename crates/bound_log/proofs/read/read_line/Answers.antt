@@ -1,5 +1,5 @@
 use Rattle.std.proofs.Common.{[], ◌++◌, ap, sym, ◌∙◌, subst}
-use Rattle.bound_log.specs.Grammar.{line_words}
+use Rattle.bound_log.specs.LogText.{line_words}
 use Rattle.bound_log.specs.LogLines.{BeginsWith, line_of, words_of}
 use Rattle.bound_log.proofs.GrammarLemmas.{begins_of_line, line_of_words, more_words, words_of_line}
 use Rattle.bound_log.proofs.read.read_line.Goals as goal
