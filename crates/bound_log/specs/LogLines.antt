@@ -8,10 +8,10 @@ use Rattle.bound_log.specs.declared.log_line.LogLine.{LogLine}
 use Rattle.bound_log.specs.declared.log_line.LogLine.TheVariants.{Split, Cost, Pivot}
 
 -- the line that a value stands for
-abbrev pub line_of : LogLine → LineOf
-line_of (Split candidate) = split candidate
-line_of Cost = leaf cost
-line_of (Pivot limit) = leaf (pivot limit)
+abbrev pub log_line_of : LogLine → LineOf
+log_line_of (Split candidate) = split candidate
+log_line_of Cost = leaf cost
+log_line_of (Pivot limit) = leaf (pivot limit)
 
 -- the texts of tokens
 abbrev pub words_of : List TokenOf → List (List ℕ)

@@ -1,7 +1,7 @@
 //! Counting the lines of a log.
 ghost use Rattle.std.specs.Prelude.{◌≡◌, List, [], ◌∷◌, ◌++◌};
 ghost use Rattle.bound_log.specs.Counted.{counts_of, counts_with};
-ghost use Rattle.bound_log.specs.LogLines.{line_of};
+ghost use Rattle.bound_log.specs.LogLines.{log_line_of};
 ghost use Rattle.bound_log.specs.Tree.{LineOf};
 
 use crate::log_line::LogLine;
@@ -9,7 +9,7 @@ use geo_model::Counts;
 
 /// Counts one more line. A count that has reached 2^64 - 1 stays there.
 pub fn count_line(counts: &mut Counts, line: LogLine)
-    ensures { counts.new ≡ counts_with counts.old (line_of line ∷ []) }
+    ensures { counts.new ≡ counts_with counts.old (log_line_of line ∷ []) }
 {
     let (splits, costs, pivots) = match line {
         LogLine::Split(_) => (1, 0, 0),
