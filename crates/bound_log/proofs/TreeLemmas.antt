@@ -7,8 +7,8 @@ use Rattle.geo_model.specs.Network.{NetworkOf, IsNetwork}
 use Rattle.geo_model.specs.declared.plan.Node.{Node}
 use Rattle.lent_parts.specs.Pieces.{TextLineOf, lines_of}
 use Rattle.bound_log.specs.declared.bound.Bound.{Bound}
-use Rattle.bound_log.specs.Grammar.{number_bound, HasNumbersBelow, IsLine, line_body}
-use Rattle.bound_log.specs.LogText.{head_text, line_text, lines_text, log_text}
+use Rattle.bound_log.specs.Grammar.{number_bound, HasNumbersBelow, IsLine}
+use Rattle.bound_log.specs.LogText.{head_text, line_body, line_text, lines_text, log_text}
 use Rattle.bound_log.specs.LogTree.{root_of, with_chosen, without_chosen, IsAllowed, IsAllowedLine, bound_at, HasBound}
 use Rattle.bound_log.specs.Placed.{placed}
 use Rattle.bound_log.specs.Tree.{LineOf, split, leaf, cost, pivot, Tree, fork, tip, tree_lines}
@@ -21,18 +21,18 @@ first_text [] = []
 first_text (line ∷ rest) = line.text
 
 -- what begins with a line begins with no other, and goes on with one text
-record SameStart (a b : LineOf) (x y : List ℕ) : Type 0 where
-  line : a ≡ b
-  rest : x ≡ y
+pub record SameStart (a b : LineOf) (x y : List ℕ) : Type 0 where
+  pub line : a ≡ b
+  pub rest : x ≡ y
 
-same_start : (a b : LineOf) (x y : List ℕ) → HasNumbersBelow number_bound a → HasNumbersBelow number_bound b → line_text a ++ x ≡ line_text b ++ y → SameStart a b x y
+pub same_start : (a b : LineOf) (x y : List ℕ) → HasNumbersBelow number_bound a → HasNumbersBelow number_bound b → line_text a ++ x ≡ line_text b ++ y → SameStart a b x y
 same_start a b x y small also same =
     let body : line_body a ≡ line_body b = ap first_text (sym (lines_of-line_text a x small) ∙ ap lines_of same ∙ lines_of-line_text b y also) in
     let line : a ≡ b = a_text_is_one (line_body a) a b (IsLine-body a small) (subst (λ text. IsLine text b) (sym body) (IsLine-body b also)) in
     record { line = line; rest = append_cancel_left (line_text a) x y (same ∙ ap (λ l. line_text l ++ y) (sym line)) }
 
 -- a line has at least its LF
-some_text : (line : LineOf) (rest : List ℕ) → [] ≡ line_text line ++ rest → ⊥
+pub some_text : (line : LineOf) (rest : List ℕ) → [] ≡ line_text line ++ rest → ⊥
 some_text (split candidate) rest same = absurd (cc)
 some_text (leaf cost) rest same = absurd (cc)
 some_text (leaf (pivot limit)) rest same = absurd (cc)

@@ -1,7 +1,8 @@
-use Rattle.std.specs.Prelude.{◌≡◌, ℕ, ◌<◌, true, false, List, length, replicate, Some, slice_get, slice_set}
+use Rattle.std.specs.Prelude.{◌≡◌, ℕ, ◌<◌, true, false, List, length, Some, slice_get, slice_set}
 use Rattle.geo_model.specs.Energy.{cost_of}
 use Rattle.geo_model.specs.Limit.{LimitOf, IsInForce}
 use Rattle.geo_model.specs.Network.{NetworkOf}
+use Rattle.geo_model.specs.Nodes.{all_plans}
 use Rattle.geo_model.specs.declared.plan.Node.{Node}
 use Rattle.geo_model.specs.declared.verdict.Verdict.TheVariants.{Refuted}
 use Rattle.pivot_chain.specs.Verdict.{verdict_of}
@@ -16,7 +17,7 @@ use Rattle.bound_log.specs.Tree.{LineOf, split, leaf, Leaf, cost, pivot, Tree, f
 
 -- the node of all plans
 abbrev pub root_of : NetworkOf → Node
-root_of network = record { inside = replicate (length network.candidates) false; upper = replicate (length network.candidates) true }
+root_of network = all_plans (length network.candidates)
 
 -- the child of a split that chooses the candidate
 abbrev pub with_chosen : Node → ℕ → Node

@@ -5,7 +5,7 @@ ghost use Rattle.geo_model.specs.declared.plan.Node.{Node as NodeOf};
 ghost use Rattle.bound_log.specs.declared.bound.Bound.TheVariants.{NoPlan, AtLeast};
 ghost use Rattle.bound_log.specs.Bound.{lesser};
 ghost use Rattle.bound_log.specs.Counted.{counts_of};
-ghost use Rattle.bound_log.specs.LogLines.{line_of};
+ghost use Rattle.bound_log.specs.LogLines.{log_line_of};
 ghost use Rattle.bound_log.specs.LogTree.{IsAllowedLine};
 ghost use Rattle.bound_log.specs.Tree.{split, leaf, cost as cost_leaf, pivot};
 ghost use Rattle.log_check.specs.Places.{IsReady, all_plans};
@@ -53,9 +53,9 @@ impl Progress {
     pub fn take(&mut self, network: &Network, line: LogLine)
         requires ready { IsReady network.now self.old.stack }
         requires some { 0 < length self.old.stack.nodes }
-        requires allowed { (node : NodeOf) (rest : List NodeOf) → self.old.stack.nodes ≡ node ∷ rest → IsAllowedLine network.now node (line_of line) }
+        requires allowed { (node : NodeOf) (rest : List NodeOf) → self.old.stack.nodes ≡ node ∷ rest → IsAllowedLine network.now node (log_line_of line) }
         ensures { (node : NodeOf) (rest : List NodeOf) → self.old.stack.nodes ≡ node ∷ rest →
-            Takes node rest (line_of line) (line_bound network.now node (line_of line)) self.old self.new }
+            Takes node rest (log_line_of line) (line_bound network.now node (log_line_of line)) self.old self.new }
     {
         match line {
             LogLine::Split(candidate) => self.take_split(candidate as u32),

@@ -3,7 +3,7 @@ ghost use Rattle.std.specs.Prelude.{◌≡◌, ◌↔◌, ◌<◌, length, IfSom
 ghost use Rattle.std.specs.Option.{ForSome};
 ghost use Rattle.geo_model.specs.Limit.{IsInForce};
 ghost use Rattle.pivot_chain.specs.Room.{IsRoomOf};
-ghost use Rattle.bound_log.specs.LogLines.{line_of};
+ghost use Rattle.bound_log.specs.LogLines.{log_line_of};
 ghost use Rattle.bound_log.specs.LogTree.{IsAllowedLine, IsOpenAt, IsRefutedBy};
 ghost use Rattle.bound_log.specs.Tree.{split, leaf, pivot};
 ghost use Rattle.log_check.specs.Places.{HasEntries};
@@ -23,8 +23,8 @@ pub fn broken_rule(
 ) -> Option<LogKind>
     requires room { IsRoomOf network.now room.old }
     requires node { HasEntries (length network.now.candidates) node.now }
-    ensures broken { IfSome result (λ kind. IsFirstBroken network.now node.now (line_of line) kind) }
-    ensures allowed { IfNone result (IsAllowedLine network.now node.now (line_of line)) }
+    ensures broken { IfSome result (λ kind. IsFirstBroken network.now node.now (log_line_of line) kind) }
+    ensures allowed { IfNone result (IsAllowedLine network.now node.now (log_line_of line)) }
     ensures kept { IsRoomOf network.now room.new }
 {
     match line {
