@@ -1,7 +1,5 @@
 //! Whether a line is allowed at a node.
-ghost use Rattle.std.specs.Prelude.{◌≡◌, ◌↔◌, ◌<◌, length, IfSome, IfNone, IsTrue};
-ghost use Rattle.std.specs.Option.{ForSome};
-ghost use Rattle.geo_model.specs.Limit.{IsInForce};
+ghost use Rattle.std.specs.Prelude.{length, IfSome, IfNone};
 ghost use Rattle.pivot_chain.specs.Room.{IsRoomOf};
 ghost use Rattle.bound_log.specs.LogLines.{log_line_of};
 ghost use Rattle.bound_log.specs.LogTree.{IsAllowedLine, IsOpenAt, IsRefutedBy};
@@ -11,7 +9,7 @@ ghost use Rattle.log_check.specs.Rules.{IsFirstBroken};
 
 use crate::fault::LogKind;
 use bound_log::LogLine;
-use geo_model::{Limit, Network, Node, Plan, Verdict};
+use geo_model::{Network, Node, Verdict};
 use pivot_chain::{ChainRoom, verdict};
 
 /// The first rule that a line breaks at a node; `None` where it is allowed there. It takes no memory.
@@ -72,22 +70,11 @@ fn broken_by_pivot(
         return Some(LogKind::Range);
     }
     let limit = &limits[number as usize];
-    if !is_in_force(limit, &node.inside) {
+    if !limit.is_in_force(&node.inside) {
         return Some(LogKind::Owner);
     }
     if verdict(room, network, &node.upper, number as u32) != Verdict::Refuted {
         return Some(LogKind::NotRefuted);
     }
     None
-}
-
-// Whether a limit is in force for a plan: it has no owner, or its owner is chosen.
-fn is_in_force(limit: &Limit, plan: &Plan) -> bool
-    requires { ForSome limit.now.owner (λ owner. owner < length plan.now) }
-    ensures { IsTrue result ↔ IsInForce limit.now plan.now }
-{
-    match limit.owner {
-        None => true,
-        Some(owner) => plan.has(owner),
-    }
 }
