@@ -10,9 +10,10 @@ use Rattle.std.proofs.Math.Seq.{take-length}
 use Rattle.geo_model.specs.declared.plan.Node.{Node}
 use Rattle.geo_model.specs.Network.{NetworkOf}
 use Rattle.geo_model.specs.Nodes.{all_plans}
-use Rattle.bound_log.specs.LogTree.{with_chosen, without_chosen, IsOpenAt, IsAllowedLine}
+use Rattle.bound_log.specs.LogTree.{with_chosen, without_chosen, IsAllowedLine}
 use Rattle.bound_log.specs.OpenCount.{open_count}
 use Rattle.bound_log.specs.Tree.{LineOf, split, leaf}
+use Rattle.bound_log.proofs.AllowedLemmas.{split_open}
 use Rattle.bound_log.proofs.OpenLemmas.{open_count-root, open_count-with, open_count-without, open_below}
 use Rattle.bound_log.proofs.SoundLemmas.{at_place}
 use Rattle.log_check.specs.Places.{OpenOf, HasEntries, ArePlaces, HasRoom, IsReady}
@@ -133,8 +134,8 @@ places_split count places now node spare spare_now free candidate are before her
 room_after : (network : NetworkOf) (count : ℕ) (node : Node) (rest : List Node) (line : LineOf) → HasRoom count (node ∷ rest) → IsAllowedLine network node line → HasRoom count (opened node line ++ rest)
 room_after network count node rest (split candidate) room allowed = (
   with_long count node candidate room.0,
-  omega (arith, room.1, open_count-with node.inside node.upper candidate allowed.in_upper allowed.not_inside),
-  (without_long count node candidate room.0, omega (arith, room.1, open_count-without node.inside node.upper candidate allowed.in_upper allowed.not_inside), room.2),
+  omega (arith, room.1, open_count-with node.inside node.upper candidate allowed.is_open.0 allowed.is_open.1),
+  (without_long count node candidate room.0, omega (arith, room.1, open_count-without node.inside node.upper candidate allowed.is_open.0 allowed.is_open.1), room.2),
 )
 room_after network count node rest (leaf end) room allowed = room.2
 
@@ -157,10 +158,10 @@ pub record SplitFits (network : NetworkOf) (stack : OpenOf) (candidate : ℕ) : 
   pub within : candidate < stack.candidates
   pub small : candidate < 256
 
-pub split_fits : (network : NetworkOf) (stack : OpenOf) (candidate : ℕ) → IsReady network stack → 0 < length stack.nodes → ((node : Node) (rest : List Node) → stack.nodes ≡ node ∷ rest → IsOpenAt network node candidate) → SplitFits network stack candidate
+pub split_fits : (network : NetworkOf) (stack : OpenOf) (candidate : ℕ) → IsReady network stack → 0 < length stack.nodes → ((node : Node) (rest : List Node) → stack.nodes ≡ node ∷ rest → IsAllowedLine network node (split candidate)) → SplitFits network stack candidate
 split_fits network stack candidate ready some allowed =
     let top = head_tail stack.nodes some in
-    let here = allowed top.first top.rest top.is in
+    let here = split_open network top.first candidate (allowed top.first top.rest top.is) in
     let room : HasRoom (length network.candidates) (top.first ∷ top.rest) = subst (HasRoom (length network.candidates)) top.is ready.room in
     let one : 0 < open_count top.first.inside top.first.upper = open_below top.first.inside top.first.upper candidate here.in_upper here.not_inside in
     let long : length stack.nodes ≡ length (top.first ∷ top.rest) = ap length top.is in

@@ -2,7 +2,7 @@
 ghost use Rattle.std.specs.Prelude.{length, IfSome, IfNone};
 ghost use Rattle.pivot_chain.specs.Room.{IsRoomOf};
 ghost use Rattle.bound_log.specs.LogLines.{log_line_of};
-ghost use Rattle.bound_log.specs.LogTree.{IsAllowedLine, IsOpenAt, IsRefutedBy};
+ghost use Rattle.bound_log.specs.LogTree.{IsAllowedLine};
 ghost use Rattle.bound_log.specs.Tree.{split, leaf, pivot};
 ghost use Rattle.log_check.specs.Places.{HasEntries};
 ghost use Rattle.log_check.specs.Rules.{IsFirstBroken};
@@ -36,7 +36,7 @@ pub fn broken_rule(
 fn broken_by_split(network: &Network, node: &Node, candidate: u64) -> Option<LogKind>
     requires { HasEntries (length network.now.candidates) node.now }
     ensures broken { IfSome result (λ kind. IsFirstBroken network.now node.now (split candidate) kind) }
-    ensures allowed { IfNone result (IsOpenAt network.now node.now candidate) }
+    ensures allowed { IfNone result (IsAllowedLine network.now node.now (split candidate)) }
 {
     let candidates = network.candidates();
     if candidate >= candidates.len() as u64 {
@@ -62,7 +62,7 @@ fn broken_by_pivot(
     requires room { IsRoomOf network.now room.old }
     requires node { HasEntries (length network.now.candidates) node.now }
     ensures broken { IfSome result (λ kind. IsFirstBroken network.now node.now (leaf (pivot number)) kind) }
-    ensures allowed { IfNone result (IsRefutedBy network.now node.now number) }
+    ensures allowed { IfNone result (IsAllowedLine network.now node.now (leaf (pivot number))) }
     ensures kept { IsRoomOf network.now room.new }
 {
     let limits = network.limits();
