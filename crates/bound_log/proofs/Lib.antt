@@ -1,3 +1,4 @@
+pub mod AllowedLemmas
 pub mod BoundLemmas
 pub mod CountLemmas
 pub mod GrammarLemmas
