@@ -3,6 +3,5 @@ pub mod NodeLemmas
 pub mod VerdictLemmas
 pub mod DoneLemmas
 pub mod Drafts
-pub mod OpenCount
 pub mod ExploreLemmas
 pub mod SearchLemmas
