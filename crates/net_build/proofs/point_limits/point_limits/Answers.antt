@@ -1,7 +1,6 @@
-use Rattle.std.proofs.Common.{◌∙◌, ◌++◌, ◌≤◌, [], List, ap, arith, length}
+use Rattle.std.proofs.Common.{◌∙◌, ◌≤◌, [], List, ap, arith, length}
 use Rattle.std.specs.List.{enumerate_from, flat_map}
 use Rattle.std.proofs.lemmas.List.{take_all}
-use Rattle.geo_model.specs.Limit.{LimitOf}
 use Rattle.point_tables.specs.declared.record.PointRecord.{PointRecord}
 use Rattle.point_tables.specs.Accepted.{IsAccepted}
 use Rattle.design_rows.proofs.NumberingFacts.{mapped-more}
@@ -13,7 +12,7 @@ pub points-preserved : goal.points-preserved
 points-preserved c = record {
   limits =
       mapped-more (limits_of_point c.args.columns.now) [] c.points.limits.items c.push_limits.new.limits.items c.args.points.now c.points.place c.get.result.now
-          c.get.ensures.value c.points.invariant.limits c.in_ok-push_limits.ensures;
+      c.get.ensures.value c.points.invariant.limits c.in_ok-push_limits.ensures;
   accepted = All-one IsAccepted c.args.points.now c.points.place c.get.result.now c.get.ensures.value c.points.invariant.accepted c.get.ensures.accepted;
 }
 

@@ -3,7 +3,6 @@ use Rattle.std.specs.List.{enumerate_from, flat_map}
 use Rattle.std.proofs.lemmas.List.{take_all}
 use Rattle.std.proofs.lemmas.Option.{slice_get-get_or}
 use Rattle.geo_model.specs.Candidate.{CandidateOf}
-use Rattle.geo_model.specs.Limit.{LimitOf}
 use Rattle.net_build.specs.Build.{limits_of_candidate, redundancy_limits}
 use Rattle.design_rows.proofs.NumberingFacts.{mapped-more}
 use Rattle.net_build.proofs.redundancy.push_redundancies.Goals as goal
