@@ -1,7 +1,8 @@
 //! The line between two points, and the coefficients that its parts give.
 ghost use Rattle.std.specs.Prelude.{◌≡◌, ◌<◌, ◌≤◌, ◌^◌, length, unsigned_abs};
 ghost use Rattle.candidate_tables.specs.Lines.{length_squared, x_at, y_at};
-ghost use Rattle.design_rows.specs.Equations.{by_x, by_y, cosine, sine, x_part, y_part};
+ghost use Rattle.coefficient_round.specs.Coefficient.{radian, scale};
+ghost use Rattle.design_rows.specs.Equations.{cosine, p_coefficient, q_coefficient, sine, x_part, y_part};
 
 use coefficient_round::{dir_coef, dist_coef};
 use point_tables::Points;
@@ -54,8 +55,8 @@ pub(crate) fn distance_parts(points: &Points, from: u32, to: u32) -> LineParts
     requires most { length_squared points.now from to ≤ 10 ^ 16 }
     ensures x { result.x ≡ cosine points.now from to }
     ensures y { result.y ≡ sine points.now from to }
-    ensures x_size { unsigned_abs result.x ≤ 10000 }
-    ensures y_size { unsigned_abs result.y ≤ 10000 }
+    ensures x_size { unsigned_abs result.x ≤ scale }
+    ensures y_size { unsigned_abs result.y ≤ scale }
 {
     let line = line_between(points, from, to);
     LineParts {
@@ -64,16 +65,17 @@ pub(crate) fn distance_parts(points: &Points, from: u32, to: u32) -> LineParts
     }
 }
 
-// 10000 times the change of the bearing in cc by a millimetre, from each part of the line.
+// 10000 times the change of the bearing in cc by a millimetre: that by y, from the part along x,
+// and that by x, from the part along y.
 pub(crate) fn direction_parts(points: &Points, from: u32, to: u32) -> LineParts
     requires from { from < length points.now }
     requires to { to < length points.now }
     requires least { 10 ^ 8 ≤ length_squared points.now from to }
     requires most { length_squared points.now from to ≤ 10 ^ 16 }
-    ensures x { result.x ≡ by_x points.now from to }
-    ensures y { result.y ≡ by_y points.now from to }
-    ensures x_size { unsigned_abs result.x ≤ 636620 }
-    ensures y_size { unsigned_abs result.y ≤ 636620 }
+    ensures x { result.x ≡ q_coefficient points.now from to }
+    ensures y { result.y ≡ p_coefficient points.now from to }
+    ensures x_size { unsigned_abs result.x ≤ radian }
+    ensures y_size { unsigned_abs result.y ≤ radian }
 {
     let line = line_between(points, from, to);
     LineParts {
