@@ -1,9 +1,10 @@
 -- Lists and matrices place by place, and what keeps a triangle a triangle.
-use Rattle.std.proofs.Common.{◌≡◌, ℕ, zero, suc, ◌≤◌, List, [], ◌∷◌, map, length, refl, sym, ◌∙◌, ap, ap₂, arith, ℤ, pos, ◌+ℤ◌, ◌-ℤ◌, ◌*ℤ◌, neg_ℤ, ◌≤ℤ◌}
+use Rattle.std.proofs.Common.{◌≡◌, ℕ, zero, suc, ◌+◌, ◌<◌, ◌≤◌, List, [], ◌∷◌, map, length, refl, sym, ◌∙◌, ap, ap₂, arith, ℤ, pos, ◌+ℤ◌, ◌-ℤ◌, ◌*ℤ◌, neg_ℤ, ◌≤ℤ◌}
 use Rattle.std.proofs.lemmas.Int.{ints}
 use Rattle.whole_algebra.specs.Sums.{int_sum, dot}
 use Rattle.whole_algebra.specs.Rounding.{floor_over, gap_over}
 use Rattle.whole_algebra.specs.Matrices.{at, plus_lists, scale, row_quad, quad, entries, schur, diagonal, off_sums, plus_diagonal, slacks, lower_over, upper_over, IsTriangle, padded}
+use Rattle.whole_algebra.specs.Grid.{row_at}
 use Rattle.whole_algebra.proofs.Ring.{add_zero, zero_add, mul_zero}
 use Rattle.whole_algebra.proofs.SumLaws.{dot-nil}
 use Rattle.whole_algebra.proofs.FormLaws.{quad-nil}
@@ -66,6 +67,19 @@ length-triangle zero [] t = refl
 length-triangle zero (row ∷ rest) t = absurd t
 length-triangle (suc n) [] t = absurd t
 length-triangle (suc n) (row ∷ rest) t = ap suc (length-triangle n rest t.1)
+
+pub length-row_at : (n : ℕ) (m : List (List ℤ)) (k : ℕ) → IsTriangle n m → k < n → length (row_at m k) + k ≡ n
+length-row_at zero m k t lt = absurd (omega arith)
+length-row_at (suc n) [] k t lt = absurd t
+length-row_at (suc n) (row ∷ rest) zero t lt = let e = t.0 in omega arith
+length-row_at (suc n) (row ∷ rest) (suc k) t lt = let e = length-row_at n rest k t.1 (omega arith) in omega arith
+
+-- no row stands past the last one
+pub row_at-past : (n : ℕ) (m : List (List ℤ)) (k : ℕ) → IsTriangle n m → n ≤ k → row_at m k ≡ []
+row_at-past n [] k t le = refl
+row_at-past zero (row ∷ rest) k t le = absurd t
+row_at-past (suc n) (row ∷ rest) zero t le = absurd (omega arith)
+row_at-past (suc n) (row ∷ rest) (suc k) t le = row_at-past n rest k t.1 (omega arith)
 
 pub triangle-entries : (f : ℤ → ℤ) (n : ℕ) (m : List (List ℤ)) → IsTriangle n m → IsTriangle n (entries f m)
 triangle-entries f zero [] t = tt
