@@ -3,6 +3,7 @@ use Rattle.std.proofs.Common.{◌≡◌, ℕ, zero, suc, ◌+◌, ◌^◌, ◌<�
 use Rattle.std.specs.Prelude.{unsigned_abs}
 use Rattle.std.proofs.lemmas.Bool.{cases_lt}
 use Rattle.std.proofs.lemmas.Int.{ints}
+use Rattle.std.proofs.lemmas.List.{length-map}
 use Rattle.whole_algebra.specs.Rounding.{floor_over, gap_over, ceil_over}
 use Rattle.whole_algebra.specs.Matrices.{at, scale, diagonal, slacks, lower_over, upper_over, IsTriangle}
 use Rattle.whole_algebra.specs.Grid.{times_lists, scaled, packed, row_at}
@@ -66,11 +67,7 @@ pub on_grid-triangle : (network : NetworkOf) (plan : List Bool) (alpha : ℤ) (s
 on_grid-triangle network plan alpha squares =
     let order = order_of (length network.unknowns) squares in
     subst (λ n. IsTriangle n (on_grid network plan alpha squares)) (length-order_of (length network.unknowns) squares)
-    (triangle-scaled (length order) (scales_of network alpha squares) (form_matrix network plan alpha squares) (length-map (scale_of network.candidates alpha) order) (triangle-packed (form_of network.candidates plan alpha squares) order))
-  where
-    length-map : (g : ℕ → ℤ) (vs : List ℕ) → length (map g vs) ≡ length vs
-    length-map g [] = refl
-    length-map g (v ∷ vs) = ap suc (length-map g vs)
+    (triangle-scaled (length order) (scales_of network alpha squares) (form_matrix network plan alpha squares) (length-map order (scale_of network.candidates alpha)) (triangle-packed (form_of network.candidates plan alpha squares) order))
 
 pub on_grid-within : (network : NetworkOf) (plan : List Bool) (alpha : ℤ) (squares : List SquareOf) (i k : ℕ) → IsNetwork network → IsLoad (length network.unknowns) network.candidates alpha squares
     → IsWithin form_limit (at (row_at (on_grid network plan alpha squares) i) k)
