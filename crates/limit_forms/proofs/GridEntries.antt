@@ -1,17 +1,16 @@
 -- The grid matrices entry by entry: their shape, sizes and heads.
-use Rattle.std.proofs.Common.{◌≡◌, ℕ, zero, suc, ◌+◌, ◌-◌, ◌^◌, ◌<◌, ◌≤◌, inl, inr, Bool, List, [], ◌∷◌, length, map, get_or, refl, ◌∙◌, ap, subst, arith, ℤ, pos, ◌+ℤ◌, ◌-ℤ◌, ◌*ℤ◌, neg_ℤ, ◌≤ℤ◌, ◌<ℤ◌}
+use Rattle.std.proofs.Common.{◌≡◌, ℕ, zero, suc, ◌+◌, ◌^◌, ◌<◌, ◌≤◌, inl, inr, Bool, List, [], ◌∷◌, length, map, get_or, refl, ◌∙◌, ap, subst, arith, ℤ, pos, ◌+ℤ◌, ◌-ℤ◌, ◌*ℤ◌, neg_ℤ, ◌≤ℤ◌, ◌<ℤ◌}
 use Rattle.std.specs.Prelude.{unsigned_abs}
 use Rattle.std.proofs.lemmas.Bool.{cases_lt}
 use Rattle.std.proofs.lemmas.Int.{ints}
-use Rattle.whole_algebra.specs.Sums.{int_sum}
+use Rattle.std.proofs.lemmas.List.{length-map}
 use Rattle.whole_algebra.specs.Rounding.{floor_over, gap_over, ceil_over}
-use Rattle.whole_algebra.specs.Matrices.{at, scale, entries, diagonal, slacks, lower_over, upper_over, IsTriangle}
-use Rattle.whole_algebra.specs.Chains.{beside}
-use Rattle.whole_algebra.specs.Grid.{times_lists, scaled, packed, row_at, entry, above}
-use Rattle.whole_algebra.proofs.Order.{le_refl, add_nonneg}
-use Rattle.whole_algebra.proofs.Rounding.{floor_at_least, floor_at_most, ceil_at_most, gap_range, gap_of_zero}
+use Rattle.whole_algebra.specs.Matrices.{at, scale, diagonal, slacks, lower_over, upper_over, IsTriangle}
+use Rattle.whole_algebra.specs.Grid.{times_lists, scaled, packed, row_at}
+use Rattle.whole_algebra.proofs.Rounding.{floor_at_least, floor_at_most, ceil_at_most, gap_range}
 use Rattle.whole_algebra.proofs.Shapes.{at-off_sums_at_most, triangle-lower_over, triangle-upper_over}
-use Rattle.whole_algebra.proofs.Places.{at-diagonal, row_at-entries, at-row_at-entries, lower_over-right, upper_over-right, lower_over-diagonal, upper_over-diagonal, at-off_sums}
+use Rattle.whole_algebra.proofs.Places.{at-diagonal, lower_over-right, upper_over-right, lower_over-diagonal, upper_over-diagonal}
+use Rattle.whole_algebra.proofs.DiagonalLaws.{slack_nonneg}
 use Rattle.whole_algebra.proofs.GridLaws.{triangle-packed, triangle-scaled}
 use Rattle.geo_model.specs.Limit.{SquareOf, IsLoad}
 use Rattle.geo_model.specs.Network.{NetworkOf, IsNetwork}
@@ -68,11 +67,7 @@ pub on_grid-triangle : (network : NetworkOf) (plan : List Bool) (alpha : ℤ) (s
 on_grid-triangle network plan alpha squares =
     let order = order_of (length network.unknowns) squares in
     subst (λ n. IsTriangle n (on_grid network plan alpha squares)) (length-order_of (length network.unknowns) squares)
-    (triangle-scaled (length order) (scales_of network alpha squares) (form_matrix network plan alpha squares) (length-map (scale_of network.candidates alpha) order) (triangle-packed (form_of network.candidates plan alpha squares) order))
-  where
-    length-map : (g : ℕ → ℤ) (vs : List ℕ) → length (map g vs) ≡ length vs
-    length-map g [] = refl
-    length-map g (v ∷ vs) = ap suc (length-map g vs)
+    (triangle-scaled (length order) (scales_of network alpha squares) (form_matrix network plan alpha squares) (length-map order (scale_of network.candidates alpha)) (triangle-packed (form_of network.candidates plan alpha squares) order))
 
 pub on_grid-within : (network : NetworkOf) (plan : List Bool) (alpha : ℤ) (squares : List SquareOf) (i k : ℕ) → IsNetwork network → IsLoad (length network.unknowns) network.candidates alpha squares
     → IsWithin form_limit (at (row_at (on_grid network plan alpha squares) i) k)
@@ -124,29 +119,11 @@ floor_within z w =
       high = floor_at_most grid_step z entry_limit step_above (omega (arith, ints));
     }
 
-int_sum-gaps : (row : List ℤ) → pos 0 ≤ℤ int_sum (map (gap_over grid_step) row)
-int_sum-gaps [] = le_refl (pos 0)
-int_sum-gaps (z ∷ row) = add_nonneg (gap_over grid_step z) (int_sum (map (gap_over grid_step) row)) (gap_range grid_step z).0 (int_sum-gaps row)
-
-beside-gaps : (row : List ℤ) → pos 0 ≤ℤ int_sum (beside (map (gap_over grid_step) row))
-beside-gaps [] = le_refl (pos 0)
-beside-gaps (z ∷ row) = int_sum-gaps row
-
-above-gaps : (m : List (List ℤ)) (j k : ℕ) → pos 0 ≤ℤ above (entries (gap_over grid_step) m) j k
-above-gaps m j zero = le_refl (pos 0)
-above-gaps m j (suc k) =
-    let e = at-row_at-entries (gap_over grid_step) (gap_of_zero grid_step step_above) m k (j - k) in
-    let g = (gap_range grid_step (at (row_at m k) (j - k))).0 in
-    add_nonneg (above (entries (gap_over grid_step) m) j k) (entry (entries (gap_over grid_step) m) k j) (above-gaps m j k) (rw e g)
-
 -- a row's slack
 pub slack_range : (n : ℕ) (m : List (List ℤ)) (i : ℕ) → IsTriangle n m → n ≤ 64 → (pos 0 ≤ℤ at (slacks grid_step m) i) × (at (slacks grid_step m) i ≤ℤ pos 64)
 slack_range n m i t le =
-    let e = at-off_sums (entries (gap_over grid_step) m) i in
-    let right : pos 0 ≤ℤ int_sum (beside (row_at (entries (gap_over grid_step) m) i)) = rw (row_at-entries (gap_over grid_step) m i) (beside-gaps (row_at m i)) in
-    let left = above-gaps m i i in
     let most = at-off_sums_at_most (gap_over grid_step) (λ z. (gap_range grid_step z).1) n m i t in
-    (omega (arith, ints), omega (arith, ints))
+    (slack_nonneg grid_step m i step_above, omega (arith, ints))
 
 -- numbers of at most that size and a slack are small
 small : (z : ℤ) → neg_ℤ (pos (2 ^ 108 + 2 ^ 60 + 64)) ≤ℤ z → z ≤ℤ pos (2 ^ 108 + 2 ^ 60 + 65) → unsigned_abs z < 2 ^ 109

@@ -12,3 +12,4 @@ pub mod Shifts
 pub mod GridReads
 pub mod Rows
 pub mod Beside
+pub mod GridRows

@@ -1,6 +1,6 @@
 -- The whole-number grid on which the form of a limit is judged: an order of the unknowns, an exponent for each, and the
 -- two matrices that the form is rounded to, one from below and one from above. This project's own.
-use Rattle.std.specs.Prelude.{◌≡◌, ◌≢◌, ◌==◌, ℕ, ◌<◌, ◌≤◌, ◌^◌, ◌⊎◌, ℤ, pos, ◌-ℤ◌, ◌*ℤ◌, ◌≤ℤ◌, Bool, List, length, map, ◌++◌, unsigned_abs, not, All, if◌then◌else◌}
+use Rattle.std.specs.Prelude.{◌≡◌, ◌≢◌, ◌==◌, ℕ, ◌<◌, ◌≤◌, ◌^◌, ◌⊎◌, ℤ, pos, ◌-ℤ◌, ◌*ℤ◌, ◌≤ℤ◌, Bool, List, length, map, ◌++◌, unsigned_abs, not, All, if◌then◌else◌, Some, slice_get}
 use Rattle.std.specs.List.{list_any, filter, range_with_len}
 use Rattle.geo_base.specs.Grid.{exponent_of}
 use Rattle.whole_algebra.specs.Matrices.{lower_over, upper_over}
@@ -10,7 +10,7 @@ use Rattle.geo_model.specs.Candidate.{CandidateOf}
 use Rattle.geo_model.specs.Energy.{full_energy}
 use Rattle.geo_model.specs.Limit.{SquareOf, load}
 use Rattle.geo_model.specs.Network.{NetworkOf}
-use Rattle.normal_matrix.specs.Entries.{HasEachOnce}
+use Rattle.normal_matrix.specs.Entries.{normal_entry, HasEachOnce}
 use Rattle.limit_forms.specs.Form.{load_entry, form_of, full_entry}
 
 -- whether an unknown occurs in the squares
@@ -95,3 +95,11 @@ HasNoneBeside squares = (i j : ℕ) → i ≢ j → load_entry squares i j ≡ p
 -- one of the two
 abbrev pub IsLight : NetworkOf → ℤ → List SquareOf → Type 0
 IsLight network alpha squares = IsNear network alpha squares ⊎ HasNoneBeside squares
+
+-- ---- two plans whose first rows agree
+
+-- the normal matrices of two plans have the same entries in the rows of the unknowns at the first places, so many of them
+abbrev pub AgreeOnFirst : ℕ → NetworkOf → List Bool → List Bool → List SquareOf → Type 0
+AgreeOnFirst count network plan other squares =
+    (place unknown j : ℕ) → place < count → slice_get (order_of (length network.unknowns) squares) place ≡ Some unknown →
+    normal_entry network.candidates plan unknown j ≡ normal_entry network.candidates other unknown j
