@@ -11,7 +11,7 @@ use Rattle.pivot_chain.proofs.Verdicts.{refuted_fails}
 use Rattle.bound_log.specs.declared.bound.Bound.{Bound}
 use Rattle.bound_log.specs.declared.bound.Bound.TheVariants.{NoPlan, AtLeast}
 use Rattle.bound_log.specs.Bound.{lesser, IsAtMost}
-use Rattle.bound_log.specs.LogTree.{root_of, with_chosen, without_chosen, IsAllowed, bound_at, HasBound}
+use Rattle.bound_log.specs.LogTree.{root_of, with_chosen, without_chosen, IsAllowed, leaf_bound, bound_at, HasBound}
 use Rattle.bound_log.specs.Sound.{IsLowerBound}
 use Rattle.bound_log.specs.Tree.{cost, pivot, Tree, fork, tip}
 use Rattle.bound_log.proofs.AllowedLemmas.{pivot_refuted}
@@ -65,6 +65,7 @@ each_named_meets network number limit plan all named =
 
 -- each plan between the inner and the upper plan of a node that meets the limits costs at least the bound
 pub bound_at-below : (network : NetworkOf) (node : Node) (tree : Tree) → IsNetwork network → IsAllowed network node tree → (plan : List Bool) → IsWithin node.inside plan → IsWithin plan node.upper → MeetsLimits network plan → IsAtMost (bound_at network node tree) (cost_of network.candidates plan)
+unfolding leaf_bound
 bound_at-below network node (tip cost) bounds allowed plan above below meets = cost_of-grows network.candidates node.inside plan above
 bound_at-below network node (tip (pivot number)) bounds allowed plan above below meets =
     let by = pivot_refuted network node number allowed in

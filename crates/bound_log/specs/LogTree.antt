@@ -83,7 +83,7 @@ IsAllowed network node (fork candidate with_it without_it) =
     IsAllowed network (without_chosen node candidate) without_it
 
 -- the bound of a leaf at a node: the price of the inner plan, or that no plan is left
-abbrev pub leaf_bound : NetworkOf → Node → Leaf → Bound
+unfoldable pub leaf_bound : NetworkOf → Node → Leaf → Bound
 leaf_bound network node cost = AtLeast (cost_of network.candidates node.inside)
 leaf_bound network node (pivot limit) = NoPlan
 

@@ -9,7 +9,7 @@ use Rattle.bound_log.specs.declared.log_line.LogLine.TheVariants.{Split, Cost, P
 use Rattle.bound_log.specs.Bound.{lesser}
 use Rattle.bound_log.specs.Counted.{counts_with}
 use Rattle.bound_log.specs.LogLines.{log_line_of}
-use Rattle.bound_log.specs.LogTree.{with_chosen, without_chosen}
+use Rattle.bound_log.specs.LogTree.{with_chosen, without_chosen, leaf_bound}
 use Rattle.bound_log.proofs.BoundLemmas.{lesser_none}
 use Rattle.log_check.specs.declared.progress.Progress.{Progress}
 use Rattle.log_check.specs.Places.{OpenOf}
@@ -30,6 +30,7 @@ split_taken network node rest line candidate before now is stack bound counts =
     })
 
 pub pivot_taken : (network : NetworkOf) (node : Node) (rest : List Node) (line : LogLine) (limit : ℕ) (before now : Progress) → line ≡ Pivot limit → now.stack ≡ record { candidates = before.stack.candidates; nodes = rest } → now.bound ≡ before.bound → now.counts ≡ counts_with before.counts (log_line_of line ∷ []) → TakesLine network node rest line before now
+unfolding leaf_bound
 pivot_taken network node rest line limit before now is stack bound counts =
     subst (λ (l : LogLine). TakesLine network node rest l before now) (sym is)
     (record {
@@ -39,6 +40,7 @@ pivot_taken network node rest line limit before now is stack bound counts =
     })
 
 pub cost_taken : (network : NetworkOf) (node : Node) (rest : List Node) (line : LogLine) (before counted now : Progress) → line ≡ Cost → counted.stack ≡ before.stack → counted.bound ≡ before.bound → counted.counts ≡ counts_with before.counts (log_line_of line ∷ []) → EndsAt rest (AtLeast (cost_of network.candidates node.inside)) counted now → TakesLine network node rest line before now
+unfolding leaf_bound
 cost_taken network node rest line before counted now is stack bound counts ends =
     let made : ℕ → OpenOf = λ (count : ℕ). record { candidates = count; nodes = rest } in
     subst (λ (l : LogLine). TakesLine network node rest l before now) (sym is)

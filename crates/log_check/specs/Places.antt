@@ -1,4 +1,4 @@
--- The places of open nodes. This project's own layout.
+-- The places of open nodes. This project's own; it serves the proof of the replay, and no public clause cites it.
 use Rattle.std.specs.Prelude.{◌≡◌, ℕ, ◌+◌, ◌≤◌, List, [], ◌∷◌, length, All}
 use Rattle.geo_model.specs.Network.{NetworkOf}
 use Rattle.geo_model.specs.declared.plan.Node.{Node}

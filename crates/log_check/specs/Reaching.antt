@@ -1,4 +1,5 @@
--- How far the text of a log has been replayed. This project's own.
+-- How far the text of a log has been replayed. This project's own; it serves the proof of the replay, and no public
+-- clause cites it.
 use Rattle.std.specs.Prelude.{◌≡◌, ℕ, ◌+◌, true, List, [], ◌++◌, length}
 use Rattle.lent_parts.specs.Pieces.{TextLineOf, lines_of}
 use Rattle.geo_model.specs.Network.{NetworkOf}

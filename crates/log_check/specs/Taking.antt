@@ -1,4 +1,5 @@
--- What a line does to what the replay keeps, and how it can stop it. This project's own.
+-- What a line does to what the replay keeps, and how it can stop it. This project's own; it serves the proof of the
+-- replay, and no public clause cites it.
 use Rattle.std.specs.Prelude.{◌≡◌, ℕ, Bool, true, List, [], ◌∷◌, ◌++◌}
 use Rattle.geo_model.specs.Network.{NetworkOf}
 use Rattle.geo_model.specs.declared.plan.Node.{Node}
