@@ -2,6 +2,6 @@ pub mod PieceLemmas
 pub mod NodeLemmas
 pub mod VerdictLemmas
 pub mod DoneLemmas
-pub mod Drafts
+pub mod HeightNetworks
 pub mod ExploreLemmas
 pub mod SearchLemmas

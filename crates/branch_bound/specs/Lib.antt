@@ -2,4 +2,3 @@ pub mod Searched
 pub mod Found
 pub mod Explored
 pub mod Logged
-pub mod Drafts

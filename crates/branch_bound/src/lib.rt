@@ -17,6 +17,4 @@ pub use run::search;
 pub use search_fault::SearchFault;
 
 #[cfg(test)]
-mod draft;
-#[cfg(test)]
 mod tests;
