@@ -1,6 +1,6 @@
 -- The place of a name among names that differ.
 use Rattle.std.proofs.Common.{◌≡◌, ◌≢◌, ◌∙◌, ◌<◌, ◌≤◌, ℕ, zero, suc, Bool, true, false, List, [], ◌∷◌, Option, Some, None, length, map, refl, ap, arith, get_or, position, Vec, Global, slice_get, cond}
-use Rattle.std.specs.Prelude.{◌||◌, is_some, nat_lt}
+use Rattle.std.specs.Prelude.{◌||◌, is_some, nat_lt, pos, unwrap_or}
 use Rattle.std.specs.List.{AllByRecursion, IsDistinct, list_any, position_or_len, prefix_len}
 use Rattle.std.specs.Str.{bytes_eq}
 use Rattle.std.proofs.lemmas.Bool.Decides.{nat_tests}
@@ -10,6 +10,8 @@ use Rattle.std.proofs.lemmas.List.Quantifiers.{position-Some}
 use Rattle.std.proofs.lemmas.List.Sums.{fails_before_first}
 use Rattle.std.proofs.lemmas.Option.{slice_get-get_or, slice_get_within, get_or_from_slice_get}
 use Rattle.std.proofs.lemmas.Slice.Eq.{bytes_eq-Decides}
+use Rattle.point_tables.specs.declared.record.PointRecord.{PointRecord}
+use Rattle.point_tables.specs.Coordinates.{x_at, y_at}
 use Rattle.point_tables.specs.Names.{is_among, place_of}
 
 -- the name at a place that was found
@@ -118,3 +120,13 @@ pub distinct-keys : (keys : List (Vec ℕ Global)) → IsDistinct (λ (x y : Vec
 unfolding IsDistinct
 distinct-keys [] apart = apart
 distinct-keys (x ∷ keys) apart = (apart-keys x.items keys apart.0, distinct-keys keys apart.1)
+
+-- ---- the coordinates of the point at a place
+
+pub x-at : (points : List PointRecord) (place : ℕ) (point : PointRecord) → slice_get points place ≡ Some point → unwrap_or point.x (pos 0) ≡ x_at points place
+unfolding x_at
+x-at points place point e = rw e refl
+
+pub y-at : (points : List PointRecord) (place : ℕ) (point : PointRecord) → slice_get points place ≡ Some point → unwrap_or point.y (pos 0) ≡ y_at points place
+unfolding y_at
+y-at points place point e = rw e refl
