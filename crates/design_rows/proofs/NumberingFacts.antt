@@ -51,14 +51,3 @@ pub any-more : {A : Type 0} (test : A → Bool) (xs : List A) (k : ℕ) (x : A) 
 any-more test xs k x at none fails =
     ap (list_any test) (take-one xs k x at) ∙ list_any-append test (take k xs) (x ∷ [])
     ∙ or-false (list_any test (take k xs)) (test x || false) none (or-false (test x) false fails refl)
-
-or-right : (a b : Bool) → b ≡ true → (a || b) ≡ true
-or-right true b e = refl
-or-right false b e = e
-
-pub any-at : {A : Type 0} (test : A → Bool) (xs : List A) (k : ℕ) (x : A) → slice_get xs k ≡ Some x → test x ≡ true → list_any test xs ≡ true
-any-at test [] k x at passes = cc at
-any-at test (y ∷ xs) zero x at passes =
-    let same : y ≡ x = cc at in
-    rw (same, passes) refl
-any-at test (y ∷ xs) (suc k) x at passes = or-right (test y) (list_any test xs) (any-at test xs k x at passes)

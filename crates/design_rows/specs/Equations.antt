@@ -9,7 +9,7 @@ use Rattle.point_tables.specs.declared.record.PointRecord.{PointRecord}
 use Rattle.candidate_tables.specs.declared.kind.Kind.{Kind}
 use Rattle.candidate_tables.specs.declared.kind.Kind.TheVariants as kind
 use Rattle.candidate_tables.specs.declared.record.CandidateRecord.{CandidateRecord}
-use Rattle.candidate_tables.specs.Lines.{x_at, y_at}
+use Rattle.point_tables.specs.Coordinates.{x_at, y_at}
 use Rattle.design_rows.specs.declared.term.Term.{Term}
 use Rattle.design_rows.specs.Unknowns.{unknown}
 

@@ -1,6 +1,6 @@
 //! The line between two points, and the coefficients that its parts give.
 ghost use Rattle.std.specs.Prelude.{◌≡◌, ◌<◌, ◌≤◌, ◌^◌, length, unsigned_abs};
-ghost use Rattle.candidate_tables.specs.Lines.{length_squared, x_at, y_at};
+ghost use Rattle.candidate_tables.specs.Lines.{length_squared};
 ghost use Rattle.coefficient_round.specs.Coefficient.{radian, scale};
 ghost use Rattle.design_rows.specs.Equations.{cosine, p_coefficient, q_coefficient, sine, x_part, y_part};
 
@@ -14,24 +14,6 @@ pub(crate) struct LineParts {
     pub(crate) y: i64,
 }
 
-// The coordinate x of a point in millimetres, and 0 where it has none.
-fn x_of(points: &Points, place: u32) -> i64
-    requires { place < length points.now }
-    ensures value { result ≡ x_at points.now place }
-    ensures size { unsigned_abs result ≤ 10 ^ 11 }
-{
-    points.get(place).x.unwrap_or(0)
-}
-
-// The coordinate y of a point in millimetres, and 0 where it has none.
-fn y_of(points: &Points, place: u32) -> i64
-    requires { place < length points.now }
-    ensures value { result ≡ y_at points.now place }
-    ensures size { unsigned_abs result ≤ 10 ^ 11 }
-{
-    points.get(place).y.unwrap_or(0)
-}
-
 // The parts of the line between two points, in millimetres.
 fn line_between(points: &Points, from: u32, to: u32) -> LineParts
     requires from { from < length points.now }
@@ -42,8 +24,8 @@ fn line_between(points: &Points, from: u32, to: u32) -> LineParts
     ensures y_size { unsigned_abs result.y < 2 ^ 62 }
 {
     LineParts {
-        x: x_of(points, to) - x_of(points, from),
-        y: y_of(points, to) - y_of(points, from),
+        x: points.x(to) - points.x(from),
+        y: points.y(to) - points.y(from),
     }
 }
 

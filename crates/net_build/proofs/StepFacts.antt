@@ -15,11 +15,14 @@ use Rattle.design_rows.proofs.NumberingFacts.{numbered-more}
 use Rattle.net_build.specs.Build.{row_count}
 
 -- what one more numbered element adds to a list of all that they give
-pub numbered-one : {X Y : Type 0} (f : ℕ × X → Y) (before : List Y) (xs : List X) (k : ℕ) (x : X) → slice_get xs k ≡ Some x
-    → (before ++ map f (enumerate_from 0 (take k xs))) ++ f (k, x) ∷ [] ≡ before ++ map f (enumerate_from 0 (take (k + 1) xs))
-numbered-one f before xs k x at =
-    append_assoc before (map f (enumerate_from 0 (take k xs))) (f (k, x) ∷ [])
-    ∙ ap (λ l. before ++ l) (sym (ap (map f) (numbered-more xs k x at) ∙ map-append f (enumerate_from 0 (take k xs)) ((k, x) ∷ [])))
+pub numbered-one : {X Y : Type 0} (f : ℕ × X → Y) (start before after : List Y) (xs : List X) (k : ℕ) (x : X) (y : Y) → slice_get xs k ≡ Some x
+    → before ≡ start ++ map f (enumerate_from 0 (take k xs)) → after ≡ before ++ y ∷ [] → y ≡ f (k, x)
+    → after ≡ start ++ map f (enumerate_from 0 (take (k + 1) xs))
+numbered-one f start before after xs k x y at is next here =
+    next
+    ∙ ap₂ (λ l z. l ++ z ∷ []) is here
+    ∙ append_assoc start (map f (enumerate_from 0 (take k xs))) (f (k, x) ∷ [])
+    ∙ ap (λ l. start ++ l) (sym (ap (map f) (numbered-more xs k x at) ∙ map-append f (enumerate_from 0 (take k xs)) ((k, x) ∷ [])))
 
 pub map-one : {X Y : Type 0} (f : X → Y) (xs : List X) (k : ℕ) (x : X) → slice_get xs k ≡ Some x → map f (take k xs) ++ f x ∷ [] ≡ map f (take (k + 1) xs)
 map-one f xs k x at = sym (ap (map f) (take-one xs k x at) ∙ map-append f (take k xs) (x ∷ []))

@@ -1,5 +1,5 @@
 -- The first broken rule, and the faults of records read one after the other.
-use Rattle.std.proofs.Common.{◌≡◌, ◌+◌, ◌∙◌, ℕ, suc, Bool, true, false, List, [], ◌∷◌, ◌++◌, Some, None, length, refl, sym, ap, arith, append_assoc, filter, map}
+use Rattle.std.proofs.Common.{◌≡◌, ◌+◌, ◌∙◌, ℕ, suc, Bool, true, false, List, [], ◌∷◌, ◌++◌, Option, Some, None, length, refl, sym, ap, arith, append_assoc, filter, map}
 use Rattle.std.specs.Prelude.{if◌then◌else◌, slice_get}
 use Rattle.std.specs.Option.{option_or}
 use Rattle.std.proofs.Math.Seq.{append_snoc}
@@ -33,6 +33,23 @@ first_broken-left front back kind e = first_broken-append front back ∙ rw e re
 
 pub first_broken-right : {K : Type 0} (front back : List (Rule K)) → first_broken front ≡ None → first_broken (front ++ back) ≡ first_broken back
 first_broken-right front back e = first_broken-append front back ∙ rw e refl
+
+-- of two lists of rules neither breaks one
+or-none : {K : Type 0} (a b : Option K) → option_or a b ≡ None → (a ≡ None) × (b ≡ None)
+or-none None b e = (refl, e)
+or-none (Some x) b e = absurd (cc e)
+
+pub both-kept : {K : Type 0} (front back : List (Rule K)) → first_broken (front ++ back) ≡ None → (first_broken front ≡ None) × (first_broken back ≡ None)
+both-kept front back e = or-none (first_broken front) (first_broken back) (sym (first_broken-append front back) ∙ e)
+
+-- neither the first rule nor one of the others
+pub each-kept : {K : Type 0} (rule : Rule K) (rules : List (Rule K)) → first_broken (rule ∷ rules) ≡ None → (rule.broken ≡ false) × (first_broken rules ≡ None)
+unfolding first_broken
+each-kept rule rules e = by rule.broken e
+  where
+    by : (t : Bool) → (if t then Some rule.kind else first_broken rules) ≡ None → (t ≡ false) × (first_broken rules ≡ None)
+    by true f = absurd (cc f)
+    by false f = (refl, f)
 
 -- a record that breaks no rule has no fault
 pub faults_at-none : {K : Type 0} (number : ℕ) (rules : List (Rule K)) → first_broken rules ≡ None → faults_at number rules ≡ []
