@@ -35,7 +35,7 @@ difference-fits a b first second =
     fits_signed_from_abs w64 (a -ℤ b) size
 
 pub difference-is : (a b : ℤ) → unsigned_abs a ≤ 10 ^ 11 → unsigned_abs b ≤ 10 ^ 11
-    → unsigned_abs (to_z w64 (of_z w64 (to_z w64 (of_z w64 a) -ℤ to_z w64 (of_z w64 b)))) ≡ unsigned_abs (a -ℤ b)
+    → to_z w64 (of_z w64 (to_z w64 (of_z w64 a) -ℤ to_z w64 (of_z w64 b))) ≡ a -ℤ b
 difference-is a b first second =
     rw (to_z-of_z w64 a (small a first), to_z-of_z w64 b (small b second), to_z-of_z w64 (a -ℤ b) (difference-fits a b first second)) refl
 
