@@ -2,8 +2,8 @@ use Rattle.std.proofs.Common.{◌^◌, ◌<◌, arith, unsigned_abs, FitsSigned}
 use Rattle.std.specs.Int.{w128}
 use Rattle.std.proofs.lemmas.Int.{to_z-of_z}
 use Rattle.whole_algebra.proofs.Refutation.{false_is_not_true}
-use Rattle.pivot_chain.proofs.Stops.{too_large, small_test}
-use Rattle.pivot_chain.proofs.stop.is_small.Goals as goal
+use Rattle.psd_cert.proofs.RowLaws.{too_large, small_test}
+use Rattle.psd_cert.proofs.first_row.is_small.Goals as goal
 
 pub returns-then-unsigned_abs : goal.returns-then-unsigned_abs
 returns-then-unsigned_abs c =

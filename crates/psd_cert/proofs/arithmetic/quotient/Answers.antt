@@ -3,7 +3,7 @@ use Rattle.std.specs.Int.{w128}
 use Rattle.std.proofs.lemmas.Int.{to_z-of_z}
 use Rattle.whole_algebra.specs.Rounding.{floor_over}
 use Rattle.geo_base.specs.Division.{floor_of}
-use Rattle.pivot_chain.proofs.quotient.quotient.Goals as goal
+use Rattle.psd_cert.proofs.arithmetic.quotient.Goals as goal
 
 pub gap_of-requires-clause-floor : goal.gap_of-requires-clause-floor
 unfolding floor_of

@@ -1,10 +1,11 @@
 ghost use Rattle.std.specs.Prelude.{◌↔◌, IsTrue};
-ghost use Rattle.psd_cert.specs.Limit.{RowFits, Fits};
+ghost use Rattle.psd_cert.specs.Sizes.{RowFits, Fits};
 
 use lent_parts::Tri;
 
-/// The greatest size of an entry, `2^61`.
-pub(crate) const LIMIT: u128 = 0x2000_0000_0000_0000;
+/// The greatest size of a pivot, and of what it divides, `2^61`: products of two such numbers, and
+/// sums of those over a row, stay in 128 bits.
+pub const PIVOT_SIZE: i128 = 0x2000_0000_0000_0000;
 
 /// Whether all entries are at most `2^61` in size.
 pub fn fits(first: &Tri) -> bool
@@ -22,5 +23,5 @@ pub fn fits(first: &Tri) -> bool
 fn row_fits(row: &[i128]) -> bool
     ensures { IsTrue result ↔ RowFits row.now }
 {
-    row.iter().all(|z| z.unsigned_abs() <= LIMIT)
+    row.iter().all(|z| z.unsigned_abs() <= PIVOT_SIZE as u128)
 }

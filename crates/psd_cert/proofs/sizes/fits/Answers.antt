@@ -1,8 +1,8 @@
 use Rattle.std.proofs.Common.{[], arith}
 use Rattle.std.proofs.lemmas.List.Elements.{All-from_get_or}
-use Rattle.psd_cert.specs.Limit.{RowFits}
+use Rattle.psd_cert.specs.Sizes.{RowFits}
 use Rattle.psd_cert.proofs.Decided.{decided_true}
-use Rattle.psd_cert.proofs.limit.fits.Goals as goal
+use Rattle.psd_cert.proofs.sizes.fits.Goals as goal
 
 pub returns : goal.returns
 returns c =

@@ -2,8 +2,8 @@ use Rattle.std.proofs.Common.{◌*ℤ◌, sym, ap, FitsSigned, to_z, of_z}
 use Rattle.std.specs.Int.{w128}
 use Rattle.std.proofs.lemmas.Int.{to_z-of_z}
 use Rattle.psd_cert.proofs.Products.{in_range}
-use Rattle.pivot_chain.proofs.Gaps.{product_near, near_size, whole_gap, some_gap}
-use Rattle.pivot_chain.proofs.quotient.gap_of.Goals as goal
+use Rattle.psd_cert.proofs.Quotients.{product_near, near_size, whole_gap, some_gap}
+use Rattle.psd_cert.proofs.arithmetic.gap_of.Goals as goal
 
 pub overflow_mul-floor : goal.overflow_mul-floor
 overflow_mul-floor c =

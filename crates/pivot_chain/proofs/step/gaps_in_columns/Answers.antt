@@ -3,8 +3,9 @@ use Rattle.std.specs.Int.{w128}
 use Rattle.std.proofs.lemmas.Int.{to_z-of_z}
 use Rattle.psd_cert.proofs.Products.{in_range}
 use Rattle.pivot_chain.specs.Step.{gap_at}
-use Rattle.pivot_chain.proofs.Gaps.{one_more, added_low, added_high, added_size, gap_size}
-use Rattle.pivot_chain.proofs.step.gaps.Goals as goal
+use Rattle.psd_cert.proofs.Quotients.{gap_size}
+use Rattle.pivot_chain.proofs.Gaps.{one_more, added_low, added_high, added_size}
+use Rattle.pivot_chain.proofs.step.gaps_in_columns.Goals as goal
 
 pub loop-i-preserved : goal.loop-i-preserved
 loop-i-preserved c =

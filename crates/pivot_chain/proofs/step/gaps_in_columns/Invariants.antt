@@ -1,6 +1,6 @@
 use Rattle.std.proofs.Common.{◌≡◌, pos, ◌≤ℤ◌}
 use Rattle.pivot_chain.specs.Step.{gap_at, sum_from}
-use Rattle.pivot_chain.proofs.step.gaps.Given as goal
+use Rattle.pivot_chain.proofs.step.gaps_in_columns.Given as goal
 
 abbrev pub invariant-loop-i : goal.invariant-loop-i
 invariant-loop-i l = record {

@@ -2,7 +2,7 @@ use Rattle.std.proofs.Common.{◌*ℤ◌, ◌^◌, arith, refl, FitsSigned}
 use Rattle.std.specs.Int.{w128}
 use Rattle.std.proofs.lemmas.Int.{to_z-of_z, fits_signed_mul}
 use Rattle.psd_cert.proofs.Products.{product_size}
-use Rattle.psd_cert.proofs.product.product.Goals as goal
+use Rattle.psd_cert.proofs.arithmetic.product.Goals as goal
 
 pub returns-clause-value : goal.returns-clause-value
 returns-clause-value c =

@@ -1,7 +1,7 @@
 use Rattle.std.proofs.Common.{◌≡◌, take, map, pos, neg_ℤ, ◌*ℤ◌, ◌≤ℤ◌}
 use Rattle.whole_algebra.specs.Sums.{int_sum}
 use Rattle.whole_algebra.specs.Rounding.{gap_over}
-use Rattle.psd_cert.proofs.lower.gaps.Given as goal
+use Rattle.psd_cert.proofs.lower.gaps_over.Given as goal
 
 abbrev pub invariant-loop-c : goal.invariant-loop-c
 invariant-loop-c l =

@@ -1,11 +1,31 @@
-//! Quotients of products, rounded down, and whether they are whole.
-ghost use Rattle.std.specs.Prelude.{◌≡◌, ◌≤◌, ◌^◌, ℤ, pos, neg_ℤ, ◌*ℤ◌, ◌≤ℤ◌, ◌<ℤ◌, unsigned_abs};
+//! Products of numbers of at most `PIVOT_SIZE` in size, and their quotients, rounded down.
+ghost use Rattle.std.specs.Prelude.{◌≡◌, ◌≤◌, ◌^◌, pos, neg_ℤ, ◌*ℤ◌, ◌≤ℤ◌, ◌<ℤ◌, unsigned_abs};
 ghost use Rattle.whole_algebra.specs.Rounding.{floor_over, gap_over};
 
 use geo_base::floor_div;
 
+/// The product of two numbers of at most `2^62` in size.
+pub fn product(p: i128, q: i128) -> i128
+    requires p { unsigned_abs p ≤ 2 ^ 62 }
+    requires q { unsigned_abs q ≤ 2 ^ 62 }
+    ensures value { result ≡ p *ℤ q }
+    ensures size { unsigned_abs result ≤ 2 ^ 124 }
+{
+    p * q
+}
+
+/// `- p q`, for numbers of at most `2^61` in size.
+pub fn minus_product(p: i128, q: i128) -> i128
+    requires p { unsigned_abs p ≤ 2 ^ 61 }
+    requires q { unsigned_abs q ≤ 2 ^ 61 }
+    ensures value { result ≡ neg_ℤ (p *ℤ q) }
+    ensures size { unsigned_abs result ≤ 2 ^ 124 }
+{
+    0 - product(p, q)
+}
+
 /// `- p q / a` rounded down, and 1 where it isn't whole, else 0.
-pub(crate) fn quotient(a: i128, p: i128, q: i128) -> (i128, i128)
+pub fn quotient(a: i128, p: i128, q: i128) -> (i128, i128)
     requires above { pos 0 <ℤ a }
     requires a { unsigned_abs a ≤ 2 ^ 61 }
     requires p { unsigned_abs p ≤ 2 ^ 61 }
@@ -22,26 +42,6 @@ pub(crate) fn quotient(a: i128, p: i128, q: i128) -> (i128, i128)
     }
     let floor = floor_div(number, a);
     (floor, gap_of(number, a, floor))
-}
-
-// `- p q`, for numbers of at most `2^61` in size.
-fn minus_product(p: i128, q: i128) -> i128
-    requires p { unsigned_abs p ≤ 2 ^ 61 }
-    requires q { unsigned_abs q ≤ 2 ^ 61 }
-    ensures value { result ≡ neg_ℤ (p *ℤ q) }
-    ensures size { unsigned_abs result ≤ 2 ^ 124 }
-{
-    0 - product(p, q)
-}
-
-// The product of two numbers of at most `2^62` in size.
-pub(crate) fn product(p: i128, q: i128) -> i128
-    requires p { unsigned_abs p ≤ 2 ^ 62 }
-    requires q { unsigned_abs q ≤ 2 ^ 62 }
-    ensures value { result ≡ p *ℤ q }
-    ensures size { unsigned_abs result ≤ 2 ^ 124 }
-{
-    p * q
 }
 
 // 1 where `number / a`, with the floor that was found, isn't whole, else 0.
