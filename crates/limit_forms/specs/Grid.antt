@@ -8,9 +8,10 @@ use Rattle.whole_algebra.specs.Grid.{scaled, packed}
 use Rattle.geo_model.specs.Row.{Entries, unit_at}
 use Rattle.geo_model.specs.Candidate.{CandidateOf}
 use Rattle.geo_model.specs.Energy.{full_energy}
-use Rattle.geo_model.specs.Limit.{SquareOf, load}
+use Rattle.geo_model.specs.Limit.{SquareOf, IsLoad, load}
 use Rattle.geo_model.specs.Network.{NetworkOf}
 use Rattle.normal_matrix.specs.Entries.{normal_entry, HasEachOnce}
+use Rattle.normal_matrix.specs.Normal.{NormalOf, IsNormalOf}
 use Rattle.limit_forms.specs.Form.{load_entry, form_of, full_entry}
 
 -- whether an unknown occurs in the squares
@@ -72,6 +73,13 @@ lower_grid network plan alpha squares = lower_over grid_step (on_grid network pl
 
 unfoldable pub upper_grid : NetworkOf → List Bool → ℤ → List SquareOf → List (List ℤ)
 upper_grid network plan alpha squares = upper_over grid_step (on_grid network plan alpha squares)
+
+-- what the rows of both grid matrices are made of: the normal matrix of a plan, and the grid, the factor and the squares
+-- of a limit
+pub record IsFormOnGrid (network : NetworkOf) (normal : NormalOf) (grid : GridOf) (alpha : ℤ) (squares : List SquareOf) : Type 0 where
+  pub normal_made : IsNormalOf network normal
+  pub load : IsLoad (length network.unknowns) network.candidates alpha squares
+  pub grid_made : grid ≡ grid_of network alpha squares
 
 -- a grid of at most 64 unknowns: each stands at one place, and has an exponent
 pub record IsGrid (grid : GridOf) : Type 0 where
