@@ -1,7 +1,10 @@
-ghost use Rattle.std.specs.Prelude.{◌≡◌, true, false, IfOk, MatchOption};
+ghost use Rattle.std.specs.Prelude.{◌≡◌, ℕ, List, true, false, IfOk, MatchOption};
 ghost use Rattle.std.specs.List.{list_all};
-ghost use Rattle.point_tables.specs.Names.{is_name, is_name_byte};
+ghost use Rattle.point_tables.specs.Columns.{Reads, name_rules};
+ghost use Rattle.point_tables.specs.Names.{is_name, is_name_byte, place_of};
+ghost use Rattle.point_tables.specs.Read.{IsNewName};
 
+use crate::fault::FaultKind;
 use geo_base::NoMemory;
 use std::alloc::Global;
 use std::marker::Model;
@@ -23,8 +26,9 @@ impl Model for Name {
 }
 
 impl Name {
-    /// A name of this text.
+    /// A name of this text, which is one (`name_text`, `new_name`).
     pub fn new(alloc: Global, text: &str) -> Result<Name, NoMemory>
+        requires { is_name text.now ≡ true }
         ensures { IfOk result (λ name. name ≡ text.now) }
     {
         let text = String::from_str(alloc, text)?;
@@ -65,5 +69,21 @@ pub fn name_text(bytes: &[u8]) -> Option<&str>
     match str::from_utf8(bytes) {
         Ok(text) => Some(text),
         Err(_) => None,
+    }
+}
+
+/// The text of a new name: `found` is where an earlier record of the table has it. `Name` where the
+/// bytes are no name, `Twice` where an earlier record has it.
+pub fn new_name(bytes: &[u8], found: Option<u32>) -> Result<&str, FaultKind>
+    ensures { (names : List (List ℕ)) → found ≡ place_of bytes.now names → Reads (name_rules bytes.now names) (λ name. IsNewName bytes.now names name.now) result }
+{
+    match name_text(bytes) {
+        None => Err(FaultKind::Name),
+        Some(name) => {
+            if found.is_some() {
+                return Err(FaultKind::Twice);
+            }
+            Ok(name)
+        }
     }
 }
