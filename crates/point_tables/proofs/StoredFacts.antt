@@ -43,13 +43,13 @@ not-stored {R} text (entry ∷ entries) e = by (bytes_eq text entry.0.items) e (
     by false f more = more f
 
 module _ {R : Type 0} (name : R → List ℕ) (most : ℕ) (entries : List (Vec ℕ Global × R)) where
-  pub other-key : (text : List ℕ) → AreStored name most entries → is_among text (map name (values_of entries)) ≡ false
+  other-key : (text : List ℕ) → AreStored name most entries → is_among text (map name (values_of entries)) ≡ false
       → lookup (λ (key : Vec ℕ Global). bytes_eq text key.items) entries ≡ None
   unfolding is_among
   other-key text stored other = not-stored text entries (ap (list_any (bytes_eq text)) stored.named ∙ other)
 
   -- one more record
-  pub stored-push : (more : List (Vec ℕ Global × R)) (key : Vec ℕ Global) (added : R) → AreStored name most entries → length entries < most
+  stored-push : (more : List (Vec ℕ Global × R)) (key : Vec ℕ Global) (added : R) → AreStored name most entries → length entries < most
       → key.items ≡ name added → more ≡ entries ++ (key, added) ∷ [] → AreStored name most more
   stored-push more key added stored few same e = rw e record {
     named =
@@ -62,12 +62,24 @@ module _ {R : Type 0} (name : R → List ℕ) (most : ℕ) (entries : List (Vec 
   }
 
   -- as many records are stored as are seen
-  pub few-stored : (records : List R) → values_of entries ≡ records → length records < most → length entries < most
+  few-stored : (records : List R) → values_of entries ≡ records → length records < most → length entries < most
   few-stored records e few = omega (arith, few, ap length e, length-map entries (λ (x : Vec ℕ Global × R). x.1))
 
-  pub values-push : (more : List (Vec ℕ Global × R)) (key : Vec ℕ Global) (added : R) → more ≡ entries ++ (key, added) ∷ []
+  values-push : (more : List (Vec ℕ Global × R)) (key : Vec ℕ Global) (added : R) → more ≡ entries ++ (key, added) ∷ []
       → values_of more ≡ values_of entries ++ added ∷ []
   values-push more key added e = ap values_of e ∙ map-append (λ (x : Vec ℕ Global × R). x.1) entries ((key, added) ∷ [])
+
+  -- one more record of another name
+  pub stored-more : (more : List (Vec ℕ Global × R)) (records : List R) (key : Vec ℕ Global) (added : R) → AreStored name most entries → values_of entries ≡ records
+      → length records < most → is_among (name added) (map name records) ≡ false → key.items ≡ name added
+      → (lookup (λ (k : Vec ℕ Global). bytes_eq key.items k.items) entries ≡ None → more ≡ entries ++ (key, added) ∷ [])
+      → AreStored name most more × (values_of more ≡ records ++ added ∷ [])
+  stored-more more records key added stored view few other same put =
+      let none : lookup (λ (k : Vec ℕ Global). bytes_eq key.items k.items) entries ≡ None = rw same (other-key (name added) stored (rw view other)) in
+      let e = put none in (
+        stored-push more key added stored (few-stored records view few) same e,
+        values-push more key added e ∙ ap (λ (xs : List R). xs ++ added ∷ []) view,
+      )
 
   -- a name is looked up among the keys as among the names of the records
   place-stored : (text : List ℕ) → AreStored name most entries
