@@ -26,7 +26,7 @@ impl Model for Name {
 }
 
 impl Name {
-    /// A name of this text, which is one (`name_text`, `new_name`).
+    /// A name of this text, which is one (`new_name`).
     pub fn new(alloc: Global, text: &str) -> Result<Name, NoMemory>
         requires { is_name text.now ≡ true }
         ensures { IfOk result (λ name. name ≡ text.now) }
@@ -57,10 +57,9 @@ fn has_name_bytes(text: &[u8]) -> bool
     text.iter().all(|byte| is_name_byte(*byte))
 }
 
-/// The text of a name: 1 to 32 bytes of UTF-8 without a comma, a double quote, a byte below 20
-/// hexadecimal or the byte 7F. None where the bytes are no name.
+// The text of a name. None where the bytes are no name.
 #[tactic(auto, using(crate::proofs::NameFacts::name_tests))]
-pub fn name_text(bytes: &[u8]) -> Option<&str>
+fn name_text(bytes: &[u8]) -> Option<&str>
     ensures { MatchOption result (is_name bytes.now ≡ false) (λ text. (is_name bytes.now ≡ true) × (text.now ≡ bytes.now)) }
 {
     if bytes.is_empty() || bytes.len() > 32 || !has_name_bytes(bytes) {
@@ -72,8 +71,9 @@ pub fn name_text(bytes: &[u8]) -> Option<&str>
     }
 }
 
-/// The text of a new name: `found` is where an earlier record of the table has it. `Name` where the
-/// bytes are no name, `Twice` where an earlier record has it.
+/// The text of a new name: 1 to 32 bytes of UTF-8 without a comma, a double quote, a byte below 20
+/// hexadecimal or the byte 7F. `found` is the place of the earlier record that has it, if one has.
+/// `Name` where the bytes are no name, `Twice` where an earlier record has the name.
 pub fn new_name(bytes: &[u8], found: Option<u32>) -> Result<&str, FaultKind>
     ensures { (names : List (List ℕ)) → found ≡ place_of bytes.now names → Reads (name_rules bytes.now names) (λ name. IsNewName bytes.now names name.now) result }
 {
