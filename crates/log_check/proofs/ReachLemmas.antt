@@ -203,6 +203,3 @@ number_small network text walk progress number reached =
     let all = length-append head_text (lines_text reached.lines ++ reached.left) in
     let part = length-append (lines_text reached.lines) reached.left in
     omega (arith, lines_short reached.lines, reached.numbered)
-
-pub stands_start : (network : NetworkOf) (progress : Progress) → progress.stack.nodes ≡ root_of network ∷ [] → progress.bound ≡ bound_along network (root_of network ∷ []) [] → progress.counts ≡ counts_of [] → StandsAt network [] progress.stack.nodes progress.bound progress.counts
-stands_start network progress nodes bound counts = record { leads = sym nodes; least = bound; counted = counts }
