@@ -11,7 +11,7 @@ use Rattle.bound_log.specs.Counted.{counts_with}
 use Rattle.bound_log.proofs.CountLemmas.{counts_with-then}
 use Rattle.geo_model.proofs.PlanLemmas.{IsWithin-with, IsWithin-without, IsWithin-none}
 use Rattle.bound_log.specs.LogText.{line_text, lines_text}
-use Rattle.bound_log.specs.LogTree.{root_of, IsOpenAt, with_chosen, without_chosen, bound_at}
+use Rattle.bound_log.specs.LogTree.{root_of, IsOpenAt, IsRefutedBy, with_chosen, without_chosen, bound_at}
 use Rattle.bound_log.specs.Tree.{split, leaf, Leaf, cost, pivot, Tree, fork, tip, tree_lines}
 use Rattle.branch_bound.specs.declared.best.Best.{Best}
 use Rattle.branch_bound.specs.declared.line.Line.{Line}
@@ -162,6 +162,9 @@ IsOpenAt-line network node best best_now found candidate is here = (subst (λ (l
 
 pub IsKept-line : (network : NetworkOf) (node : Node) (best best_now : Best) (found : Line) (candidate : ℕ) → found ≡ line.Split candidate → IsLineAt network node best best_now found → best_now ≡ best
 IsKept-line network node best best_now found candidate is here = (subst (λ (l : Line). IsLineAt network node best best_now l) is here).1
+
+pub unrefuted-line : (network : NetworkOf) (node : Node) (best best_now : Best) (found : Line) (candidate : ℕ) → found ≡ line.Split candidate → IsLineAt network node best best_now found → (k : ℕ) → IsRefutedBy network node k → ⊥
+unrefuted-line network node best best_now found candidate is here = (subst (λ (l : Line). IsLineAt network node best best_now l) is here).2
 
 pub Adds-line : (name : List ℕ) (found : Line) (candidate : ℕ) (before now : ShelfState) → found ≡ line.Split candidate → Adds name (line_text (line_of found)) before now → Adds name (line_text (split candidate)) before now
 Adds-line name found candidate before now is added = subst (λ (l : Line). Adds name (line_text (line_of l)) before now) is added

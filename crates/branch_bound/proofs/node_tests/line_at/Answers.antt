@@ -25,7 +25,7 @@ pub returns-in_ok-copy-2-clause-line : goal.returns-in_ok-copy-2-clause-line
 returns-in_ok-copy-2-clause-line c = record {
   allowed = tt;
   done = IsDone-unsettled c.args.network.now c.args.node.now c.args.best.now c.in_ok-copy-2.field-0 c.in_ok-copy-2.ensures c.in_default-branch_candidate.ensures.none
-      (unsettled_by c.args.network.now c.args.node.now c.in-Some-unmet_limit.limit c.requires.node c.in_default-branch_candidate.ensures.none c.in_default.ensures.none c.in-Some-unmet_limit.ensures.unmet)
+      (unsettled_by c.args.network.now c.args.node.now c.in-Some-unmet_limit.limit c.requires.node c.in_default-branch_candidate.ensures.none c.in_default.ensures.none c.in-Some-unmet_limit.ensures.unmet.unmet)
       (iff_false c.is_cut_off.ensures c.if-is_cut_off.false);
 }
 
@@ -33,6 +33,6 @@ pub returns-else-is_cheaper-clause-line : goal.returns-else-is_cheaper-clause-li
 returns-else-is_cheaper-clause-line c = record {
   allowed = tt;
   done = IsDone-undercut c.args.network.now c.args.node.now c.args.best.now c.requires.kept c.in_default-branch_candidate.ensures.none
-      (unsettled_by c.args.network.now c.args.node.now c.in-Some-unmet_limit.limit c.requires.node c.in_default-branch_candidate.ensures.none c.in_default.ensures.none c.in-Some-unmet_limit.ensures.unmet)
+      (unsettled_by c.args.network.now c.args.node.now c.in-Some-unmet_limit.limit c.requires.node c.in_default-branch_candidate.ensures.none c.in_default.ensures.none c.in-Some-unmet_limit.ensures.unmet.unmet)
       (iff_false c.is_cheaper.ensures c.if-is_cheaper.false);
 }

@@ -1,13 +1,14 @@
 use Rattle.std.proofs.lemmas.Result.{err_from_is_err_and}
-use Rattle.std.proofs.Common.{rules, ◌≡◌, ◌<◌, sym, ◌∙◌, subst, refl, Some}
+use Rattle.std.proofs.Common.{rules, ◌≡◌, ◌<◌, sym, ◌∙◌, subst, refl, Some, None, false}
 use Rattle.geo_model.specs.declared.plan.Node.{Node}
 use Rattle.bound_log.specs.LogTree.{with_chosen, without_chosen, IsOpenAt}
 use Rattle.shelf_io.specs.States.{state_of}
 use Rattle.branch_bound.specs.Explored.{IsNode}
 use Rattle.branch_bound.specs.Found.{IsKept}
-use Rattle.branch_bound.proofs.ExploreLemmas.{BreaksOff-nothing, BreaksOff-line, BreaksOff-first, BreaksOff-second, Explores-leaf, Explores-split, IsNode-with, IsNode-without, IsNode-same, IsKept-same, IsOpenAt-line, IsKept-line, Adds-line, Counts-line, BreaksOff-same, Explores-same, child_with, child_without, node_back}
+use Rattle.branch_bound.proofs.ExploreLemmas.{BreaksOff-nothing, BreaksOff-line, BreaksOff-first, BreaksOff-second, Explores-leaf, Explores-split, IsNode-with, IsNode-without, IsNode-same, IsKept-same, IsOpenAt-line, IsKept-line, unrefuted-line, Adds-line, Counts-line, BreaksOff-same, Explores-same, child_with, child_without, node_back}
 use Rattle.bound_log.specs.OpenCount.{open_count}
 use Rattle.bound_log.proofs.OpenLemmas.{open_count-with, open_count-without}
+use Rattle.branch_bound.proofs.ToldLemmas.{IsTold-with, IsTold-without, IsTold-same}
 use Rattle.branch_bound.proofs.run.+explore.Goals as goal
 
 pub returns-in_err-line-clause-refused : goal.returns-in_err-line-clause-refused
@@ -50,7 +51,10 @@ explore-requires g t c κs within =
     let falls : open_count c.set.new.self c.args.node.now.upper < open_count c.args.node.now.inside c.args.node.now.upper =
     rw c.set.ensures (open_count-with c.args.node.now.inside c.args.node.now.upper c.in-Split.candidate is_open.in_upper is_open.not_inside) in
     let child : IsNode c.args.network.now (record { inside = c.set.new.self; upper = c.args.node.now.upper }) = IsNode-same c.args.network.now (with_chosen c.args.node.now c.in-Split.candidate) (record { inside = c.set.new.self; upper = c.args.node.now.upper }) first (IsNode-with c.args.network.now c.args.node.now c.in-Split.candidate node is_open) in
-    (search rules, (within, (c.in_ok-write_line.ensures.added.started, (child, (c.in_ok-line.ensures.room, kept)))))
+    let told = IsTold-same c.args.network.now (with_chosen c.args.node.now c.in-Split.candidate) (record { inside = c.set.new.self; upper = c.args.node.now.upper }) (record { chosen = Some c.in-Split.candidate; none_shut = c.line_at.new.told.none_shut; unmet = None }) first
+    (IsTold-with c.args.network.now c.args.node.now c.in-Split.candidate c.line_at.new.told.none_shut
+    (unrefuted-line c.args.network.now c.args.node.now c.args.progress.now.best c.line_at.new.best c.in_ok-line.line c.in-Split.candidate c.in-Split.is c.in_ok-line.ensures.line)) in
+    (search rules, (within, (c.in_ok-write_line.ensures.added.started, (child, (told, (c.in_ok-line.ensures.room, kept))))))
 
 pub explore-requires-2 : goal.explore-requires-2
 explore-requires-2 g t c κs within =
@@ -63,7 +67,9 @@ explore-requires-2 g t c κs within =
     subst (λ (n : Node). open_count n.inside n.upper < open_count c.args.node.now.inside c.args.node.now.upper) (sym second)
     (open_count-without c.args.node.now.inside c.args.node.now.upper c.in-Split.candidate is_open.in_upper is_open.not_inside) in
     let child : IsNode c.args.network.now (record { inside = c.set-2.new.self; upper = c.set-3.new.self }) = IsNode-same c.args.network.now (without_chosen c.args.node.now c.in-Split.candidate) (record { inside = c.set-2.new.self; upper = c.set-3.new.self }) second (IsNode-without c.args.network.now c.args.node.now c.in-Split.candidate node is_open) in
-    (search rules, (within, (c.in_ok-explore.ensures.explored.added.started, (child, (c.in_ok-explore.ensures.room, c.in_ok-explore.ensures.explored.done.kept)))))
+    let told = IsTold-same c.args.network.now (without_chosen c.args.node.now c.in-Split.candidate) (record { inside = c.set-2.new.self; upper = c.set-3.new.self }) (record { chosen = None; none_shut = false; unmet = c.line_at.new.told.unmet }) second
+    (IsTold-without c.args.network.now c.args.node.now c.in-Split.candidate c.line_at.new.told.unmet c.line_at.ensures.told) in
+    (search rules, (within, (c.in_ok-explore.ensures.explored.added.started, (child, (told, (c.in_ok-explore.ensures.room, c.in_ok-explore.ensures.explored.done.kept))))))
 
 pub returns-in_err-explore-clause-refused : goal.returns-in_err-explore-clause-refused
 returns-in_err-explore-clause-refused g t c =
