@@ -1,8 +1,7 @@
 -- A text has one tree, and a tree is allowed line by line.
-use Rattle.std.proofs.Common.{◌≡◌, ℕ, ◌<◌, ◌≤◌, List, [], ◌∷◌, ◌++◌, length, map, All, arith, refl, ap, ap₂, sym, ◌∙◌, subst, append_assoc}
+use Rattle.std.proofs.Common.{◌≡◌, ℕ, List, [], ◌∷◌, ◌++◌, map, All, refl, ap, ap₂, sym, ◌∙◌, subst, append_assoc}
 use Rattle.std.proofs.lemmas.List.{append_cancel_left, map-append}
 use Rattle.std.proofs.lemmas.List.Elements.{All-nil, All-cons, All-head, All-tail, All-append}
-use Rattle.std.proofs.lemmas.Option.{slice_get_within}
 use Rattle.geo_model.specs.Network.{NetworkOf, IsNetwork}
 use Rattle.geo_model.specs.declared.plan.Node.{Node}
 use Rattle.lent_parts.specs.Pieces.{TextLineOf, lines_of}
@@ -12,6 +11,7 @@ use Rattle.bound_log.specs.LogText.{head_text, line_body, line_text, lines_text,
 use Rattle.bound_log.specs.LogTree.{root_of, with_chosen, without_chosen, IsAllowed, IsAllowedLine, bound_at, HasBound}
 use Rattle.bound_log.specs.Placed.{placed}
 use Rattle.bound_log.specs.Tree.{LineOf, split, leaf, cost, pivot, Tree, fork, tip, tree_lines}
+use Rattle.bound_log.proofs.AllowedLemmas.{line_numbers}
 use Rattle.bound_log.proofs.GrammarLemmas.{IsLine-body, a_text_is_one, lines_of-line_text}
 
 -- ---- a text has one list of lines
@@ -76,17 +76,12 @@ one_tree a b small also same =
 
 -- ---- a text has one bound
 
--- the numbers of an allowed tree are in their ranges
+-- the numbers of an allowed tree have at most 19 digits
 allowed_numbers : (network : NetworkOf) (node : Node) (tree : Tree) → IsNetwork network → IsAllowed network node tree → All (HasNumbersBelow number_bound) (tree_lines tree)
-allowed_numbers network node (tip cost) bounds allowed = All-cons (HasNumbersBelow number_bound) (leaf cost) [] tt (All-nil (HasNumbersBelow number_bound))
-allowed_numbers network node (tip (pivot limit)) bounds allowed =
-    let inside : limit < length network.limits = slice_get_within network.limits limit allowed.limit allowed.named in
-    let few : length network.limits ≤ 20000 = bounds.limits in
-    All-cons (HasNumbersBelow number_bound) (leaf (pivot limit)) [] (omega arith) (All-nil (HasNumbersBelow number_bound))
+allowed_numbers network node (tip end) bounds allowed =
+    All-cons (HasNumbersBelow number_bound) (leaf end) [] (line_numbers network node (leaf end) bounds allowed) (All-nil (HasNumbersBelow number_bound))
 allowed_numbers network node (fork candidate with_it without_it) bounds allowed =
-    let inside : candidate < length network.candidates = allowed.0.in_range in
-    let few : length network.candidates ≤ 256 = bounds.candidates in
-    All-cons (HasNumbersBelow number_bound) (split candidate) (tree_lines with_it ++ tree_lines without_it) (omega arith)
+    All-cons (HasNumbersBelow number_bound) (split candidate) (tree_lines with_it ++ tree_lines without_it) (line_numbers network node (split candidate) bounds allowed.0)
     (All-append (HasNumbersBelow number_bound) (tree_lines with_it) (tree_lines without_it)
     (allowed_numbers network (with_chosen node candidate) with_it bounds allowed.1)
     (allowed_numbers network (without_chosen node candidate) without_it bounds allowed.2))

@@ -18,7 +18,10 @@ pub use laws::checker_is_sound;
 pub use line::{is_head, put_cost, put_head, put_pivot, put_split};
 pub use log_line::LogLine;
 pub use read::read_line;
-pub use tree_laws::{a_text_has_one_bound, a_text_has_one_tree, trees_are_allowed_line_by_line};
+pub use tree_laws::{
+    a_text_has_one_bound, a_text_has_one_tree, lines_are_allowed_by_their_kinds,
+    trees_are_allowed_line_by_line,
+};
 
 #[cfg(test)]
 mod tests;

@@ -1,7 +1,10 @@
+pub mod EveryText
 pub mod HeightNetworks
+pub mod JudgeLemmas
 pub mod PlaceLemmas
 pub mod ReachLemmas
 pub mod RuleLemmas
 pub mod RunLemmas
+pub mod TakeLemmas
 pub mod TextLemmas
 pub mod VerdictLemmas

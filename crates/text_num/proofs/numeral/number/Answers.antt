@@ -8,21 +8,21 @@ use Rattle.std.proofs.lemmas.Str.{digit_value_digit}
 use Rattle.std.proofs.lemmas.Str.Parse.{digit_at}
 use Rattle.std.proofs.Math.Nat.{pow-le-pow_right, pow-suc}
 use Rattle.text_num.proofs.Digits.{AllDigits-from_test}
-use Rattle.text_num.proofs.read.number.Goals as goal
+use Rattle.text_num.proofs.numeral.number.Goals as goal
 
 record Steps (xs : List ℕ) (i sum digit : ℕ) : Type 0 where
-  room : sum < 10 ^ 12
+  room : sum < 10 ^ 18
   digit_small : digit < 10
   value : sum * 10 + digit ≡ digits_value 10 (take (i + 1) xs)
   small : sum * 10 + digit < 10 ^ (i + 1)
 
-step : (xs : List ℕ) (i sum digit : ℕ) → list_all is_ascii_digit xs ≡ true → length xs ≤ 12 → i < length xs → sum ≡ digits_value 10 (take i xs) → sum < 10 ^ i → digit ≡ get_or xs i 0 - 48 → Steps xs i sum digit
+step : (xs : List ℕ) (i sum digit : ℕ) → list_all is_ascii_digit xs ≡ true → length xs ≤ 19 → i < length xs → sum ≡ digits_value 10 (take i xs) → sum < 10 ^ i → digit ≡ get_or xs i 0 - 48 → Steps xs i sum digit
 step xs i sum digit form few here value small is =
     let range : IsInRange 48 57 (get_or xs i 0) = digit_at xs i (AllDigits-from_test xs form) here in
     let worth : digit_value (get_or xs i 0) + 48 ≡ get_or xs i 0 = digit_value_digit (get_or xs i 0) range in
     let more = digits_value_more 10 xs i here in
-    let place : i ≤ 12 = omega arith in
-    let room : 10 ^ i ≤ 10 ^ 12 = pow-le-pow_right {n = 10} (omega arith) place in
+    let place : i ≤ 18 = omega arith in
+    let room : 10 ^ i ≤ 10 ^ 18 = pow-le-pow_right {n = 10} (omega arith) place in
     let next : 10 ^ (i + 1) ≡ 10 ^ i * 10 = ap (λ t. 10 ^ t) (omega arith) ∙ pow-suc 10 i in
     record { room = omega arith; digit_small = omega (arith, range.1); value = omega arith; small = omega (arith, range.1) }
 

@@ -1,6 +1,6 @@
 use Rattle.std.proofs.Common.{◌≡◌, ◌<◌, ◌^◌, take}
 use Rattle.std.specs.Str.Parse.{digits_value}
-use Rattle.text_num.proofs.read.number.Given as goal
+use Rattle.text_num.proofs.numeral.number.Given as goal
 
 -- the sum is the number that the digits so far write
 abbrev pub invariant-loop-c : goal.invariant-loop-c
