@@ -8,6 +8,7 @@ use Rattle.geo_model.specs.Network.{NetworkOf}
 use Rattle.geo_model.specs.declared.answer.Counts.{Counts}
 use Rattle.geo_model.specs.declared.plan.Node.{Node}
 use Rattle.bound_log.specs.Counted.{counts_with}
+use Rattle.bound_log.proofs.AllowedLemmas.{split_allowed, cost_allowed}
 use Rattle.bound_log.proofs.CountLemmas.{counts_with-then}
 use Rattle.geo_model.proofs.PlanLemmas.{IsWithin-with, IsWithin-without, IsWithin-none}
 use Rattle.bound_log.specs.LogText.{line_text, lines_text}
@@ -30,7 +31,7 @@ use Rattle.branch_bound.proofs.PieceLemmas.{Breaks-nothing, Adds-then, Breaks-af
 pub BreaksOff-nothing : (network : NetworkOf) (node : Node) (name : List ℕ) (state : ShelfState) → ((files : Files) → state.held ≡ Some files → IsHeld files name) → BreaksOff network node name fault.NoMemory state state
 BreaksOff-nothing network node name state told = record {
   tree = tip cost;
-  allowed = tt;
+  allowed = cost_allowed network node;
   broken = Breaks-nothing name (lines_text (tree_lines (tip cost))) state told;
 }
 
@@ -64,7 +65,7 @@ split_text candidate with_it without_it = ap (λ text. line_text (split candidat
 BreaksOff-split : (network : NetworkOf) (node : Node) (name : List ℕ) (candidate : ℕ) (why : SearchFault) (before now : ShelfState) → IsOpenAt network node candidate → Breaks name (line_text (split candidate)) why before now → BreaksOff network node name why before now
 BreaksOff-split network node name candidate why before now is_open broken = record {
   tree = fork candidate (tip cost) (tip cost);
-  allowed = (is_open, tt, tt);
+  allowed = (split_allowed network node candidate is_open, cost_allowed network (with_chosen node candidate), cost_allowed network (without_chosen node candidate));
   broken = Breaks-longer name (line_text (split candidate)) (lines_text (tree_lines (tip cost) ++ tree_lines (tip cost))) why before now broken;
 }
 
@@ -86,7 +87,7 @@ BreaksOff-line network node name best best_now why before now (line.Pivot limit)
 pub BreaksOff-first : (network : NetworkOf) (node : Node) (name : List ℕ) (candidate : ℕ) (why : SearchFault) (before middle now : ShelfState) → IsOpenAt network node candidate → Adds name (line_text (split candidate)) before middle → BreaksOff network (with_chosen node candidate) name why middle now → BreaksOff network node name why before now
 BreaksOff-first network node name candidate why before middle now is_open added first = record {
   tree = fork candidate first.tree (tip cost);
-  allowed = (is_open, first.allowed, tt);
+  allowed = (split_allowed network node candidate is_open, first.allowed, cost_allowed network (without_chosen node candidate));
   broken = subst (λ text. Breaks name text why before now) (sym (split_text candidate first.tree (tip cost)))
       (Breaks-after name (line_text (split candidate)) (lines_text (tree_lines first.tree) ++ lines_text (tree_lines (tip cost))) why before middle now added
       (Breaks-longer name (lines_text (tree_lines first.tree)) (lines_text (tree_lines (tip cost))) why middle now first.broken));
@@ -96,7 +97,7 @@ BreaksOff-first network node name candidate why before middle now is_open added 
 pub BreaksOff-second : (network : NetworkOf) (node : Node) (name : List ℕ) (candidate : ℕ) (why : SearchFault) (best best_now : Best) (counts counts_now : Counts) (before middle later now : ShelfState) → IsOpenAt network node candidate → Adds name (line_text (split candidate)) before middle → Explores network (with_chosen node candidate) name best best_now counts counts_now middle later → BreaksOff network (without_chosen node candidate) name why later now → BreaksOff network node name why before now
 BreaksOff-second network node name candidate why best best_now counts counts_now before middle later now is_open added first second = record {
   tree = fork candidate first.tree second.tree;
-  allowed = (is_open, first.allowed, second.allowed);
+  allowed = (split_allowed network node candidate is_open, first.allowed, second.allowed);
   broken = subst (λ text. Breaks name text why before now) (sym (split_text candidate first.tree second.tree))
       (Breaks-after name (line_text (split candidate)) (lines_text (tree_lines first.tree) ++ lines_text (tree_lines second.tree)) why before middle now added
       (Breaks-after name (lines_text (tree_lines first.tree)) (lines_text (tree_lines second.tree)) why middle later now first.added second.broken));
@@ -106,7 +107,7 @@ BreaksOff-second network node name candidate why best best_now counts counts_now
 pub Explores-split : (network : NetworkOf) (node : Node) (name : List ℕ) (candidate : ℕ) (best middle_best best_now : Best) (counts counts_split counts_first counts_now : Counts) (before middle later now : ShelfState) → IsOpenAt network node candidate → Adds name (line_text (split candidate)) before middle → counts_split ≡ counts_with counts (split candidate ∷ []) → Explores network (with_chosen node candidate) name best middle_best counts_split counts_first middle later → Explores network (without_chosen node candidate) name middle_best best_now counts_first counts_now later now → Explores network node name best best_now counts counts_now before now
 Explores-split network node name candidate best middle_best best_now counts counts_split counts_first counts_now before middle later now is_open added counted first second = record {
   tree = fork candidate first.tree second.tree;
-  allowed = (is_open, first.allowed, second.allowed);
+  allowed = (split_allowed network node candidate is_open, first.allowed, second.allowed);
   added = subst (λ text. Adds name text before now) (sym (split_text candidate first.tree second.tree))
       (Adds-then name (line_text (split candidate)) (lines_text (tree_lines first.tree) ++ lines_text (tree_lines second.tree)) before middle now added
       (Adds-then name (lines_text (tree_lines first.tree)) (lines_text (tree_lines second.tree)) middle later now first.added second.added));

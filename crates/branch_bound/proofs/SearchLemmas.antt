@@ -9,6 +9,7 @@ use Rattle.geo_model.specs.declared.plan.Node.{Node}
 use Rattle.geo_model.proofs.PlanLemmas.{IsWithin-none, IsWithin-all}
 use Rattle.bound_log.specs.declared.bound.Bound.{Bound}
 use Rattle.bound_log.specs.Counted.{counts_with}
+use Rattle.bound_log.proofs.AllowedLemmas.{cost_allowed}
 use Rattle.bound_log.proofs.CountLemmas.{counts_with-none}
 use Rattle.bound_log.specs.LogText.{head_text, lines_text, log_text}
 use Rattle.bound_log.specs.LogTree.{root_of, IsAllowed, bound_at}
@@ -28,11 +29,11 @@ use Rattle.branch_bound.proofs.PieceLemmas.{Breaks-nothing, Adds-then, Breaks-af
 
 -- memory ran out before anything was written
 pub BreaksLog-nothing : (network : NetworkOf) (name : List ℕ) (state : ShelfState) → ((files : Files) → state.held ≡ Some files → IsHeld files name) → BreaksLog network name fault.NoMemory state state
-BreaksLog-nothing network name state told = record { tree = tip cost; allowed = tt; broken = Breaks-nothing name (log_text (tip cost)) state told }
+BreaksLog-nothing network name state told = record { tree = tip cost; allowed = cost_allowed network (root_of network); broken = Breaks-nothing name (log_text (tip cost)) state told }
 
 -- the head was begun
 pub BreaksLog-head : (network : NetworkOf) (name : List ℕ) (why : SearchFault) (before now : ShelfState) → Breaks name head_text why before now → BreaksLog network name why before now
-BreaksLog-head network name why before now broken = record { tree = tip cost; allowed = tt; broken = Breaks-longer name head_text (lines_text (tree_lines (tip cost))) why before now broken }
+BreaksLog-head network name why before now broken = record { tree = tip cost; allowed = cost_allowed network (root_of network); broken = Breaks-longer name head_text (lines_text (tree_lines (tip cost))) why before now broken }
 
 -- the tree was begun
 pub BreaksLog-tree : (network : NetworkOf) (node : Node) (name : List ℕ) (why : SearchFault) (before middle now : ShelfState) → node ≡ root_of network → Adds name head_text before middle → BreaksOff network node name why middle now → BreaksLog network name why before now
