@@ -18,8 +18,7 @@ use Rattle.design_rows.proofs.UnknownFacts.{every-append, every-weaker}
 use Rattle.net_build.specs.Build.{candidate_of, network_of}
 use Rattle.geoplan.specs.CommandOf.{SourcesOf}
 use Rattle.geoplan.specs.Input.{most_bytes, judged_input}
-use Rattle.geoplan.specs.Loading.{ReadsFile, ReadsLog, IsGoodInput, Loads}
-use Rattle.geoplan.specs.Standing.{IsGoodNetwork}
+use Rattle.geoplan.specs.Loading.{IsGoodNetwork, ReadsFile, ReadsLog, IsGoodInput, Loads}
 use Rattle.geoplan.specs.Tables.{TablesOf}
 use Rattle.geoplan.specs.declared.input.Input.{Input}
 use Rattle.geoplan.specs.declared.input.Input.TheVariants as input

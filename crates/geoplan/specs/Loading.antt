@@ -1,4 +1,4 @@
-use Rattle.std.specs.Prelude.{◌≡◌, ℕ, ◌<◌, ◌≤◌, List, [], length, Option, Some, None}
+use Rattle.std.specs.Prelude.{◌≡◌, ℕ, ◌<◌, ◌≤◌, List, [], length, All, Option, Some, None}
 use Rattle.std.specs.Option.{ForSome}
 use Rattle.shelf_io.specs.Files.{Files, bytes_of}
 use Rattle.shelf_io.specs.Faults.{Rose, KeepsFaults, read_of}
@@ -6,7 +6,8 @@ use Rattle.shelf_io.specs.States.{ShelfState}
 use Rattle.geoplan.specs.CommandOf.{SourcesOf}
 use Rattle.geoplan.specs.Input.{most_log_bytes, input_of, name_of}
 use Rattle.geoplan.specs.Tables.{TablesOf}
-use Rattle.geoplan.specs.Standing.{AreTables, IsGoodNetwork, IsOfCommand}
+use Rattle.geo_model.specs.Network.{IsNetwork}
+use Rattle.geoplan.specs.Outcomes.{AreTables, IsOfCommand}
 use Rattle.geoplan.specs.declared.load.LoadFault.{LoadFault}
 use Rattle.geoplan.specs.declared.load.LoadFault.TheVariants as load
 use Rattle.geoplan.specs.declared.load.ReadFault.{ReadFault}
@@ -15,7 +16,13 @@ use Rattle.geoplan.specs.declared.input.Input.{Input}
 use Rattle.geoplan.specs.declared.input.Input.TheVariants as input
 use Rattle.geoplan.specs.declared.input.File.{File}
 
--- What reading the files of a command does. This project's own.
+-- What reading the files of a command does. Only private clauses and proofs cite it. This project's own.
+
+-- the network of the tables keeps the bounds of networks, has their candidates, and its unknowns are of their points
+pub record IsGoodNetwork (tables : TablesOf) : Type 0 where
+  pub bounds : IsNetwork tables.network
+  pub named : length tables.candidates ≡ length tables.network.candidates
+  pub placed : All (λ unknown. unknown.point < length tables.points) tables.network.unknowns
 
 -- the bytes that were read are those that the shelf holds, or it holds more than the limit
 abbrev pub HasBytes : ℕ → List ℕ → Option (List ℕ) → Option Files → Type 0

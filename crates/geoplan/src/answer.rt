@@ -3,9 +3,9 @@ ghost use Rattle.std.specs.Prelude.{◌≡◌, ◌≤◌, length, IfOk, IfErr};
 ghost use Rattle.shelf_io.specs.States.{state_of};
 ghost use Rattle.geoplan.specs.CommandOf.{sources_of};
 ghost use Rattle.geoplan.specs.CommandView.{sources_view, job_view, command_view};
-ghost use Rattle.geoplan.specs.Loading.{HasTables};
+ghost use Rattle.geoplan.specs.Loading.{IsGoodNetwork, HasTables};
 ghost use Rattle.geoplan.specs.Reporting.{CanReport, Ends, Reports, Replays};
-ghost use Rattle.geoplan.specs.Standing.{IsGoodNetwork, NoTables, PlanStands, RowsStand, CheckStands, Stands};
+ghost use Rattle.geoplan.specs.Standing.{NoTables, PlanStands, RowsStand, CheckStands, Stands};
 ghost use Rattle.geoplan.specs.Texts.{tables_rows_text, tables_undecided_text};
 ghost use Rattle.geoplan.specs.declared.status.Status.TheVariants as status;
 
