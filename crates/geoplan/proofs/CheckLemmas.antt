@@ -26,11 +26,10 @@ use Rattle.geoplan.proofs.InputLemmas.{input_from-other_log, fits_log}
 
 -- ---- the names of a job differ
 
--- the tables of a job have other names than its log, and it reads no log
+-- the tables of a job have other names than its log
 record HasNames (job : JobOf) : Type 0 where
-  points : bytes_eq job.sources.points job.log ≡ false
-  candidates : bytes_eq job.sources.candidates job.log ≡ false
-  unread : job.sources.log ≡ None
+  points : bytes_eq job.points job.log ≡ false
+  candidates : bytes_eq job.candidates job.log ≡ false
 
 either_false : (a b c : Bool) → (a || (b || c)) ≡ false → (b ≡ false) × (c ≡ false)
 either_false true b c is = absurd (cc)
@@ -38,12 +37,12 @@ either_false false true c is = absurd (cc)
 either_false false false c is = (refl, is)
 
 abbrev made : List ℕ → List ℕ → List ℕ → ℕ → JobOf
-made points candidates log q = record { sources = record { points = points; candidates = candidates; redundancy = q; log = None }; log = log }
+made points candidates log q = record { points = points; candidates = candidates; redundancy = q; log = log }
 
 made_names : (points candidates log : List ℕ) (q : ℕ) → are_shared points candidates log ≡ false → HasNames (made points candidates log q)
 made_names points candidates log q apart =
     let both = either_false (bytes_eq points candidates) (bytes_eq points log) (bytes_eq candidates log) apart in
-    record { points = both.0; candidates = both.1; unread = refl }
+    record { points = both.0; candidates = both.1 }
 
 named_by : (points candidates log : List ℕ) (shared : Bool) (q : Option ℕ) (job : JobOf) → are_shared points candidates log ≡ shared → (if shared then None else option_map (made points candidates log) q) ≡ Some job → HasNames job
 named_by points candidates log true q job apart is = absurd (cc)
@@ -101,16 +100,16 @@ module _ (words : List (List ℕ)) (job : JobOf) (before now : ShelfState) (tabl
       bytes_of-get after files name ((KeepsOthers-with_bytes job.log leaves.log before.held now.held leaves.written).others files after was told name (λ same. apart name job.log differ (sym same)))
 
   -- so with any log that isn't too long the tables are the same
-  tables_stay : (other : Option (List ℕ)) → (files : Files) → before.held ≡ Some files → input_from job.sources.redundancy (bytes_of files job.sources.points) (bytes_of files job.sources.candidates) other ≡ input.Built tables → input_from job.sources.redundancy (bytes_of after job.sources.points) (bytes_of after job.sources.candidates) other ≡ input.Built tables
+  tables_stay : (other : Option (List ℕ)) → (files : Files) → before.held ≡ Some files → input_from job.redundancy (bytes_of files job.points) (bytes_of files job.candidates) other ≡ input.Built tables → input_from job.redundancy (bytes_of after job.points) (bytes_of after job.candidates) other ≡ input.Built tables
   tables_stay other files was is =
       let names = names-of words job planned in
-      rw (stays files was job.sources.points names.points, stays files was job.sources.candidates names.candidates) is
+      rw (stays files was job.points names.points, stays files was job.candidates names.candidates) is
 
-  same_tables : (other : Option (List ℕ)) → is_long_log other ≡ false → input_from job.sources.redundancy (bytes_of after job.sources.points) (bytes_of after job.sources.candidates) other ≡ input.Built tables
+  same_tables : (other : Option (List ℕ)) → is_long_log other ≡ false → input_from job.redundancy (bytes_of after job.points) (bytes_of after job.candidates) other ≡ input.Built tables
   same_tables other short =
       let was = before_told before.held now.held job.log leaves.log after leaves.written told in
       tables_stay other was.0 was.1
-      (input_from-other_log job.sources.redundancy _ _ (option_map (bytes_of was.0) job.sources.log) other tables short (leaves.input was.0 was.1))
+      (input_from-other_log job.redundancy _ _ None other tables short (leaves.input was.0 was.1))
 
   -- ---- what check makes of it
 
@@ -126,7 +125,7 @@ module _ (words : List (List ℕ)) (job : JobOf) (before now : ShelfState) (tabl
   -- the tables of an accepted log are the same
   found_tables : (at at_now : ShelfState) (text : List ℕ) → at.held ≡ Some after → (accepts : AcceptsLog job at at_now text) → accepts.tables ≡ tables
   found_tables at at_now text holds accepts =
-      let without = input_from-other_log job.sources.redundancy _ _ (Some (bytes_of after job.log)) None accepts.tables refl (accepts.input after holds) in
+      let without = input_from-other_log job.redundancy _ _ (Some (bytes_of after job.log)) None accepts.tables refl (accepts.input after holds) in
       let e : input.Built accepts.tables ≡ input.Built tables = sym without ∙ same_tables None refl in
       cc
 

@@ -1,9 +1,9 @@
 -- Laws of reading the tables and of what they give.
-use Rattle.std.proofs.Common.{◌≡◌, ◌+◌, ◌<◌, ◌≤◌, ℕ, Bool, true, false, if◌then◌else◌, List, [], ◌∷◌, ◌++◌, length, refl, sym, ◌∙◌, subst, arith, Some, None}
+use Rattle.std.proofs.Common.{◌≡◌, inr, ◌+◌, ◌<◌, ◌≤◌, ℕ, Bool, true, false, if◌then◌else◌, List, [], ◌∷◌, ◌++◌, length, refl, sym, ◌∙◌, subst, arith, Some, None}
 use Rattle.std.specs.Prelude.{All}
 use Rattle.std.specs.Option.{option_map}
 use Rattle.shelf_io.specs.Files.{bytes_of}
-use Rattle.shelf_io.specs.Faults.{KeepsFaults}
+use Rattle.shelf_io.specs.Faults.{Rose, KeepsFaults}
 use Rattle.std.specs.List.{AllByRecursion, enumerate_from, flat_map}
 use Rattle.std.proofs.lemmas.List.{length-map}
 use Rattle.geo_model.specs.Network.{NetworkOf, IsNetwork}
@@ -17,8 +17,10 @@ use Rattle.design_rows.proofs.EntryFacts.{all-of}
 use Rattle.design_rows.proofs.UnknownFacts.{every-append, every-weaker}
 use Rattle.net_build.specs.Build.{candidate_of, network_of}
 use Rattle.geoplan.specs.CommandOf.{SourcesOf}
-use Rattle.geoplan.specs.Input.{most_bytes, judged_input}
-use Rattle.geoplan.specs.Loading.{IsGoodNetwork, ReadsFile, ReadsLog, IsGoodInput, Loads}
+use Rattle.geoplan.specs.Input.{log_name, name_of, most_bytes, judged_input}
+use Rattle.geoplan.specs.Loading.{IsGoodNetwork, ReadsFile, ReadsLog, FailsRead, FailsLog, IsGoodInput, Loads, FailsAt, FailsLoad}
+use Rattle.geoplan.specs.Outcomes.{IsQuiet, IsOfCommand}
+use Rattle.geoplan.specs.declared.load.LoadFault.{LoadFault}
 use Rattle.geoplan.specs.Tables.{TablesOf}
 use Rattle.geoplan.specs.declared.input.Input.{Input}
 use Rattle.geoplan.specs.declared.input.Input.TheVariants as input
@@ -79,6 +81,22 @@ Loads-judged sources points candidates log given before first second now one two
   held = three.held ∙ two.held ∙ one.held;
   quiet = keeps before second now three.quiet (keeps before first second two.quiet one.quiet);
 }
+
+-- a file was not read after others were
+pub FailsLoad-after : (sources : SourcesOf) (which : File) (why : LoadFault) (before middle now : ShelfState) → middle.held ≡ before.held → IsQuiet before middle → IsOfCommand sources (name_of sources which) → FailsRead which (name_of sources which) why middle now → FailsLoad sources why before now
+FailsLoad-after sources which why before middle now held quiet of_command fails = record {
+  held = fails.held ∙ held;
+  later = subst (λ n. n ≤ now.faults) quiet.same_count fails.later;
+  failed = λ other is. let fault = fails.failed other is in
+      subst (λ file. FailsAt sources file before now) (sym fault.0)
+      (record { rose = subst (λ n. Rose n now.faults) quiet.same_count fault.1.0; last = fault.1.1; of_command = of_command });
+}
+
+-- the log was not read
+pub FailsLoad-log : (sources : SourcesOf) (why : LoadFault) (before middle now : ShelfState) → middle.held ≡ before.held → IsQuiet before middle → FailsLog sources.log why middle now → FailsLoad sources why before now
+FailsLoad-log sources why before middle now held quiet (name, is, fails) =
+    FailsLoad-after sources file.Log why before middle now held quiet (inr (inr (rw is refl)))
+    (subst (λ log. FailsRead file.Log (log_name log) why middle now) (sym is) fails)
 
 -- ---- the network
 

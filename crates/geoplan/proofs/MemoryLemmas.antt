@@ -6,7 +6,7 @@ use Rattle.shelf_io.specs.Faults.{Rose}
 use Rattle.shelf_io.specs.States.{SinkState, ShelfState}
 use Rattle.log_check.proofs.VerdictLemmas.{logs_have_no_fault}
 use Rattle.geoplan.specs.Codes.{code_of, after_failed_put}
-use Rattle.geoplan.specs.CommandOf.{JobOf, CommandOf, plan_command, rows_command, check_command, plain_sources, checked_sources, sources_of, command_of, OnPlan}
+use Rattle.geoplan.specs.CommandOf.{JobOf, CommandOf, plan_command, rows_command, check_command, plain_sources, planned_sources, checked_sources, sources_of, command_of, OnPlan}
 use Rattle.geoplan.specs.Input.{input_of}
 use Rattle.geoplan.specs.Outcomes.{AreTables, BeganLog, KeepsOrBegan, AcceptsLog, RefusesLog, RefusesTable, RefusesLength, FailsToRead, HasReport, HasLogFault, HasOutcome, HasText}
 use Rattle.geoplan.specs.Printing.{WritesPrefix, WritesAll}
@@ -164,7 +164,7 @@ plan_completes job files before now status.TableRefused text told quiet refused 
 plan_completes job files before now status.Undecided text told quiet left = completes (plan_command job) files (input.Built left.tables) 4 (left.leaves.input files told) (inr (inr (inl refl)))
 plan_completes job files before now status.ReadFault text told quiet failed = absurd (quiet failed.rose)
 plan_completes job files before now status.WriteFault text told quiet failed = absurd (quiet failed.0.rose)
-plan_completes job files before now status.NoMemory text told quiet out = memory_status (plan_command job) (input_of job.sources files) files 7 refl
+plan_completes job files before now status.NoMemory text told quiet out = memory_status (plan_command job) (input_of (planned_sources job) files) files 7 refl
 plan_completes job files before now status.LogRefused text told quiet never = absurd never
 plan_completes job files before now status.FileTooLong text told quiet refused = completes (plan_command job) files (input.TooLong refused.which) 9 (refused.refuses.input files told) (inl refl)
 

@@ -19,7 +19,7 @@ use Rattle.shelf_io.specs.States.{ShelfState}
 use Rattle.branch_bound.specs.Searched.{IsAnswer, IsCertified}
 use Rattle.log_check.specs.Replayed.{IsReplayed}
 use Rattle.log_check.specs.FirstFault.{IsFirstFault}
-use Rattle.geoplan.specs.CommandOf.{JobOf, checked_sources}
+use Rattle.geoplan.specs.CommandOf.{JobOf, planned_sources, checked_sources}
 use Rattle.geoplan.specs.Loading.{HasTables}
 use Rattle.geoplan.specs.Reporting.{CanReport, Ends, Reports, Replays, HasNoText}
 use Rattle.geoplan.specs.Solving.{Solves, HoldsBeginning, FailsSolve}
@@ -31,7 +31,7 @@ use Rattle.geoplan.specs.declared.status.Status.{Status}
 use Rattle.geoplan.specs.declared.status.Status.TheVariants as status
 
 -- the log of a search that is done
-leaves_log : (job : JobOf) (tables : TablesOf) (read : List ℕ) (done : SearchDone) (before middle now : ShelfState) → HasTables job.sources tables read before middle → (solved : Solves tables job.log done middle now) → LeavesLog job before now tables (bound_at tables.network (root_of tables.network) solved.tree)
+leaves_log : (job : JobOf) (tables : TablesOf) (read : List ℕ) (done : SearchDone) (before middle now : ShelfState) → HasTables (planned_sources job) tables read before middle → (solved : Solves tables job.log done middle now) → LeavesLog job before now tables (bound_at tables.network (root_of tables.network) solved.tree)
 leaves_log job tables read done before middle now has solved =
     let shown : HasBound tables.network (log_text solved.tree) (bound_at tables.network (root_of tables.network) solved.tree) =
     record { tree = solved.tree; log = record { spelled = refl; allowed = solved.searched.allowed }; least = refl } in
@@ -112,12 +112,12 @@ module _ (job : JobOf) (before now : ShelfState) (tables : TablesOf) (bound : Bo
       (reports is.open_limit.limit is.open_limit.named)
 
 -- what stands once the search is done and its answer is reported
-pub PlanStands-reported : (job : JobOf) (tables : TablesOf) (read : List ℕ) (done : SearchDone) (before middle now : ShelfState) (ends : Status) (text : List ℕ) → HasTables job.sources tables read before middle → Solves tables job.log done middle now → Reports tables done.answer ends text → PlanStands job before now ends text
+pub PlanStands-reported : (job : JobOf) (tables : TablesOf) (read : List ℕ) (done : SearchDone) (before middle now : ShelfState) (ends : Status) (text : List ℕ) → HasTables (planned_sources job) tables read before middle → Solves tables job.log done middle now → Reports tables done.answer ends text → PlanStands job before now ends text
 PlanStands-reported job tables read done before middle now ends text has solved reports =
     by_answer job before now tables (bound_at tables.network (root_of tables.network) solved.tree) (leaves_log job tables read done before middle now has solved) ends text done.answer solved.searched.answered reports
 
 -- the beginning of a log that a search left
-began_log : (job : JobOf) (tables : TablesOf) (read : List ℕ) (before middle now : ShelfState) → HasTables job.sources tables read before middle → (now.held ≡ middle.held) ⊎ HoldsBeginning tables job.log middle.held now.held → KeepsOrBegan job before.held now.held
+began_log : (job : JobOf) (tables : TablesOf) (read : List ℕ) (before middle now : ShelfState) → HasTables (planned_sources job) tables read before middle → (now.held ≡ middle.held) ⊎ HoldsBeginning tables job.log middle.held now.held → KeepsOrBegan job before.held now.held
 began_log job tables read before middle now has (inl same) = inl (same ∙ has.held)
 began_log job tables read before middle now has (inr began) = inr (record {
   tables = tables;
@@ -131,7 +131,7 @@ began_log job tables read before middle now has (inr began) = inr (record {
 })
 
 -- what stands once a write of the log failed
-pub PlanStands-unwritten : (job : JobOf) (tables : TablesOf) (read : List ℕ) (why : SearchFault) (before middle now : ShelfState) (ends : Status) (text : List ℕ) → HasTables job.sources tables read before middle → FailsSolve tables job.log why middle now → why ≡ search.WriteFault → ends ≡ status.WriteFault → text ≡ [] → PlanStands job before now ends text
+pub PlanStands-unwritten : (job : JobOf) (tables : TablesOf) (read : List ℕ) (why : SearchFault) (before middle now : ShelfState) (ends : Status) (text : List ℕ) → HasTables (planned_sources job) tables read before middle → FailsSolve tables job.log why middle now → why ≡ search.WriteFault → ends ≡ status.WriteFault → text ≡ [] → PlanStands job before now ends text
 PlanStands-unwritten job tables read why before middle now ends text has failed is ended none =
     let fault = failed.failed is in
     subst (λ s. PlanStands job before now s text) (sym ended) (

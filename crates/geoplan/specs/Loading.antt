@@ -10,11 +10,10 @@ use Rattle.geo_model.specs.Network.{IsNetwork}
 use Rattle.geoplan.specs.Outcomes.{AreTables, IsOfCommand}
 use Rattle.geoplan.specs.declared.load.LoadFault.{LoadFault}
 use Rattle.geoplan.specs.declared.load.LoadFault.TheVariants as load
-use Rattle.geoplan.specs.declared.load.ReadFault.{ReadFault}
-use Rattle.geoplan.specs.declared.load.ReadFault.TheVariants as read
 use Rattle.geoplan.specs.declared.input.Input.{Input}
 use Rattle.geoplan.specs.declared.input.Input.TheVariants as input
 use Rattle.geoplan.specs.declared.input.File.{File}
+use Rattle.geoplan.specs.declared.input.File.TheVariants as file
 
 -- What reading the files of a command does. Only private clauses and proofs cite it. This project's own.
 
@@ -46,17 +45,15 @@ pub record ReadsLog (log : Option (List ℕ)) (bytes : Option (List ℕ)) (befor
   pub held : now.held ≡ before.held
   pub quiet : KeepsFaults before.faults now.faults before.last_fault now.last_fault
 
--- a log was not read: its read failed, or memory ran out
-pub record FailsLog (log : Option (List ℕ)) (why : ReadFault) (before now : ShelfState) : Type 0 where
-  pub held : now.held ≡ before.held
-  pub later : before.faults ≤ now.faults
-  pub failed : why ≡ read.Failed → Rose before.faults now.faults × ((name : List ℕ) × (log ≡ Some name) × (now.last_fault ≡ Some (read_of name)))
-
 -- a file was not read: its read failed, or memory ran out
-pub record FailsRead (name : List ℕ) (why : ReadFault) (before now : ShelfState) : Type 0 where
+pub record FailsRead (which : File) (name : List ℕ) (why : LoadFault) (before now : ShelfState) : Type 0 where
   pub held : now.held ≡ before.held
   pub later : before.faults ≤ now.faults
-  pub failed : why ≡ read.Failed → Rose before.faults now.faults × (now.last_fault ≡ Some (read_of name))
+  pub failed : (other : File) → why ≡ load.Unread other → (other ≡ which) × (Rose before.faults now.faults × (now.last_fault ≡ Some (read_of name)))
+
+-- a log was not read
+abbrev pub FailsLog : Option (List ℕ) → LoadFault → ShelfState → ShelfState → Type 0
+FailsLog log why before now = (name : List ℕ) × (log ≡ Some name) × FailsRead file.Log name why before now
 
 -- the network of built tables keeps its bounds
 abbrev pub IsGoodInput : Input → Type 0

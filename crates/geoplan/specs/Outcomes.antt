@@ -18,7 +18,7 @@ use Rattle.log_check.specs.declared.fault.LogFault.{LogFault}
 use Rattle.log_check.specs.declared.replaying.Replayed.{Replayed}
 use Rattle.log_check.specs.FirstFault.{IsFirstFault}
 use Rattle.log_check.specs.Replayed.{IsReplayed}
-use Rattle.geoplan.specs.CommandOf.{SourcesOf, JobOf, CommandOf, plan_command, rows_command, check_command, plain_sources, checked_sources, sources_of, command_of, OnCommand}
+use Rattle.geoplan.specs.CommandOf.{SourcesOf, JobOf, CommandOf, plan_command, rows_command, check_command, plain_sources, planned_sources, checked_sources, sources_of, command_of, OnCommand}
 use Rattle.geoplan.specs.Input.{input_of, name_of}
 use Rattle.geoplan.specs.Tables.{TablesOf}
 use Rattle.geoplan.specs.Texts.{words_text, cannot_read_text, too_long_text, table_text, tables_plan_text, no_plan_text, tables_undecided_text, tables_rows_text, checked_text, log_fault_text}
@@ -43,7 +43,7 @@ IsQuiet before now = KeepsFaults before.faults now.faults before.last_fault now.
 -- plan that meets the limits costs at least the bound, and where that is `NoPlan` none meets them.
 pub record LeavesLog (job : JobOf) (before now : ShelfState) (tables : TablesOf) (bound : Bound) : Type 0 where
   pub log : List ℕ
-  pub input : AreTables job.sources before.held tables
+  pub input : AreTables (planned_sources job) before.held tables
   pub network : IsNetwork tables.network
   pub shown : HasBound tables.network log bound
   pub lower : IsLowerBound tables.network bound
@@ -162,7 +162,7 @@ pub record BeganLog (job : JobOf) (before now : Option Files) : Type 0 where
   pub tree : Tree
   pub piece : List ℕ
   pub rest : List ℕ
-  pub input : AreTables job.sources before tables
+  pub input : AreTables (planned_sources job) before tables
   pub allowed : IsAllowed tables.network (root_of tables.network) tree
   pub begins : log_text tree ≡ piece ++ rest
   pub written : now ≡ with_bytes before job.log piece
@@ -174,7 +174,7 @@ KeepsOrBegan job before now = (now ≡ before) ⊎ BeganLog job before now
 -- the tables are accepted, and a write of the log failed
 pub record FailsToWrite (job : JobOf) (before now : ShelfState) : Type 0 where
   pub tables : TablesOf
-  pub input : AreTables job.sources before.held tables
+  pub input : AreTables (planned_sources job) before.held tables
   pub rose : Rose before.faults now.faults
   pub last : now.last_fault ≡ Some (write_of job.log)
   pub held : KeepsOrBegan job before.held now.held

@@ -1,7 +1,7 @@
 use Rattle.std.specs.Prelude.{◌≡◌, ℕ, ◌≤◌, List, [], Option}
 use Rattle.shelf_io.specs.Files.{Files}
 use Rattle.shelf_io.specs.States.{ShelfState}
-use Rattle.geoplan.specs.CommandOf.{SourcesOf, JobOf, CommandOf, plan_command, rows_command, check_command, plain_sources, checked_sources}
+use Rattle.geoplan.specs.CommandOf.{SourcesOf, JobOf, CommandOf, plan_command, rows_command, check_command, plain_sources, planned_sources, checked_sources}
 use Rattle.geoplan.specs.Outcomes.{KeepsOrBegan, FindsPlan, FindsNone, LeavesOpen, ListsRows, AcceptsLog, RefusesLog, RefusesTable, RefusesLength, FailsToRead, FailsToWrite}
 use Rattle.geoplan.specs.declared.status.Status.{Status}
 use Rattle.geoplan.specs.declared.status.Status.TheVariants as status
@@ -33,7 +33,7 @@ PlanStands job before now status.NoPlan text = FindsNone job before now text
 PlanStands job before now status.Undecided text = LeavesOpen job before now text
 PlanStands job before now status.WriteFault text = FailsToWrite job before now × (text ≡ [])
 PlanStands job before now status.NoMemory text = RunsOut (KeepsOrBegan job) before now text
-PlanStands job before now ends text = NoTables job.sources before now ends text
+PlanStands job before now ends text = NoTables (planned_sources job) before now ends text
 
 -- what a status of the command `rows` says before anything is printed
 abbrev pub RowsStand : SourcesOf → ShelfState → ShelfState → Status → List ℕ → Type 0

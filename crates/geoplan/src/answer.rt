@@ -130,12 +130,13 @@ fn tables_of<H: Shelf>(
 
 /// The answer of the command `plan`.
 fn answer_plan<H: Shelf>(alloc: Global, job: &Job<'_>, shelf: &mut H) -> Outcome
-    requires { job.now.sources.redundancy ≤ 999 }
+    requires { job.now.redundancy ≤ 999 }
     ensures { PlanStands (job_view job.now)
         (state_of H.held H.faults H.last_fault H.started shelf.old)
         (state_of H.held H.faults H.last_fault H.started shelf.new) result.status result.text.items }
 {
-    let accepted = match tables_of(alloc, &job.sources, shelf) {
+    let sources = job.planned_sources();
+    let accepted = match tables_of(alloc, &sources, shelf) {
         Ok(accepted) => accepted,
         Err(refusal) => return refusal,
     };
@@ -189,7 +190,7 @@ fn replayed(alloc: Global, tables: &Tables, log: &[u8]) -> Outcome
 
 /// The answer of the command `check`.
 fn answer_check<H: Shelf>(alloc: Global, job: &Job<'_>, shelf: &mut H) -> Outcome
-    requires { job.now.sources.redundancy ≤ 999 }
+    requires { job.now.redundancy ≤ 999 }
     ensures { CheckStands (job_view job.now)
         (state_of H.held H.faults H.last_fault H.started shelf.old)
         (state_of H.held H.faults H.last_fault H.started shelf.new) result.status result.text.items }

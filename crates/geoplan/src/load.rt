@@ -23,13 +23,6 @@ const MOST_BYTES: u64 = 1048576;
 /// The most bytes of a log that is read.
 const MOST_LOG_BYTES: u64 = 268435456;
 
-/// Why a file was not read: the read failed, or memory ran out.
-#[derive(Clone, Copy, Debug, PartialEq, Eq)]
-pub enum ReadFault {
-    Failed,
-    NoMemory,
-}
-
 /// Why the files of a command were not read: one of them could not be, or memory ran out.
 #[derive(Clone, Copy, Debug, PartialEq, Eq)]
 pub enum LoadFault {
@@ -61,14 +54,15 @@ impl Loaded {
 fn read_file<H: Shelf>(
     alloc: Global,
     shelf: &mut H,
+    file: File,
     name: &str,
     most: u64,
-) -> Result<Option<Vec<u8>>, ReadFault>
+) -> Result<Option<Vec<u8>>, LoadFault>
     requires { most ≤ 2 ^ 28 }
     ensures read { IfOk result (λ read. ReadsFile most name.now (option_map (λ bytes. bytes.items) read)
         (state_of H.held H.faults H.last_fault H.started shelf.old)
         (state_of H.held H.faults H.last_fault H.started shelf.new)) }
-    ensures fault { IfErr result (λ why. FailsRead name.now why
+    ensures fault { IfErr result (λ why. FailsRead file name.now why
         (state_of H.held H.faults H.last_fault H.started shelf.old)
         (state_of H.held H.faults H.last_fault H.started shelf.new)) }
 {
@@ -76,8 +70,8 @@ fn read_file<H: Shelf>(
     match shelf.read_whole(name, most, &mut bytes) {
         Ok(()) => Ok(Some(bytes)),
         Err(ReadAnswer::TooLong) => Ok(None),
-        Err(ReadAnswer::Failed) => Err(ReadFault::Failed),
-        Err(ReadAnswer::NoMemory) => Err(ReadFault::NoMemory),
+        Err(ReadAnswer::Failed) => Err(LoadFault::Unread(file)),
+        Err(ReadAnswer::NoMemory) => Err(LoadFault::NoMemory),
     }
 }
 
@@ -87,7 +81,7 @@ fn read_log<H: Shelf>(
     alloc: Global,
     shelf: &mut H,
     log: Option<&str>,
-) -> Result<Option<Vec<u8>>, ReadFault>
+) -> Result<Option<Vec<u8>>, LoadFault>
     ensures read { IfOk result (λ read. ReadsLog (option_map (λ name. name.now) log.entry) (option_map (λ bytes. bytes.items) read)
         (state_of H.held H.faults H.last_fault H.started shelf.old)
         (state_of H.held H.faults H.last_fault H.started shelf.new)) }
@@ -97,7 +91,7 @@ fn read_log<H: Shelf>(
 {
     match log {
         None => Ok(Some(Vec::new(alloc))),
-        Some(name) => read_file(alloc, shelf, name, MOST_LOG_BYTES),
+        Some(name) => read_file(alloc, shelf, File::Log, name, MOST_LOG_BYTES),
     }
 }
 
@@ -165,23 +159,26 @@ pub fn load<H: Shelf>(
         (state_of H.held H.faults H.last_fault H.started shelf.old)
         (state_of H.held H.faults H.last_fault H.started shelf.new)) }
 {
-    let points = match read_file(alloc, shelf, sources.points, MOST_BYTES) {
+    let points = match read_file(alloc, shelf, File::Points, sources.points, MOST_BYTES) {
         Ok(Some(points)) => points,
         Ok(None) => return Ok(Loaded::too_long(alloc, File::Points)),
-        Err(ReadFault::Failed) => return Err(LoadFault::Unread(File::Points)),
-        Err(ReadFault::NoMemory) => return Err(LoadFault::NoMemory),
+        Err(why) => return Err(why),
     };
-    let candidates = match read_file(alloc, shelf, sources.candidates, MOST_BYTES) {
+    let candidates = match read_file(
+        alloc,
+        shelf,
+        File::Candidates,
+        sources.candidates,
+        MOST_BYTES,
+    ) {
         Ok(Some(candidates)) => candidates,
         Ok(None) => return Ok(Loaded::too_long(alloc, File::Candidates)),
-        Err(ReadFault::Failed) => return Err(LoadFault::Unread(File::Candidates)),
-        Err(ReadFault::NoMemory) => return Err(LoadFault::NoMemory),
+        Err(why) => return Err(why),
     };
     let log = match read_log(alloc, shelf, sources.log) {
         Ok(Some(log)) => log,
         Ok(None) => return Ok(Loaded::too_long(alloc, File::Log)),
-        Err(ReadFault::Failed) => return Err(LoadFault::Unread(File::Log)),
-        Err(ReadFault::NoMemory) => return Err(LoadFault::NoMemory),
+        Err(why) => return Err(why),
     };
     match judge(
         alloc,

@@ -9,7 +9,7 @@ returns-in-Ok-solve g c =
     (state_of g.H.Shelf.held g.H.Shelf.faults g.H.Shelf.last_fault g.H.Shelf.started c.args.shelf.now)
     (state_of g.H.Shelf.held g.H.Shelf.faults g.H.Shelf.last_fault g.H.Shelf.started c.tables_of.new.shelf)
     (state_of g.H.Shelf.held g.H.Shelf.faults g.H.Shelf.last_fault g.H.Shelf.started c.solve.new.shelf)
-    c.report.result.status c.report.result.text.items c.in-Ok.ensures.tables c.in-Ok-solve.ensures.solved c.report.ensures
+    c.report.result.status c.report.result.text.items (rw c.planned_sources-sources.ensures at c.in-Ok.ensures.tables) c.in-Ok-solve.ensures.solved c.report.ensures
 
 pub report-requires-clause-answer : goal.report-requires-clause-answer
 report-requires-clause-answer g c =
@@ -24,4 +24,4 @@ returns-in-Err-WriteFault g c =
     (state_of g.H.Shelf.held g.H.Shelf.faults g.H.Shelf.last_fault g.H.Shelf.started c.args.shelf.now)
     (state_of g.H.Shelf.held g.H.Shelf.faults g.H.Shelf.last_fault g.H.Shelf.started c.tables_of.new.shelf)
     (state_of g.H.Shelf.held g.H.Shelf.faults g.H.Shelf.last_fault g.H.Shelf.started c.solve.new.shelf)
-    c.silent.result.status c.silent.result.text.items c.in-Ok.ensures.tables c.in-Err-WriteFault.ensures.fault c.in-Err-WriteFault.field-0-is c.silent.ensures.status c.silent.ensures.text
+    c.silent.result.status c.silent.result.text.items (rw c.planned_sources-sources.ensures at c.in-Ok.ensures.tables) c.in-Err-WriteFault.ensures.fault c.in-Err-WriteFault.field-0-is c.silent.ensures.status c.silent.ensures.text
