@@ -1,5 +1,5 @@
 -- What `check` makes of the log that `plan` left.
-use Rattle.std.proofs.Common.{◌≡◌, ◌⊎◌, inl, inr, ℕ, Bool, true, false, ◌||◌, if◌then◌else◌, List, [], ◌∷◌, refl, sym, ap, ◌∙◌, subst, Option, None, Some, is_some}
+use Rattle.std.proofs.Common.{◌≡◌, ◌≤◌, length, ◌⊎◌, inl, inr, ℕ, Bool, true, false, ◌||◌, if◌then◌else◌, List, [], ◌∷◌, refl, sym, ap, ◌∙◌, subst, Option, None, Some, is_some}
 use Rattle.std.specs.Prelude.{codes, drop}
 use Rattle.std.specs.List.{list_all}
 use Rattle.std.specs.Str.{bytes_eq}
@@ -15,14 +15,13 @@ use Rattle.bound_log.specs.Tree.{tree_lines}
 use Rattle.bound_log.proofs.TreeLemmas.{one_bound}
 use Rattle.log_check.specs.Replayed.{IsReplayed}
 use Rattle.geoplan.specs.Checked.{ChecksWith}
-use Rattle.geoplan.specs.CommandOf.{JobOf, plan_command, check_command, rows_command, is_plain, are_shared, job_of, command_from, command_of}
+use Rattle.geoplan.specs.CommandOf.{SourcesOf, JobOf, plan_command, check_command, rows_command, planned_sources, checked_sources, is_plain, are_shared, job_of, command_from, command_of}
 use Rattle.geoplan.specs.Digits.{whole_of}
-use Rattle.geoplan.specs.Input.{is_long_log, input_from}
+use Rattle.geoplan.specs.Input.{built_input, most_log_bytes, long_log_or, input_of}
 use Rattle.geoplan.specs.Outcomes.{LeavesLog, AcceptsLog}
 use Rattle.geoplan.specs.Promises.{IsCheckStatus, IsStatusOf}
 use Rattle.geoplan.specs.Tables.{TablesOf}
-use Rattle.geoplan.specs.declared.input.Input.TheVariants as input
-use Rattle.geoplan.proofs.InputLemmas.{input_from-other_log, fits_log}
+use Rattle.geoplan.proofs.InputLemmas.{accepted, accepts_tables, fits_log}
 
 -- ---- the names of a job differ
 
@@ -100,16 +99,15 @@ module _ (words : List (List ℕ)) (job : JobOf) (before now : ShelfState) (tabl
       bytes_of-get after files name ((KeepsOthers-with_bytes job.log leaves.log before.held now.held leaves.written).others files after was told name (λ same. apart name job.log differ (sym same)))
 
   -- so with any log that isn't too long the tables are the same
-  tables_stay : (other : Option (List ℕ)) → (files : Files) → before.held ≡ Some files → input_from job.redundancy (bytes_of files job.points) (bytes_of files job.candidates) other ≡ input.Built tables → input_from job.redundancy (bytes_of after job.points) (bytes_of after job.candidates) other ≡ input.Built tables
-  tables_stay other files was is =
+  same_tables : (sources : SourcesOf) → sources.points ≡ job.points → sources.candidates ≡ job.candidates → sources.redundancy ≡ job.redundancy → long_log_or sources.log after (built_input tables) ≡ built_input tables → input_of sources after ≡ built_input tables
+  same_tables sources one two three fit =
       let names = names-of words job planned in
-      rw (stays files was job.points names.points, stays files was job.candidates names.candidates) is
-
-  same_tables : (other : Option (List ℕ)) → is_long_log other ≡ false → input_from job.redundancy (bytes_of after job.points) (bytes_of after job.candidates) other ≡ input.Built tables
-  same_tables other short =
       let was = before_told before.held now.held job.log leaves.log after leaves.written told in
-      tables_stay other was.0 was.1
-      (input_from-other_log job.redundancy _ _ None other tables short (leaves.input was.0 was.1))
+      let is = accepted (planned_sources job) was.0 tables (leaves.input was.0 was.1) in
+      let points = ap (bytes_of after) one ∙ stays was.0 was.1 job.points names.points in
+      let candidates = ap (bytes_of after) two ∙ stays was.0 was.1 job.candidates names.candidates in
+      accepts_tables sources after tables
+      (record { points = rw points is.points; candidates = rw candidates is.candidates; judged = rw (points, candidates, three) is.judged }) fit
 
   -- ---- what check makes of it
 
@@ -117,16 +115,22 @@ module _ (words : List (List ℕ)) (job : JobOf) (before now : ShelfState) (tabl
   has_bound = subst (λ text. HasBound tables.network text bound) (sym (bytes_of-with_bytes before.held now.held job.log leaves.log leaves.written after told)) leaves.shown
 
   -- the text has no fault
-  accepted : (s : ℕ) → IsCheckStatus tables (bytes_of after job.log) s → (s ≡ 0) ⊎ (s ≡ 7)
-  accepted s (inl (is, right)) = inl is
-  accepted s (inr (inl (is, wrong))) = absurd (wrong.no_log has_bound.tree has_bound.log)
-  accepted s (inr (inr is)) = inr is
+  right : (s : ℕ) → IsCheckStatus tables (bytes_of after job.log) s → (s ≡ 0) ⊎ (s ≡ 7)
+  right s (inl (is, log)) = inl is
+  right s (inr (inl (is, wrong))) = absurd (wrong.no_log has_bound.tree has_bound.log)
+  right s (inr (inr is)) = inr is
+
+  -- with a log that isn't too long the same tables are found
+  found : length (bytes_of after job.log) ≤ most_log_bytes → input_of (checked_sources job) after ≡ built_input tables
+  found short = same_tables (checked_sources job) refl refl refl (fits_log job.log after (built_input tables) short)
 
   -- the tables of an accepted log are the same
   found_tables : (at at_now : ShelfState) (text : List ℕ) → at.held ≡ Some after → (accepts : AcceptsLog job at at_now text) → accepts.tables ≡ tables
   found_tables at at_now text holds accepts =
-      let without = input_from-other_log job.redundancy _ _ (Some (bytes_of after job.log)) None accepts.tables refl (accepts.input after holds) in
-      let e : input.Built accepts.tables ≡ input.Built tables = sym without ∙ same_tables None refl in
+      let is = accepted (checked_sources job) after accepts.tables (accepts.input after holds) in
+      let without : input_of (planned_sources job) after ≡ built_input accepts.tables =
+      accepts_tables (planned_sources job) after accepts.tables (record { points = is.points; candidates = is.candidates; judged = is.judged }) refl in
+      let e : built_input accepts.tables ≡ built_input tables = sym without ∙ same_tables (planned_sources job) refl refl refl refl in
       cc
 
   -- .. and so is its bound
@@ -139,8 +143,8 @@ module _ (words : List (List ℕ)) (job : JobOf) (before now : ShelfState) (tabl
   pub checks_with : ChecksWith job tables bound after
   checks_with = record {
     replayed = (record { bound = bound; counts = counts_of (tree_lines has_bound.tree) }, record { tree = has_bound.tree; log = has_bound.log; least = has_bound.least; counted = refl }, refl);
-    checked = λ short. same_tables (Some (bytes_of after job.log)) (fits_log (bytes_of after job.log) short);
+    checked = found;
     status = λ short s complete.
-        accepted s (subst (λ given. IsStatusOf (check_command job) given after s) (same_tables (Some (bytes_of after job.log)) (fits_log (bytes_of after job.log) short)) complete);
+        right s (subst (λ given. IsStatusOf (check_command job) given after s) (found short) complete);
     same_bound = λ at at_now text holds accepts. found_bound at at_now text holds accepts;
   }

@@ -7,15 +7,13 @@ use Rattle.shelf_io.specs.States.{SinkState, ShelfState}
 use Rattle.log_check.proofs.VerdictLemmas.{logs_have_no_fault}
 use Rattle.geoplan.specs.Codes.{code_of, after_failed_put}
 use Rattle.geoplan.specs.CommandOf.{JobOf, CommandOf, plan_command, rows_command, check_command, plain_sources, planned_sources, checked_sources, sources_of, command_of, OnPlan}
-use Rattle.geoplan.specs.Input.{input_of}
+use Rattle.geoplan.specs.Input.{InputOf, too_long_input, refused_input, built_input, input_of}
 use Rattle.geoplan.specs.Outcomes.{AreTables, BeganLog, KeepsOrBegan, AcceptsLog, RefusesLog, RefusesTable, RefusesLength, FailsToRead, HasReport, HasLogFault, HasOutcome, HasText}
 use Rattle.geoplan.specs.Printing.{WritesPrefix, WritesAll}
 use Rattle.geoplan.specs.Promises.{RanOut, IsRightLog, IsWrongLog, IsStatusOf, IsComplete, IsRefusedBy}
 use Rattle.geoplan.specs.Running.{Prints, SaysWords, Answered, Runs}
 use Rattle.geoplan.specs.Standing.{PlanStands, RowsStand, CheckStands, Stands}
 use Rattle.geoplan.specs.Tables.{TablesOf}
-use Rattle.geoplan.specs.declared.input.Input.{Input}
-use Rattle.geoplan.specs.declared.input.Input.TheVariants as input
 use Rattle.geoplan.specs.declared.status.Status.{Status}
 use Rattle.geoplan.specs.declared.status.Status.TheVariants as status
 use Rattle.geoplan.proofs.AnswerLemmas.{stands_for, not_refused}
@@ -145,40 +143,40 @@ ran_out-of words ended before now sink sink_now runs = record {
 -- ---- complete answers
 
 -- want of memory is a status of any input
-memory_status : (command : CommandOf) (given : Input) (files : Files) (code : ℕ) → code ≡ 7 → IsStatusOf command given files code
-memory_status command (input.TooLong which) files code is = inr is
-memory_status command (input.Refused fault) files code is = inr is
-memory_status (plan_command job) (input.Built tables) files code is = inr (inr (inr is))
-memory_status (rows_command points candidates) (input.Built tables) files code is = inr is
-memory_status (check_command job) (input.Built tables) files code is = inr (inr is)
+memory_status : (command : CommandOf) (given : InputOf) (files : Files) (code : ℕ) → code ≡ 7 → IsStatusOf command given files code
+memory_status command (too_long_input name) files code is = inr is
+memory_status command (refused_input fault) files code is = inr is
+memory_status (plan_command job) (built_input tables) files code is = inr (inr (inr is))
+memory_status (rows_command points candidates) (built_input tables) files code is = inr is
+memory_status (check_command job) (built_input tables) files code is = inr (inr is)
 
 -- a status of what the tables give completes them
-completes : (command : CommandOf) (files : Files) (given : Input) (code : ℕ) → input_of (sources_of command) files ≡ given → IsStatusOf command given files code → IsComplete command files code
+completes : (command : CommandOf) (files : Files) (given : InputOf) (code : ℕ) → input_of (sources_of command) files ≡ given → IsStatusOf command given files code → IsComplete command files code
 completes command files given code is status_of = subst (λ g. IsStatusOf command g files code) (sym is) status_of
 
 plan_completes : (job : JobOf) (files : Files) (before now : ShelfState) (begun : Status) (text : List ℕ) → before.held ≡ Some files → (Rose before.faults now.faults → ⊥) → PlanStands job before now begun text → IsComplete (plan_command job) files (code_of begun)
-plan_completes job files before now status.Found text told quiet found = completes (plan_command job) files (input.Built found.tables) 0 (found.leaves.input files told) (inl refl)
-plan_completes job files before now status.NoPlan text told quiet found = completes (plan_command job) files (input.Built found.tables) 1 (found.leaves.input files told) (inr (inl refl))
+plan_completes job files before now status.Found text told quiet found = completes (plan_command job) files (built_input found.tables) 0 (found.leaves.input files told) (inl refl)
+plan_completes job files before now status.NoPlan text told quiet found = completes (plan_command job) files (built_input found.tables) 1 (found.leaves.input files told) (inr (inl refl))
 plan_completes job files before now status.WordsRefused text told quiet never = absurd never
-plan_completes job files before now status.TableRefused text told quiet refused = completes (plan_command job) files (input.Refused refused.fault) 3 (refused.refuses.input files told) (inl refl)
-plan_completes job files before now status.Undecided text told quiet left = completes (plan_command job) files (input.Built left.tables) 4 (left.leaves.input files told) (inr (inr (inl refl)))
+plan_completes job files before now status.TableRefused text told quiet refused = completes (plan_command job) files (refused_input refused.fault) 3 (refused.refuses.input files told) (inl refl)
+plan_completes job files before now status.Undecided text told quiet left = completes (plan_command job) files (built_input left.tables) 4 (left.leaves.input files told) (inr (inr (inl refl)))
 plan_completes job files before now status.ReadFault text told quiet failed = absurd (quiet failed.rose)
 plan_completes job files before now status.WriteFault text told quiet failed = absurd (quiet failed.0.rose)
 plan_completes job files before now status.NoMemory text told quiet out = memory_status (plan_command job) (input_of (planned_sources job) files) files 7 refl
 plan_completes job files before now status.LogRefused text told quiet never = absurd never
-plan_completes job files before now status.FileTooLong text told quiet refused = completes (plan_command job) files (input.TooLong refused.which) 9 (refused.refuses.input files told) (inl refl)
+plan_completes job files before now status.FileTooLong text told quiet refused = completes (plan_command job) files (too_long_input refused.name) 9 (refused.refuses.input files told) (inl refl)
 
 rows_complete : (points candidates : List ℕ) (files : Files) (before now : ShelfState) (begun : Status) (text : List ℕ) → before.held ≡ Some files → (Rose before.faults now.faults → ⊥) → RowsStand (plain_sources points candidates) before now begun text → IsComplete (rows_command points candidates) files (code_of begun)
-rows_complete points candidates files before now status.Found text told quiet listed = completes (rows_command points candidates) files (input.Built listed.tables) 0 (listed.input files told) (inl refl)
+rows_complete points candidates files before now status.Found text told quiet listed = completes (rows_command points candidates) files (built_input listed.tables) 0 (listed.input files told) (inl refl)
 rows_complete points candidates files before now status.NoPlan text told quiet never = absurd never
 rows_complete points candidates files before now status.WordsRefused text told quiet never = absurd never
-rows_complete points candidates files before now status.TableRefused text told quiet refused = completes (rows_command points candidates) files (input.Refused refused.fault) 3 (refused.refuses.input files told) (inl refl)
+rows_complete points candidates files before now status.TableRefused text told quiet refused = completes (rows_command points candidates) files (refused_input refused.fault) 3 (refused.refuses.input files told) (inl refl)
 rows_complete points candidates files before now status.Undecided text told quiet never = absurd never
 rows_complete points candidates files before now status.ReadFault text told quiet failed = absurd (quiet failed.rose)
 rows_complete points candidates files before now status.WriteFault text told quiet never = absurd never
 rows_complete points candidates files before now status.NoMemory text told quiet out = memory_status (rows_command points candidates) (input_of (plain_sources points candidates) files) files 7 refl
 rows_complete points candidates files before now status.LogRefused text told quiet never = absurd never
-rows_complete points candidates files before now status.FileTooLong text told quiet refused = completes (rows_command points candidates) files (input.TooLong refused.which) 9 (refused.refuses.input files told) (inl refl)
+rows_complete points candidates files before now status.FileTooLong text told quiet refused = completes (rows_command points candidates) files (too_long_input refused.name) 9 (refused.refuses.input files told) (inl refl)
 
 -- a text that is accepted has no first fault
 right_log : (job : JobOf) (before now : ShelfState) (text : List ℕ) (files : Files) → before.held ≡ Some files → (accepts : AcceptsLog job before now text) → IsRightLog accepts.tables (bytes_of files job.log)
@@ -200,17 +198,17 @@ wrong_log job before now text files told refuses = record {
 
 check_completes : (job : JobOf) (files : Files) (before now : ShelfState) (begun : Status) (text : List ℕ) → before.held ≡ Some files → (Rose before.faults now.faults → ⊥) → CheckStands job before now begun text → IsComplete (check_command job) files (code_of begun)
 check_completes job files before now status.Found text told quiet accepted =
-    completes (check_command job) files (input.Built accepted.tables) 0 (accepted.input files told) (inl (refl, right_log job before now text files told accepted))
+    completes (check_command job) files (built_input accepted.tables) 0 (accepted.input files told) (inl (refl, right_log job before now text files told accepted))
 check_completes job files before now status.NoPlan text told quiet never = absurd never
 check_completes job files before now status.WordsRefused text told quiet never = absurd never
-check_completes job files before now status.TableRefused text told quiet refused = completes (check_command job) files (input.Refused refused.fault) 3 (refused.refuses.input files told) (inl refl)
+check_completes job files before now status.TableRefused text told quiet refused = completes (check_command job) files (refused_input refused.fault) 3 (refused.refuses.input files told) (inl refl)
 check_completes job files before now status.Undecided text told quiet never = absurd never
 check_completes job files before now status.ReadFault text told quiet failed = absurd (quiet failed.rose)
 check_completes job files before now status.WriteFault text told quiet never = absurd never
 check_completes job files before now status.NoMemory text told quiet out = memory_status (check_command job) (input_of (checked_sources job) files) files 7 refl
 check_completes job files before now status.LogRefused text told quiet refused =
-    completes (check_command job) files (input.Built refused.tables) 8 (refused.input files told) (inr (inl (refl, wrong_log job before now text files told refused)))
-check_completes job files before now status.FileTooLong text told quiet refused = completes (check_command job) files (input.TooLong refused.which) 9 (refused.refuses.input files told) (inl refl)
+    completes (check_command job) files (built_input refused.tables) 8 (refused.input files told) (inr (inl (refl, wrong_log job before now text files told refused)))
+check_completes job files before now status.FileTooLong text told quiet refused = completes (check_command job) files (too_long_input refused.name) 9 (refused.refuses.input files told) (inl refl)
 
 stands_completes : (command : CommandOf) (files : Files) (before now : ShelfState) (begun : Status) (text : List ℕ) → before.held ≡ Some files → (Rose before.faults now.faults → ⊥) → Stands command before now begun text → IsComplete command files (code_of begun)
 stands_completes (plan_command job) files before now begun text told quiet stands = plan_completes job files before now begun text told quiet stands
@@ -255,10 +253,10 @@ ends_as meant begun ended text sink sink_now stays is (inr (inl failed)) = inl (
 ends_as meant begun ended text sink sink_now stays is (inr (inr out)) = inr (ap code_of out.after)
 
 -- a failed read and want of memory may come whatever the files give
-any_given : (given : Input) (code : ℕ) → (code ≡ 5) ⊎ (code ≡ 7) → IsRefusedBy given code
-any_given (input.TooLong which) code is = inr is
-any_given (input.Refused fault) code is = inr is
-any_given (input.Built tables) code is = tt
+any_given : (given : InputOf) (code : ℕ) → (code ≡ 5) ⊎ (code ≡ 7) → IsRefusedBy given code
+any_given (too_long_input name) code is = inr is
+any_given (refused_input fault) code is = inr is
+any_given (built_input tables) code is = tt
 
 -- the refusal's own status, or want of memory
 own_or_memory : (own code : ℕ) → (code ≡ own) ⊎ (code ≡ 7) → (code ≡ own) ⊎ ((code ≡ 5) ⊎ (code ≡ 7))

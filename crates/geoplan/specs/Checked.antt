@@ -5,11 +5,10 @@ use Rattle.bound_log.specs.declared.bound.Bound.{Bound}
 use Rattle.log_check.specs.declared.replaying.Replayed.{Replayed}
 use Rattle.log_check.specs.Replayed.{IsReplayed}
 use Rattle.geoplan.specs.CommandOf.{JobOf, check_command, checked_sources}
-use Rattle.geoplan.specs.Input.{most_log_bytes, input_of}
+use Rattle.geoplan.specs.Input.{built_input, most_log_bytes, input_of}
 use Rattle.geoplan.specs.Outcomes.{AcceptsLog}
 use Rattle.geoplan.specs.Promises.{IsComplete}
 use Rattle.geoplan.specs.Tables.{TablesOf}
-use Rattle.geoplan.specs.declared.input.Input.TheVariants as input
 
 -- What `check` makes of the files that `plan` left. This project's own.
 
@@ -18,6 +17,6 @@ use Rattle.geoplan.specs.declared.input.Input.TheVariants as input
 -- accepts the log, it is with this bound.
 pub record ChecksWith (job : JobOf) (tables : TablesOf) (bound : Bound) (after : Files) : Type 0 where
   pub replayed : (done : Replayed) × IsReplayed tables.network (bytes_of after job.log) done × (done.bound ≡ bound)
-  pub checked : length (bytes_of after job.log) ≤ most_log_bytes → input_of (checked_sources job) after ≡ input.Built tables
+  pub checked : length (bytes_of after job.log) ≤ most_log_bytes → input_of (checked_sources job) after ≡ built_input tables
   pub status : length (bytes_of after job.log) ≤ most_log_bytes → (s : ℕ) → IsComplete (check_command job) after s → (s ≡ 0) ⊎ (s ≡ 7)
   pub same_bound : (before now : ShelfState) (text : List ℕ) → before.held ≡ Some after → (accepts : AcceptsLog job before now text) → accepts.done.bound ≡ bound

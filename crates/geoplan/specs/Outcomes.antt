@@ -19,19 +19,16 @@ use Rattle.log_check.specs.declared.replaying.Replayed.{Replayed}
 use Rattle.log_check.specs.FirstFault.{IsFirstFault}
 use Rattle.log_check.specs.Replayed.{IsReplayed}
 use Rattle.geoplan.specs.CommandOf.{SourcesOf, JobOf, CommandOf, plan_command, rows_command, check_command, plain_sources, planned_sources, checked_sources, sources_of, command_of, OnCommand}
-use Rattle.geoplan.specs.Input.{input_of, name_of}
+use Rattle.geoplan.specs.Input.{InputOf, too_long_input, refused_input, built_input, input_of}
 use Rattle.geoplan.specs.Tables.{TablesOf}
 use Rattle.geoplan.specs.Texts.{words_text, cannot_read_text, too_long_text, table_text, tables_plan_text, no_plan_text, tables_undecided_text, tables_rows_text, checked_text, log_fault_text}
-use Rattle.geoplan.specs.declared.input.Input.{Input}
-use Rattle.geoplan.specs.declared.input.Input.TheVariants as input
-use Rattle.geoplan.specs.declared.input.File.{File}
 
 -- The outcomes of a command: what the shelf holds before and now, and the text that is meant to be printed. Each is stated
 -- once; how much of its text was printed is said beside it. This project's own.
 
 -- the tables are those that the shelf holds, where it tells
 abbrev pub AreTables : SourcesOf → Option Files → TablesOf → Type 0
-AreTables sources held tables = ForSome held (λ files. input_of sources files ≡ input.Built tables)
+AreTables sources held tables = ForSome held (λ files. input_of sources files ≡ built_input tables)
 
 -- the shelf counted no fault
 abbrev pub IsQuiet : ShelfState → ShelfState → Type 0
@@ -124,7 +121,7 @@ pub record RefusesWords (words : List (List ℕ)) (before now : ShelfState) (tex
   pub printed : text ≡ words_text
 
 -- the files give this, where the shelf tells it, and it holds what it held
-pub record Refuses (sources : SourcesOf) (given : Input) (before now : ShelfState) : Type 0 where
+pub record Refuses (sources : SourcesOf) (given : InputOf) (before now : ShelfState) : Type 0 where
   pub input : ForSome before.held (λ files. input_of sources files ≡ given)
   pub held : now.held ≡ before.held
   pub quiet : IsQuiet before now
@@ -132,14 +129,14 @@ pub record Refuses (sources : SourcesOf) (given : Input) (before now : ShelfStat
 -- a table, or the network of both, has a fault, and this is the first one
 pub record RefusesTable (sources : SourcesOf) (before now : ShelfState) (text : List ℕ) : Type 0 where
   pub fault : TableFault
-  pub refuses : Refuses sources (input.Refused fault) before now
+  pub refuses : Refuses sources (refused_input fault) before now
   pub printed : text ≡ table_text fault
 
 -- a file is too long, and this is the first one in the order of reading
 pub record RefusesLength (sources : SourcesOf) (before now : ShelfState) (text : List ℕ) : Type 0 where
-  pub which : File
-  pub refuses : Refuses sources (input.TooLong which) before now
-  pub printed : text ≡ too_long_text (name_of sources which)
+  pub name : List ℕ
+  pub refuses : Refuses sources (too_long_input name) before now
+  pub printed : text ≡ too_long_text name
 
 -- ---- faults of the shelf in this call
 

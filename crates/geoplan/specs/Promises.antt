@@ -10,12 +10,10 @@ use Rattle.log_check.specs.declared.replaying.Replayed.{Replayed}
 use Rattle.log_check.specs.FirstFault.{IsFirstFault}
 use Rattle.log_check.specs.Replayed.{IsReplayed}
 use Rattle.geoplan.specs.CommandOf.{CommandOf, plan_command, rows_command, check_command, sources_of, written_by, OnPlan}
-use Rattle.geoplan.specs.Input.{input_of}
+use Rattle.geoplan.specs.Input.{InputOf, too_long_input, refused_input, built_input, input_of}
 use Rattle.geoplan.specs.Outcomes.{BeganLog, FailsToWrite, HasReport, HasText}
 use Rattle.geoplan.specs.Printing.{WritesPrefix, FailsToPut}
 use Rattle.geoplan.specs.Tables.{TablesOf}
-use Rattle.geoplan.specs.declared.input.Input.{Input}
-use Rattle.geoplan.specs.declared.input.Input.TheVariants as input
 
 -- What the top call promises besides the outcomes. This project's own.
 
@@ -76,10 +74,10 @@ IsAnswerStatus (rows_command points candidates) tables files status = (status �
 IsAnswerStatus (check_command job) tables files status = IsCheckStatus tables (bytes_of files job.log) status
 
 -- the status that the files give, or want of memory
-abbrev pub IsStatusOf : CommandOf → Input → Files → ℕ → Type 0
-IsStatusOf command (input.TooLong which) files status = (status ≡ 9) ⊎ (status ≡ 7)
-IsStatusOf command (input.Refused fault) files status = (status ≡ 3) ⊎ (status ≡ 7)
-IsStatusOf command (input.Built tables) files status = IsAnswerStatus command tables files status
+abbrev pub IsStatusOf : CommandOf → InputOf → Files → ℕ → Type 0
+IsStatusOf command (too_long_input name) files status = (status ≡ 9) ⊎ (status ≡ 7)
+IsStatusOf command (refused_input fault) files status = (status ≡ 3) ⊎ (status ≡ 7)
+IsStatusOf command (built_input tables) files status = IsAnswerStatus command tables files status
 
 -- the status of accepted words where no fault was counted: by what the files give
 abbrev pub IsComplete : CommandOf → Files → ℕ → Type 0
@@ -87,7 +85,7 @@ IsComplete command files status = IsStatusOf command (input_of (sources_of comma
 
 -- the status of accepted words whatever faults were counted: a file that is too long or a table with a fault is refused,
 -- but for a failed read and want of memory
-abbrev pub IsRefusedBy : Input → ℕ → Type 0
-IsRefusedBy (input.TooLong which) status = (status ≡ 9) ⊎ ((status ≡ 5) ⊎ (status ≡ 7))
-IsRefusedBy (input.Refused fault) status = (status ≡ 3) ⊎ ((status ≡ 5) ⊎ (status ≡ 7))
-IsRefusedBy (input.Built tables) status = Unit {0}
+abbrev pub IsRefusedBy : InputOf → ℕ → Type 0
+IsRefusedBy (too_long_input name) status = (status ≡ 9) ⊎ ((status ≡ 5) ⊎ (status ≡ 7))
+IsRefusedBy (refused_input fault) status = (status ≡ 3) ⊎ ((status ≡ 5) ⊎ (status ≡ 7))
+IsRefusedBy (built_input tables) status = Unit {0}

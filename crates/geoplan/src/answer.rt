@@ -115,13 +115,13 @@ fn tables_of<H: Shelf>(
                 let text = table_refusal(alloc, fault);
                 Err(Outcome::made(alloc, Status::TableRefused, text))
             }
-            Input::TooLong(file) => {
-                let text = too_long_refusal(alloc, sources.name_of(file));
-                Err(Outcome::made(alloc, Status::FileTooLong, text))
-            }
         },
-        Err(LoadFault::Unread(file)) => {
-            let text = unread_refusal(alloc, sources.name_of(file));
+        Err(LoadFault::TooLong(name)) => {
+            let text = too_long_refusal(alloc, name);
+            Err(Outcome::made(alloc, Status::FileTooLong, text))
+        }
+        Err(LoadFault::Unread(name)) => {
+            let text = unread_refusal(alloc, name);
             Err(Outcome::made(alloc, Status::ReadFault, text))
         }
         Err(LoadFault::NoMemory) => Err(Outcome::silent(alloc, Status::NoMemory)),

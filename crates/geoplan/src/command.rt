@@ -2,10 +2,8 @@ ghost use Rattle.std.specs.Prelude.{◌≡◌, ◌≤◌, length, option_map, dr
 ghost use Rattle.std.specs.List.{list_all};
 ghost use Rattle.geoplan.specs.CommandOf.{is_plain, job_of, command_from, command_of, sources_of, planned_sources, checked_sources};
 ghost use Rattle.geoplan.specs.CommandView.{sources_view, job_view, command_view};
-ghost use Rattle.geoplan.specs.Input.{log_name, name_of};
 
 use crate::digits::whole;
-use crate::input::File;
 use crate::words::Words;
 
 /// What a command reads: its two tables, by their names, and the redundancy that is asked of their
@@ -16,29 +14,6 @@ pub struct Sources<'a> {
     pub candidates: &'a str,
     pub redundancy: u32,
     pub log: Option<&'a str>,
-}
-
-impl<'a> Sources<'a> {
-    /// The name of a file that the command reads.
-    pub fn name_of(&self, file: File) -> &'a str
-        ensures { result.now ≡ name_of (sources_view self.now) file }
-    {
-        match file {
-            File::Points => self.points,
-            File::Candidates => self.candidates,
-            File::Log => log_name(self.log),
-        }
-    }
-}
-
-/// The name of a log, no bytes where none is read.
-fn log_name(log: Option<&str>) -> &str
-    ensures { result.now ≡ log_name (option_map (λ name. name.now) log.entry) }
-{
-    match log {
-        Some(name) => name,
-        None => "",
-    }
 }
 
 /// What the commands `plan` and `check` are asked for: their tables, the redundancy in thousandths,
