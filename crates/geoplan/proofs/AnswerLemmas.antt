@@ -2,7 +2,7 @@
 use Rattle.std.proofs.Common.{◌≡◌, ◌⊎◌, inl, inr, ℕ, List, sym, ◌∙◌, subst, None, Some}
 use Rattle.shelf_io.specs.States.{ShelfState}
 use Rattle.geoplan.specs.CommandOf.{JobOf, CommandOf, plan_command, rows_command, check_command, plain_sources, command_of, OnCommand, OnPlan, OnCheck}
-use Rattle.geoplan.specs.Printing.{SaysWords, Answered}
+use Rattle.geoplan.specs.Running.{SaysWords, Answered}
 use Rattle.geoplan.specs.Standing.{PlanStands, RowsStand, CheckStands, Stands}
 use Rattle.geoplan.specs.declared.status.Status.{Status}
 use Rattle.geoplan.specs.declared.status.Status.TheVariants as status

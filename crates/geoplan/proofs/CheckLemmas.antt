@@ -1,32 +1,34 @@
 -- What `check` makes of the log that `plan` left.
-use Rattle.std.proofs.Common.{◌≡◌, ℕ, Bool, true, false, ◌||◌, if◌then◌else◌, List, [], ◌∷◌, refl, sym, ap, ◌∙◌, subst, Option, None, Some}
+use Rattle.std.proofs.Common.{◌≡◌, ◌≤◌, length, ◌⊎◌, inl, inr, ℕ, Bool, true, false, ◌||◌, if◌then◌else◌, List, [], ◌∷◌, refl, sym, ap, ◌∙◌, subst, Option, None, Some, is_some}
 use Rattle.std.specs.Prelude.{codes, drop}
 use Rattle.std.specs.List.{list_all}
 use Rattle.std.specs.Str.{bytes_eq}
 use Rattle.std.specs.Option.{option_map}
 use Rattle.std.proofs.lemmas.Slice.Eq.{bytes_eq-Decides}
-use Rattle.shelf_io.specs.Files.{Files, bytes_of}
-use Rattle.shelf_io.proofs.FileLaws.{bytes_of-get}
-use Rattle.geo_model.specs.Network.{IsNetwork}
+use Rattle.shelf_io.specs.Files.{Files, bytes_of, with_bytes}
+use Rattle.shelf_io.specs.States.{ShelfState}
+use Rattle.shelf_io.proofs.FileLaws.{bytes_of-get, bytes_of-with_bytes, is_some-with_bytes, KeepsOthers-with_bytes}
 use Rattle.bound_log.specs.declared.bound.Bound.{Bound}
+use Rattle.bound_log.specs.Counted.{counts_of}
 use Rattle.bound_log.specs.LogTree.{HasBound}
+use Rattle.bound_log.specs.Tree.{tree_lines}
 use Rattle.bound_log.proofs.TreeLemmas.{one_bound}
-use Rattle.log_check.proofs.VerdictLemmas.{logs_have_no_fault}
-use Rattle.geoplan.specs.Checked.{IsPlanned, ChecksWith}
-use Rattle.geoplan.specs.CommandOf.{JobOf, plan_command, check_command, rows_command, is_plain, are_shared, job_of, command_from, command_of, name_written}
+use Rattle.log_check.specs.Replayed.{IsReplayed}
+use Rattle.geoplan.specs.Checked.{ChecksWith}
+use Rattle.geoplan.specs.CommandOf.{SourcesOf, JobOf, plan_command, check_command, rows_command, planned_sources, checked_sources, is_plain, are_shared, job_of, command_from, command_of}
 use Rattle.geoplan.specs.Digits.{whole_of}
-use Rattle.geoplan.specs.Input.{input_from, input_of}
+use Rattle.geoplan.specs.Input.{built_input, most_log_bytes, long_log_or, input_of}
+use Rattle.geoplan.specs.Outcomes.{LeavesLog, AcceptsLog}
+use Rattle.geoplan.specs.Promises.{IsCheckStatus, IsStatusOf}
 use Rattle.geoplan.specs.Tables.{TablesOf}
-use Rattle.geoplan.specs.declared.input.Input.TheVariants as input
-use Rattle.geoplan.proofs.InputLemmas.{input_from-other_log, fits_log}
+use Rattle.geoplan.proofs.InputLemmas.{accepted, accepts_tables, fits_log}
 
 -- ---- the names of a job differ
 
--- the tables of a job have other names than its log, and it reads no log
+-- the tables of a job have other names than its log
 record HasNames (job : JobOf) : Type 0 where
-  points : bytes_eq job.sources.points job.log ≡ false
-  candidates : bytes_eq job.sources.candidates job.log ≡ false
-  unread : job.sources.log ≡ None
+  points : bytes_eq job.points job.log ≡ false
+  candidates : bytes_eq job.candidates job.log ≡ false
 
 either_false : (a b c : Bool) → (a || (b || c)) ≡ false → (b ≡ false) × (c ≡ false)
 either_false true b c is = absurd (cc)
@@ -34,12 +36,12 @@ either_false false true c is = absurd (cc)
 either_false false false c is = (refl, is)
 
 abbrev made : List ℕ → List ℕ → List ℕ → ℕ → JobOf
-made points candidates log q = record { sources = record { points = points; candidates = candidates; redundancy = q; log = None }; log = log }
+made points candidates log q = record { points = points; candidates = candidates; redundancy = q; log = log }
 
 made_names : (points candidates log : List ℕ) (q : ℕ) → are_shared points candidates log ≡ false → HasNames (made points candidates log q)
 made_names points candidates log q apart =
     let both = either_false (bytes_eq points candidates) (bytes_eq points log) (bytes_eq candidates log) apart in
-    record { points = both.0; candidates = both.1; unread = refl }
+    record { points = both.0; candidates = both.1 }
 
 named_by : (points candidates log : List ℕ) (shared : Bool) (q : Option ℕ) (job : JobOf) → are_shared points candidates log ≡ shared → (if shared then None else option_map (made points candidates log) q) ≡ Some job → HasNames job
 named_by points candidates log true q job apart is = absurd (cc)
@@ -85,28 +87,64 @@ names-of words job is = of_by (list_all is_plain (drop 1 words)) words job is
 apart : (name log : List ℕ) → bytes_eq name log ≡ false → log ≡ name → ⊥
 apart name log differ same = let passes : bytes_eq name log ≡ true = (bytes_eq-Decides name log).1 (sym same) in let e : true ≡ false = sym passes ∙ differ in cc
 
--- a name other than the log's holds what it held
-stays : (job : JobOf) (files after : Files) (planned : IsPlanned job files after) (name : List ℕ) → bytes_eq name job.log ≡ false → bytes_of after name ≡ bytes_of files name
-stays job files after planned name differ =
-    bytes_of-get after files name (planned.others name (λ is. apart name job.log differ (let e : Some job.log ≡ Some name = sym (ap name_written planned.command) ∙ is in cc)))
+-- where the shelf tells what it holds now, it told it before
+before_told : (held now : Option Files) (name bytes : List ℕ) (after : Files) → now ≡ with_bytes held name bytes → now ≡ Some after → (files : Files) × (held ≡ Some files)
+before_told None now name bytes after written told = absurd (let e : true ≡ false = ap is_some (sym told ∙ written) ∙ is_some-with_bytes None name bytes in cc)
+before_told (Some files) now name bytes after written told = (files, refl)
 
--- the tables and the network of a job without a log, over files that agree on the tables
-tables_stay : (job : JobOf) (files after : Files) (tables : TablesOf) → IsPlanned job files after → (other : Option (List ℕ)) → (input_from job.sources.redundancy (bytes_of files job.sources.points) (bytes_of files job.sources.candidates) other ≡ input.Built tables) → input_from job.sources.redundancy (bytes_of after job.sources.points) (bytes_of after job.sources.candidates) other ≡ input.Built tables
-tables_stay job files after tables planned other is =
-    let names = names-of planned.words job planned.command in
-    rw (stays job files after planned job.sources.points names.points, stays job files after planned job.sources.candidates names.candidates) is
+module _ (words : List (List ℕ)) (job : JobOf) (before now : ShelfState) (tables : TablesOf) (bound : Bound) (planned : command_of words ≡ Some (plan_command job)) (leaves : LeavesLog job before now tables bound) (after : Files) (told : now.held ≡ Some after) where
+  -- a name other than the log's holds what it held
+  stays : (files : Files) → before.held ≡ Some files → (name : List ℕ) → bytes_eq name job.log ≡ false → bytes_of after name ≡ bytes_of files name
+  stays files was name differ =
+      bytes_of-get after files name ((KeepsOthers-with_bytes job.log leaves.log before.held now.held leaves.written).others files after was told name (λ same. apart name job.log differ (sym same)))
 
--- ---- what check makes of it
+  -- so with any log that isn't too long the tables are the same
+  same_tables : (sources : SourcesOf) → sources.points ≡ job.points → sources.candidates ≡ job.candidates → sources.redundancy ≡ job.redundancy → long_log_or sources.log after (built_input tables) ≡ built_input tables → input_of sources after ≡ built_input tables
+  same_tables sources one two three fit =
+      let names = names-of words job planned in
+      let was = before_told before.held now.held job.log leaves.log after leaves.written told in
+      let is = accepted (planned_sources job) was.0 tables (leaves.input was.0 was.1) in
+      let points = ap (bytes_of after) one ∙ stays was.0 was.1 job.points names.points in
+      let candidates = ap (bytes_of after) two ∙ stays was.0 was.1 job.candidates names.candidates in
+      accepts_tables sources after tables
+      (record { points = rw points is.points; candidates = rw candidates is.candidates; judged = rw (points, candidates, three) is.judged }) fit
 
-pub checks_with : (job : JobOf) (files after : Files) (tables : TablesOf) (bound : Bound) → IsPlanned job files after → input_of job.sources files ≡ input.Built tables → IsNetwork tables.network → HasBound tables.network (bytes_of after job.log) bound → ChecksWith job after tables bound
-checks_with job files after tables bound planned built network has =
-    let names = names-of planned.words job planned.command in
-    record {
-      accepted = tables_stay job files after tables planned (option_map (bytes_of after) job.sources.log)
-          (input_from-other_log job.sources.redundancy _ _ (option_map (bytes_of files) job.sources.log) (option_map (bytes_of after) job.sources.log) tables
-          (rw names.unread refl) built);
-      checked = λ short. tables_stay job files after tables planned (Some (bytes_of after job.log))
-          (input_from-other_log job.sources.redundancy _ _ (option_map (bytes_of files) job.sources.log) (Some (bytes_of after job.log)) tables (fits_log (bytes_of after job.log) short) built);
-      faultless = λ fault first. logs_have_no_fault tables.network (bytes_of after job.log) has.tree fault network has.log first;
-      replayed = λ done is. one_bound tables.network (bytes_of after job.log) done.bound bound network (record { tree = is.tree; log = is.log; least = is.least }) has;
-    }
+  -- ---- what check makes of it
+
+  has_bound : HasBound tables.network (bytes_of after job.log) bound
+  has_bound = subst (λ text. HasBound tables.network text bound) (sym (bytes_of-with_bytes before.held now.held job.log leaves.log leaves.written after told)) leaves.shown
+
+  -- the text has no fault
+  right : (s : ℕ) → IsCheckStatus tables (bytes_of after job.log) s → (s ≡ 0) ⊎ (s ≡ 7)
+  right s (inl (is, log)) = inl is
+  right s (inr (inl (is, wrong))) = absurd (wrong.no_log has_bound.tree has_bound.log)
+  right s (inr (inr is)) = inr is
+
+  -- with a log that isn't too long the same tables are found
+  found : length (bytes_of after job.log) ≤ most_log_bytes → input_of (checked_sources job) after ≡ built_input tables
+  found short = same_tables (checked_sources job) refl refl refl (fits_log job.log after (built_input tables) short)
+
+  -- the tables of an accepted log are the same
+  found_tables : (at at_now : ShelfState) (text : List ℕ) → at.held ≡ Some after → (accepts : AcceptsLog job at at_now text) → accepts.tables ≡ tables
+  found_tables at at_now text holds accepts =
+      let is = accepted (checked_sources job) after accepts.tables (accepts.input after holds) in
+      let without : input_of (planned_sources job) after ≡ built_input accepts.tables =
+      accepts_tables (planned_sources job) after accepts.tables (record { points = is.points; candidates = is.candidates; judged = is.judged }) refl in
+      let e : built_input accepts.tables ≡ built_input tables = sym without ∙ same_tables (planned_sources job) refl refl refl refl in
+      cc
+
+  -- .. and so is its bound
+  found_bound : (at at_now : ShelfState) (text : List ℕ) → at.held ≡ Some after → (accepts : AcceptsLog job at at_now text) → accepts.done.bound ≡ bound
+  found_bound at at_now text holds accepts =
+      let is : IsReplayed tables.network (bytes_of after job.log) accepts.done =
+      subst (λ (t : TablesOf). IsReplayed t.network (bytes_of after job.log) accepts.done) (found_tables at at_now text holds accepts) (accepts.replayed after holds) in
+      one_bound tables.network (bytes_of after job.log) accepts.done.bound bound leaves.network (record { tree = is.tree; log = is.log; least = is.least }) has_bound
+
+  pub checks_with : ChecksWith job tables bound after
+  checks_with = record {
+    replayed = (record { bound = bound; counts = counts_of (tree_lines has_bound.tree) }, record { tree = has_bound.tree; log = has_bound.log; least = has_bound.least; counted = refl }, refl);
+    checked = found;
+    status = λ short s complete.
+        right s (subst (λ given. IsStatusOf (check_command job) given after s) (found short) complete);
+    same_bound = λ at at_now text holds accepts. found_bound at at_now text holds accepts;
+  }

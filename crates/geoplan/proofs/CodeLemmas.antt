@@ -3,8 +3,8 @@ use Rattle.std.proofs.Common.{◌≡◌, inl, inr, ℕ, if◌then◌else◌, Lis
 use Rattle.std.specs.Prelude.{◌==◌}
 use Rattle.geoplan.specs.Codes.{code_of, after_failed_put}
 use Rattle.shelf_io.specs.States.{SinkState}
-use Rattle.geoplan.specs.Printing.{WritesAll, Prints}
-use Rattle.geoplan.specs.Promises.{Says}
+use Rattle.geoplan.specs.Printing.{WritesAll, IsSaid}
+use Rattle.geoplan.specs.Running.{Prints}
 use Rattle.geoplan.specs.declared.status.Status.{Status}
 use Rattle.geoplan.specs.declared.status.Status.TheVariants as status
 
@@ -51,9 +51,9 @@ kept status.LogRefused target is other = is
 kept status.FileTooLong target is other = is
 
 -- how a status other than of a fault was printed
-pub says-of : (target begun ended : Status) (text : List ℕ) (sink sink_now : SinkState) → (target ≡ status.WriteFault → ⊥) → (target ≡ status.NoMemory → ⊥) → ended ≡ target → Prints begun text ended sink sink_now → (begun ≡ target) × Says text sink sink_now
+pub says-of : (target begun ended : Status) (text : List ℕ) (sink sink_now : SinkState) → (target ≡ status.WriteFault → ⊥) → (target ≡ status.NoMemory → ⊥) → ended ≡ target → Prints begun text ended sink sink_now → (begun ≡ target) × IsSaid text sink sink_now
 says-of target begun ended text sink sink_now no_fault enough is (inl printed) = (sym printed.same ∙ is, inl printed.all)
-says-of target begun ended text sink sink_now no_fault enough is (inr (inl failed)) = (kept begun target (sym failed.after ∙ is) no_fault, inr (failed.rose, failed.begins))
+says-of target begun ended text sink sink_now no_fault enough is (inr (inl failed)) = (kept begun target (sym failed.after ∙ is) no_fault, inr failed.cut)
 says-of target begun ended text sink sink_now no_fault enough is (inr (inr out)) = absurd (enough (sym is ∙ out.after))
 
 -- how the status of a report was printed: whole

@@ -1,23 +1,22 @@
 -- How the clauses on failed writes and on what stays follow from a run.
-use Rattle.std.proofs.Common.{◌≡◌, ◌⊎◌, inl, inr, ℕ, List, [], ◌∷◌, ◌++◌, refl, sym, ap, ◌∙◌, subst, Option, None, Some, is_some}
+use Rattle.std.proofs.Common.{◌≡◌, ◌⊎◌, inl, inr, ℕ, List, [], ◌∷◌, ◌++◌, refl, sym, ap, ◌∙◌, Option, None, Some, is_some}
 use Rattle.std.specs.FinMap.{get}
 use Rattle.shelf_io.specs.Files.{Files, with_bytes}
-use Rattle.shelf_io.specs.Faults.{Rose}
 use Rattle.shelf_io.specs.Written.{with_written}
 use Rattle.shelf_io.proofs.FileLaws.{is_some-with_bytes, KeepsOthers-with_bytes}
 use Rattle.shelf_io.proofs.WrittenLaws.{with_written-nothing, is_some-with_written}
-use Rattle.bound_log.specs.LogText.{log_text}
 use Rattle.shelf_io.specs.States.{SinkState, ShelfState}
 use Rattle.geoplan.specs.Codes.{code_of, after_failed_put}
-use Rattle.geoplan.specs.CommandOf.{SourcesOf, JobOf, plan_command, rows_command, check_command, plain_sources, command_of, name_written, written_by, OnCommand, OnPlan}
-use Rattle.geoplan.specs.Printing.{WritesPrefix, WritesAll, Prints, Answered, Runs}
-use Rattle.geoplan.specs.Promises.{WhereHeld, PrintFails, ListFails, CheckFails, IsUnwritten, OthersStay}
-use Rattle.geoplan.specs.Standing.{KeepsOrBegan, FindsPlan, FindsNone, LeavesOpen, ListsRows, AcceptsLog, PlanStands, RowsStand, CheckStands, Stands}
+use Rattle.geoplan.specs.CommandOf.{SourcesOf, JobOf, CommandOf, plan_command, rows_command, check_command, plain_sources, command_of, name_written, written_by, OnCommand, OnPlan}
+use Rattle.geoplan.specs.Outcomes.{KeepsOrBegan, HasReport}
+use Rattle.geoplan.specs.Printing.{WritesPrefix, WritesAll, IsCutShort}
+use Rattle.geoplan.specs.Promises.{WhereHeld, IsUnwritten, OthersStay}
+use Rattle.geoplan.specs.Running.{Prints, Answered, Runs}
+use Rattle.geoplan.specs.Standing.{PlanStands, RowsStand, CheckStands, Stands}
 use Rattle.geoplan.specs.declared.status.Status.{Status}
 use Rattle.geoplan.specs.declared.status.Status.TheVariants as status
 use Rattle.geoplan.proofs.AnswerLemmas.{by_command}
 use Rattle.geoplan.proofs.CodeLemmas.{from_code}
-use Rattle.geoplan.proofs.TopLemmas.{HoldsPlan-of, HoldsNone-of, HoldsUndecided-of}
 
 -- ---- what is printed
 
@@ -36,7 +35,7 @@ silent_all text sink sink_now none all = all.written ∙ ap (with_written sink.w
 -- whatever is printed, whether it is told stays
 pub out_told-of : (begun ended : Status) (text : List ℕ) (sink sink_now : SinkState) → Prints begun text ended sink sink_now → is_some sink_now.written ≡ is_some sink.written
 out_told-of begun ended text sink sink_now (inl printed) = ap is_some printed.all.written ∙ is_some-with_written sink.written text
-out_told-of begun ended text sink sink_now (inr (inl failed)) = ap is_some failed.begins.written ∙ is_some-with_written sink.written failed.begins.piece
+out_told-of begun ended text sink sink_now (inr (inl failed)) = ap is_some failed.cut.1.written ∙ is_some-with_written sink.written failed.cut.1.piece
 out_told-of begun ended text sink sink_now (inr (inr out)) = ap is_some out.begins.written ∙ is_some-with_written sink.written out.begins.piece
 
 -- ---- what the shelf holds
@@ -50,13 +49,13 @@ began_piece job before now (inl same) = inl same
 began_piece job before now (inr began) = inr (began.piece, began.written)
 
 plan_held : (job : JobOf) (before now : ShelfState) (begun : Status) (text : List ℕ) → PlanStands job before now begun text → HeldOrPiece job.log before.held now.held
-plan_held job before now status.Found text found = inr (log_text found.tree, found.log.written)
-plan_held job before now status.NoPlan text found = inr (log_text found.tree, found.log.written)
+plan_held job before now status.Found text found = inr (found.leaves.log, found.leaves.written)
+plan_held job before now status.NoPlan text found = inr (found.leaves.log, found.leaves.written)
 plan_held job before now status.WordsRefused text never = absurd never
 plan_held job before now status.TableRefused text refused = inl refused.refuses.held
-plan_held job before now status.Undecided text left = inr (log_text left.tree, left.log.written)
+plan_held job before now status.Undecided text left = inr (left.leaves.log, left.leaves.written)
 plan_held job before now status.ReadFault text unread = inl unread.held
-plan_held job before now status.WriteFault text unwritten = began_piece job before.held now.held unwritten.held
+plan_held job before now status.WriteFault text unwritten = began_piece job before.held now.held unwritten.0.held
 plan_held job before now status.NoMemory text out = began_piece job before.held now.held out.held
 plan_held job before now status.LogRefused text never = absurd never
 plan_held job before now status.FileTooLong text refused = inl refused.refuses.held
@@ -129,97 +128,50 @@ module _ (words : List (List ℕ)) (ended : Status) (before now : ShelfState) (s
   -- ---- status 6
 
   log_fails : (text : List ℕ) → (text ≡ [] → sink_now.written ≡ sink.written) → OnCommand words (λ command. Stands command before now status.WriteFault text) → OnCommand words (λ command. IsUnwritten command before now sink sink_now)
-  log_fails text silent (plan_command job, of, unwritten) = (
-    plan_command job,
-    of,
-    inl (record { rose = unwritten.rose; last = unwritten.last; held = unwritten.held; silent = silent unwritten.printed }),
-  )
+  log_fails text silent (plan_command job, of, unwritten) = (plan_command job, of, inl (unwritten.0, silent unwritten.1))
   log_fails text silent (rows_command points candidates, of, never) = absurd never
   log_fails text silent (check_command job, of, never) = absurd never
 
-  plan_fails : (job : JobOf) (text : List ℕ) → Rose sink.faults sink_now.faults → WritesPrefix text sink sink_now → FindsPlan job before now text → PrintFails job before now sink sink_now
-  plan_fails job text rose began found = record {
-    text = text;
-    rose = rose;
-    quiet = found.log.quiet;
-    stands = λ files after told told_now. inl (found.tables, found.plan, HoldsPlan-of job before now text files after told told_now found, found.printed);
-    began = began;
-  }
+  -- the report of a command, by its status
+  found_report : (command : CommandOf) (text : List ℕ) → Stands command before now status.Found text → HasReport command before now text
+  found_report (plan_command job) text found = inl found
+  found_report (rows_command points candidates) text listed = listed
+  found_report (check_command job) text accepted = accepted
 
-  none_fails : (job : JobOf) (text : List ℕ) → Rose sink.faults sink_now.faults → WritesPrefix text sink sink_now → FindsNone job before now text → PrintFails job before now sink sink_now
-  none_fails job text rose began found = record {
-    text = text;
-    rose = rose;
-    quiet = found.log.quiet;
-    stands = λ files after told told_now. inr (inl (found.tables, HoldsNone-of job before now text files after told told_now found, found.printed));
-    began = began;
-  }
+  none_report : (command : CommandOf) (text : List ℕ) → Stands command before now status.NoPlan text → HasReport command before now text
+  none_report (plan_command job) text found = inr (inl found)
+  none_report (rows_command points candidates) text never = absurd never
+  none_report (check_command job) text never = absurd never
 
-  open_fails : (job : JobOf) (text : List ℕ) → Rose sink.faults sink_now.faults → WritesPrefix text sink sink_now → LeavesOpen job before now text → PrintFails job before now sink sink_now
-  unfolding HoldsUndecided-of
-  open_fails job text rose began left = record {
-    text = text;
-    rose = rose;
-    quiet = left.log.quiet;
-    stands = λ files after told told_now. inr (inr (left.tables, left.plan, left.number, left.step, left.lo, left.hi, HoldsUndecided-of job before now text files after told told_now left, left.printed));
-    began = began;
-  }
+  open_report : (command : CommandOf) (text : List ℕ) → Stands command before now status.Undecided text → HasReport command before now text
+  open_report (plan_command job) text left = inr (inr left)
+  open_report (rows_command points candidates) text never = absurd never
+  open_report (check_command job) text never = absurd never
 
-  list_fails : (sources : SourcesOf) (text : List ℕ) → Rose sink.faults sink_now.faults → WritesPrefix text sink sink_now → ListsRows sources before now text → ListFails sources before now sink sink_now
-  list_fails sources text rose began listed = record {
-    tables = listed.tables;
-    input = listed.input;
-    rose = rose;
-    quiet = listed.quiet;
-    held = listed.held;
-    began = subst (λ t. WritesPrefix t sink sink_now) listed.printed began;
-  }
+  report_fails : (target : Status) (text : List ℕ) → ((command : CommandOf) → Stands command before now target text → HasReport command before now text) → IsCutShort text sink sink_now → Answered words before now target text → (target ≡ status.WordsRefused → ⊥) → (target ≡ status.NoMemory → ⊥) → OnCommand words (λ command. IsUnwritten command before now sink sink_now)
+  report_fails target text report cut answered accepted enough = reported (by_command words target target before now text accepted enough refl answered)
+    where
+      reported : OnCommand words (λ command. Stands command before now target text) → OnCommand words (λ command. IsUnwritten command before now sink sink_now)
+      reported (command, of, stands) = (command, of, inr (text, report command stands, cut))
 
-  check_fails : (job : JobOf) (text : List ℕ) → Rose sink.faults sink_now.faults → WritesPrefix text sink sink_now → AcceptsLog job before now text → CheckFails job before now sink sink_now
-  check_fails job text rose began accepted = record {
-    tables = accepted.tables;
-    done = accepted.done;
-    input = accepted.input;
-    replayed = accepted.replayed;
-    rose = rose;
-    quiet = accepted.quiet;
-    held = accepted.held;
-    began = subst (λ t. WritesPrefix t sink sink_now) accepted.printed began;
-  }
-
-  found_fails : (text : List ℕ) → Rose sink.faults sink_now.faults → WritesPrefix text sink sink_now → OnCommand words (λ command. Stands command before now status.Found text) → OnCommand words (λ command. IsUnwritten command before now sink sink_now)
-  found_fails text rose began (plan_command job, of, found) = (plan_command job, of, inr (plan_fails job text rose began found))
-  found_fails text rose began (rows_command points candidates, of, listed) = (rows_command points candidates, of, list_fails (plain_sources points candidates) text rose began listed)
-  found_fails text rose began (check_command job, of, accepted) = (check_command job, of, check_fails job text rose began accepted)
-
-  no_plan_fails : (text : List ℕ) → Rose sink.faults sink_now.faults → WritesPrefix text sink sink_now → OnCommand words (λ command. Stands command before now status.NoPlan text) → OnCommand words (λ command. IsUnwritten command before now sink sink_now)
-  no_plan_fails text rose began (plan_command job, of, found) = (plan_command job, of, inr (none_fails job text rose began found))
-  no_plan_fails text rose began (rows_command points candidates, of, never) = absurd never
-  no_plan_fails text rose began (check_command job, of, never) = absurd never
-
-  undecided_fails : (text : List ℕ) → Rose sink.faults sink_now.faults → WritesPrefix text sink sink_now → OnCommand words (λ command. Stands command before now status.Undecided text) → OnCommand words (λ command. IsUnwritten command before now sink sink_now)
-  undecided_fails text rose began (plan_command job, of, left) = (plan_command job, of, inr (open_fails job text rose began left))
-  undecided_fails text rose began (rows_command points candidates, of, never) = absurd never
-  undecided_fails text rose began (check_command job, of, never) = absurd never
-
-  put_fails : (begun : Status) (text : List ℕ) → after_failed_put begun ≡ status.WriteFault → Rose sink.faults sink_now.faults → WritesPrefix text sink sink_now → Answered words before now begun text → OnCommand words (λ command. IsUnwritten command before now sink sink_now)
-  put_fails status.Found text after rose began answered = found_fails text rose began (by_command words status.Found status.Found before now text (λ e. cc) (λ e. cc) refl answered)
-  put_fails status.NoPlan text after rose began answered = no_plan_fails text rose began (by_command words status.NoPlan status.NoPlan before now text (λ e. cc) (λ e. cc) refl answered)
-  put_fails status.WordsRefused text after rose began answered = absurd (cc)
-  put_fails status.TableRefused text after rose began answered = absurd (cc)
-  put_fails status.Undecided text after rose began answered = undecided_fails text rose began (by_command words status.Undecided status.Undecided before now text (λ e. cc) (λ e. cc) refl answered)
-  put_fails status.ReadFault text after rose began answered = absurd (cc)
-  put_fails status.WriteFault text after rose began answered =
-      log_fails text (λ none. silent_prefix text sink sink_now none began) (by_command words status.WriteFault status.WriteFault before now text (λ e. cc) (λ e. cc) refl answered)
-  put_fails status.NoMemory text after rose began answered = absurd (cc)
-  put_fails status.LogRefused text after rose began answered = absurd (cc)
-  put_fails status.FileTooLong text after rose began answered = absurd (cc)
+  put_fails : (begun : Status) (text : List ℕ) → after_failed_put begun ≡ status.WriteFault → IsCutShort text sink sink_now → Answered words before now begun text → OnCommand words (λ command. IsUnwritten command before now sink sink_now)
+  put_fails status.Found text after cut answered = report_fails status.Found text (λ command stands. found_report command text stands) cut answered (λ e. cc) (λ e. cc)
+  put_fails status.NoPlan text after cut answered = report_fails status.NoPlan text (λ command stands. none_report command text stands) cut answered (λ e. cc) (λ e. cc)
+  put_fails status.WordsRefused text after cut answered = absurd (cc)
+  put_fails status.TableRefused text after cut answered = absurd (cc)
+  put_fails status.Undecided text after cut answered = report_fails status.Undecided text (λ command stands. open_report command text stands) cut answered (λ e. cc) (λ e. cc)
+  put_fails status.ReadFault text after cut answered = absurd (cc)
+  put_fails status.WriteFault text after cut answered =
+      log_fails text (λ none. silent_prefix text sink sink_now none cut.1) (by_command words status.WriteFault status.WriteFault before now text (λ e. cc) (λ e. cc) refl answered)
+  put_fails status.NoMemory text after cut answered = absurd (cc)
+  put_fails status.LogRefused text after cut answered = absurd (cc)
+  put_fails status.FileTooLong text after cut answered = absurd (cc)
 
   unwritten_by : (begun : Status) (text : List ℕ) → ended ≡ status.WriteFault → Answered words before now begun text → Prints begun text ended sink sink_now → OnCommand words (λ command. IsUnwritten command before now sink sink_now)
   unwritten_by begun text is answered (inl printed) =
       log_fails text (λ none. silent_all text sink sink_now none printed.all)
       (by_command words status.WriteFault begun before now text (λ e. cc) (λ e. cc) (sym printed.same ∙ is) answered)
-  unwritten_by begun text is answered (inr (inl failed)) = put_fails begun text (sym failed.after ∙ is) failed.rose failed.begins answered
+  unwritten_by begun text is answered (inr (inl failed)) = put_fails begun text (sym failed.after ∙ is) failed.cut answered
   unwritten_by begun text is answered (inr (inr out)) = absurd (let e : status.NoMemory ≡ status.WriteFault = sym out.after ∙ is in cc)
 
   -- the clause of status 6

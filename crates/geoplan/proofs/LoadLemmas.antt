@@ -1,9 +1,8 @@
 -- Laws of reading the tables and of what they give.
-use Rattle.std.proofs.Common.{◌≡◌, ◌+◌, ◌<◌, ◌≤◌, ℕ, Bool, true, false, if◌then◌else◌, List, [], ◌∷◌, ◌++◌, length, refl, sym, ◌∙◌, subst, arith, Some, None}
+use Rattle.std.proofs.Common.{◌≡◌, inl, inr, ap, Option, ◌+◌, ◌<◌, ◌≤◌, ℕ, Bool, true, false, if◌then◌else◌, List, [], ◌∷◌, ◌++◌, length, refl, sym, ◌∙◌, subst, arith, Some}
 use Rattle.std.specs.Prelude.{All}
-use Rattle.std.specs.Option.{option_map}
-use Rattle.shelf_io.specs.Files.{bytes_of}
-use Rattle.shelf_io.specs.Faults.{KeepsFaults}
+use Rattle.shelf_io.specs.Files.{Files, bytes_of}
+use Rattle.shelf_io.specs.Faults.{Rose, KeepsFaults, read_of}
 use Rattle.std.specs.List.{AllByRecursion, enumerate_from, flat_map}
 use Rattle.std.proofs.lemmas.List.{length-map}
 use Rattle.geo_model.specs.Network.{NetworkOf, IsNetwork}
@@ -17,64 +16,66 @@ use Rattle.design_rows.proofs.EntryFacts.{all-of}
 use Rattle.design_rows.proofs.UnknownFacts.{every-append, every-weaker}
 use Rattle.net_build.specs.Build.{candidate_of, network_of}
 use Rattle.geoplan.specs.CommandOf.{SourcesOf}
-use Rattle.geoplan.specs.Input.{most_bytes, judged_input}
-use Rattle.geoplan.specs.Loading.{ReadsFile, ReadsLog, IsGoodInput, Loads}
-use Rattle.geoplan.specs.Standing.{IsGoodNetwork}
+use Rattle.geoplan.specs.Input.{too_long_input, most_bytes, most_log_bytes, judged_input, input_of}
+use Rattle.geoplan.specs.Loading.{IsGoodNetwork, input_view, HasBytes, ReadsFile, ReadsLog, HasReadFault, FailsRead, FailsLog, IsGoodInput, Loads, HasLoadFault, FailsLoad}
+use Rattle.geoplan.specs.Outcomes.{IsQuiet, IsOfCommand}
+use Rattle.geoplan.specs.declared.load.LoadFault.{LoadFault}
+use Rattle.geoplan.specs.declared.load.LoadFault.TheVariants as load
 use Rattle.geoplan.specs.Tables.{TablesOf}
 use Rattle.geoplan.specs.declared.input.Input.{Input}
 use Rattle.geoplan.specs.declared.input.Input.TheVariants as input
-use Rattle.geoplan.specs.declared.input.File.{File}
-use Rattle.geoplan.specs.declared.input.File.TheVariants as file
-use Rattle.geoplan.proofs.InputLemmas.{input_from-long_points, input_from-long_candidates, input_from-long_log, input_from-judged, long_log, short_log, log_held}
+use Rattle.geoplan.proofs.InputLemmas.{long_points, long_candidates, long_log, none_long, short_log, log_held}
 
 -- ---- reading
-
-never_long : (which : File) (tables : TablesOf) → input.TooLong which ≡ input.Built tables → ⊥
-never_long which tables is = cc
 
 -- no fault is counted in two steps where none is in each
 keeps : (before middle now : ShelfState) → KeepsFaults middle.faults now.faults middle.last_fault now.last_fault → KeepsFaults before.faults middle.faults before.last_fault middle.last_fault → KeepsFaults before.faults now.faults before.last_fault now.last_fault
 keeps before middle now two one = record { same_count = two.same_count ∙ one.same_count; same_last = two.same_last ∙ one.same_last }
 
--- the points are too long
-pub Loads-long_points : (sources : SourcesOf) (given : Input) (log : List ℕ) (before now : ShelfState) → given ≡ input.TooLong file.Points → ReadsFile most_bytes sources.points None before now → Loads sources given log before now
-Loads-long_points sources given log before now is read = record {
-  input = λ files told. is ∙ sym (input_from-long_points sources.redundancy _ _ _ (read.has files told));
-  good = λ tables built. absurd (never_long file.Points tables (sym is ∙ built));
-  read = λ tables built. absurd (never_long file.Points tables (sym is ∙ built));
-  held = read.held;
-  quiet = read.quiet;
+-- a file was not read after others were
+fails_load : (sources : SourcesOf) (most : ℕ) (name : List ℕ) (why : LoadFault) (before middle now : ShelfState) → middle.held ≡ before.held → IsQuiet before middle → IsOfCommand sources name → ((files : Files) → before.held ≡ Some files → most < length (bytes_of files name) → input_of sources files ≡ too_long_input name) → FailsRead most name why middle now → FailsLoad sources why before now
+fails_load sources most name why before middle now held quiet of_command long fails = record {
+  held = fails.held ∙ held;
+  later = subst (λ n. n ≤ now.faults) quiet.same_count fails.later;
+  cause = cause_of why fails.cause;
 }
+  where
+    cause_of : (why : LoadFault) → HasReadFault most name why middle now → HasLoadFault sources why before now
+    cause_of (load.TooLong other) (same, too_long, still) = (λ files told. long files told (too_long files (held ∙ told)) ∙ ap too_long_input (sym same), keeps before middle now still quiet)
+    cause_of (load.Unread other) (same, fault) =
+        (subst (λ n. IsOfCommand sources n) (sym same) of_command, record { rose = subst (λ n. Rose n now.faults) quiet.same_count fault.rose; last = fault.last ∙ ap (λ n. Some (read_of n)) (sym same) })
+    cause_of load.NoMemory free = tt
 
--- the candidates are
-pub Loads-long_candidates : (sources : SourcesOf) (points : List ℕ) (given : Input) (log : List ℕ) (before middle now : ShelfState) → given ≡ input.TooLong file.Candidates → ReadsFile most_bytes sources.points (Some points) before middle → ReadsFile most_bytes sources.candidates None middle now → Loads sources given log before now
-Loads-long_candidates sources points given log before middle now is one two = record {
-  input = λ files told.
-      is ∙ sym (input_from-long_candidates sources.redundancy _ _ _ (subst (λ bytes. length bytes ≤ most_bytes) (one.has.1 files told) one.has.0) (two.has files (one.held ∙ told)));
-  good = λ tables built. absurd (never_long file.Candidates tables (sym is ∙ built));
-  read = λ tables built. absurd (never_long file.Candidates tables (sym is ∙ built));
-  held = two.held ∙ one.held;
-  quiet = keeps before middle now two.quiet one.quiet;
-}
+-- bytes that were read are within the limit, where they are told
+within : (most : ℕ) (name bytes : List ℕ) (held : Option Files) → HasBytes most name bytes held → (files : Files) → held ≡ Some files → length (bytes_of files name) ≤ most
+within most name bytes held has files told = subst (λ b. length b ≤ most) (has.1 files told) has.0
 
--- the log is
-pub Loads-long_log : (sources : SourcesOf) (points candidates : List ℕ) (given : Input) (log : List ℕ) (before first second now : ShelfState) → given ≡ input.TooLong file.Log → ReadsFile most_bytes sources.points (Some points) before first → ReadsFile most_bytes sources.candidates (Some candidates) first second → ReadsLog sources.log None second now → Loads sources given log before now
-Loads-long_log sources points candidates given log before first second now is one two three = record {
-  input = λ files told.
-      is ∙ sym (input_from-long_log sources.redundancy _ _ _ (subst (λ bytes. length bytes ≤ most_bytes) (one.has.1 files told) one.has.0)
-      (subst (λ bytes. length bytes ≤ most_bytes) (two.has.1 files (one.held ∙ told)) two.has.0) (long_log sources.log second.held three.has files (two.held ∙ one.held ∙ told)));
-  good = λ tables built. absurd (never_long file.Log tables (sym is ∙ built));
-  read = λ tables built. absurd (never_long file.Log tables (sym is ∙ built));
-  held = three.held ∙ two.held ∙ one.held;
-  quiet = keeps before second now three.quiet (keeps before first second two.quiet one.quiet);
-}
+-- the points were not read
+pub FailsLoad-points : (sources : SourcesOf) (why : LoadFault) (before now : ShelfState) → FailsRead most_bytes sources.points why before now → FailsLoad sources why before now
+FailsLoad-points sources why before now fails =
+    fails_load sources most_bytes sources.points why before before now refl (record { same_count = refl; same_last = refl }) (inl refl) (λ files told long. long_points sources files long) fails
 
--- none is, and they are judged
-pub Loads-judged : (sources : SourcesOf) (points candidates log : List ℕ) (given : Input) (before first second now : ShelfState) → ReadsFile most_bytes sources.points (Some points) before first → ReadsFile most_bytes sources.candidates (Some candidates) first second → ReadsLog sources.log (Some log) second now → given ≡ judged_input sources.redundancy points candidates → IsGoodInput given → Loads sources given log before now
+-- the candidates were not
+pub FailsLoad-candidates : (sources : SourcesOf) (points : List ℕ) (why : LoadFault) (before middle now : ShelfState) → ReadsFile most_bytes sources.points points before middle → FailsRead most_bytes sources.candidates why middle now → FailsLoad sources why before now
+FailsLoad-candidates sources points why before middle now one fails =
+    fails_load sources most_bytes sources.candidates why before middle now one.held one.quiet (inr (inl refl))
+    (λ files told long. long_candidates sources files (within most_bytes sources.points points before.held one.has files told) long) fails
+
+-- the log was not
+pub FailsLoad-log : (sources : SourcesOf) (points candidates : List ℕ) (why : LoadFault) (before first second now : ShelfState) → ReadsFile most_bytes sources.points points before first → ReadsFile most_bytes sources.candidates candidates first second → FailsLog sources.log why second now → FailsLoad sources why before now
+FailsLoad-log sources points candidates why before first second now one two (name, is, fails) =
+    fails_load sources most_log_bytes name why before second now (two.held ∙ one.held) (keeps before first second two.quiet one.quiet) (inr (inr is))
+    (λ files told long. long_log sources files (within most_bytes sources.points points before.held one.has files told)
+    (within most_bytes sources.candidates candidates first.held two.has files (one.held ∙ told)) name is long) fails
+
+-- all were read, and the tables are judged
+pub Loads-judged : (sources : SourcesOf) (points candidates log : List ℕ) (given : Input) (before first second now : ShelfState) → ReadsFile most_bytes sources.points points before first → ReadsFile most_bytes sources.candidates candidates first second → ReadsLog sources.log log second now → input_view given ≡ judged_input sources.redundancy points candidates → IsGoodInput given → Loads sources given log before now
 Loads-judged sources points candidates log given before first second now one two three is good = record {
   input = λ files told.
-      is ∙ sym (rw (← one.has.1 files told, ← two.has.1 files (one.held ∙ told))
-      (input_from-judged sources.redundancy points candidates (option_map (bytes_of files) sources.log) one.has.0 two.has.0 (short_log sources.log log second.held three.has files (two.held ∙ one.held ∙ told))));
+      let was = two.held ∙ one.held ∙ told in
+      sym (none_long sources files (within most_bytes sources.points points before.held one.has files told)
+      (within most_bytes sources.candidates candidates first.held two.has files (one.held ∙ told)) (input_view given)
+      (rw (← one.has.1 files told, ← two.has.1 files (one.held ∙ told)) is) (short_log sources.log log second.held (input_view given) three.has files was));
   good = good;
   read = λ tables built name asked files told. log_held sources.log log second.held three.has name asked files (two.held ∙ one.held ∙ told);
   held = three.held ∙ two.held ∙ one.held;

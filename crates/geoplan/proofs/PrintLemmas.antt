@@ -8,7 +8,8 @@ use Rattle.shelf_io.specs.Written.{with_written}
 use Rattle.shelf_io.proofs.WrittenLaws.{with_written-nothing}
 use Rattle.geoplan.specs.Codes.{after_failed_put}
 use Rattle.shelf_io.specs.States.{SinkState}
-use Rattle.geoplan.specs.Printing.{WritesPrefix, Prints}
+use Rattle.geoplan.specs.Printing.{WritesPrefix}
+use Rattle.geoplan.specs.Running.{Prints}
 use Rattle.geoplan.specs.declared.status.Status.{Status}
 use Rattle.geoplan.specs.declared.status.Status.TheVariants as status
 
@@ -33,7 +34,7 @@ prefix text given n before now same written = record {
 -- a put failed
 pub Prints-failed : (begun : Status) (text given : List ℕ) (ended : Status) (n : ℕ) (before now : SinkState) → ended ≡ after_failed_put begun → given ≡ text → Rose before.faults now.faults → now.written ≡ with_written before.written (take n given) → Prints begun text ended before now
 Prints-failed begun text given ended n before now after same rose written =
-    inr (inl (record { after = after; rose = rose; begins = prefix text given n before now same written }))
+    inr (inl (record { after = after; cut = (rose, prefix text given n before now same written) }))
 
 -- memory ran out in a put
 pub Prints-out : (begun : Status) (text given : List ℕ) (n : ℕ) (before now : SinkState) → given ≡ text → now.faults ≡ before.faults → now.written ≡ with_written before.written (take n given) → Prints begun text status.NoMemory before now

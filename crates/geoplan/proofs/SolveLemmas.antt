@@ -1,4 +1,5 @@
-use Rattle.std.proofs.Common.{◌≡◌, ◌⊎◌, inl, inr, ◌≤◌, ℕ, List, [], refl, ap, ◌∙◌, subst, Option, Some}
+use Rattle.std.proofs.Common.{◌≡◌, ◌⊎◌, inl, inr, ◌≤◌, ℕ, List, [], refl, ap, ◌∙◌, subst, Option, Some, Result, Ok, Err}
+use Rattle.std.specs.Prelude.{IfOk, IfErr}
 use Rattle.shelf_io.specs.Files.{Files, with_bytes, with_piece}
 use Rattle.shelf_io.specs.Faults.{Rose, KeepsFaults, write_of}
 use Rattle.shelf_io.proofs.FileLaws.{with_piece-with_bytes}
@@ -15,7 +16,7 @@ use Rattle.geoplan.specs.Solving.{Solves, HoldsBeginning, FailsSolve}
 -- Laws of a log that is started and then written.
 
 -- a log started and written whole
-pub Solves-after : (tables : TablesOf) (log : List ℕ) (done : SearchDone) (before middle now : ShelfState) → middle.held ≡ with_bytes before.held log [] → KeepsFaults before.faults middle.faults before.last_fault middle.last_fault → Searches tables.network log done middle now → Solves tables log done before now
+Solves-after : (tables : TablesOf) (log : List ℕ) (done : SearchDone) (before middle now : ShelfState) → middle.held ≡ with_bytes before.held log [] → KeepsFaults before.faults middle.faults before.last_fault middle.last_fault → Searches tables.network log done middle now → Solves tables log done before now
 Solves-after tables log done before middle now started quiet found = record {
   tree = found.tree;
   searched = found.searched;
@@ -24,7 +25,7 @@ Solves-after tables log done before middle now started quiet found = record {
 }
 
 -- a log started and begun
-pub FailsSolve-after : (tables : TablesOf) (log : List ℕ) (why : SearchFault) (before middle now : ShelfState) → middle.held ≡ with_bytes before.held log [] → KeepsFaults before.faults middle.faults before.last_fault middle.last_fault → BreaksLog tables.network log why middle now → FailsSolve tables log why before now
+FailsSolve-after : (tables : TablesOf) (log : List ℕ) (why : SearchFault) (before middle now : ShelfState) → middle.held ≡ with_bytes before.held log [] → KeepsFaults before.faults middle.faults before.last_fault middle.last_fault → BreaksLog tables.network log why middle now → FailsSolve tables log why before now
 FailsSolve-after tables log why before middle now started quiet found = record {
   held = inr (record {
     tree = found.tree;
@@ -49,3 +50,14 @@ FailsSolve-start tables log why before now held later failed = record {
   later = later;
   failed = failed;
 }
+
+-- ---- the answer of a search after a log is started
+
+module _ (tables : TablesOf) (log : List ℕ) (before middle now : ShelfState) (started : middle.held ≡ with_bytes before.held log []) (quiet : KeepsFaults before.faults middle.faults before.last_fault middle.last_fault) where
+  pub solved-answer : (answer : Result SearchDone SearchFault) → IfOk answer (λ done. Searches tables.network log done middle now) → IfOk answer (λ done. Solves tables log done before now)
+  solved-answer (Ok done) found = Solves-after tables log done before middle now started quiet found
+  solved-answer (Err why) found = tt
+
+  pub failed-answer : (answer : Result SearchDone SearchFault) → IfErr answer (λ why. BreaksLog tables.network log why middle now) → IfErr answer (λ why. FailsSolve tables log why before now)
+  failed-answer (Ok done) broken = tt
+  failed-answer (Err why) broken = FailsSolve-after tables log why before middle now started quiet broken

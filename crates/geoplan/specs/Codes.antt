@@ -2,6 +2,9 @@ use Rattle.std.specs.Prelude.{ℕ}
 use Rattle.geoplan.specs.declared.status.Status.{Status}
 use Rattle.geoplan.specs.declared.status.Status.TheVariants as status
 
+-- The exit status of each status, and what a failed put makes of it. Only private clauses and proofs cite it. This
+-- project's own.
+
 -- the exit status of the program
 abbrev pub code_of : Status → ℕ
 code_of status.Found = 0

@@ -12,10 +12,12 @@ pub record SourcesOf : Type 0 where
   pub redundancy : ℕ
   pub log : Option (List ℕ)
 
--- what the commands `plan` and `check` are asked for: their tables, and the name of the log that `plan` writes and
--- `check` reads
+-- what the commands `plan` and `check` are asked for: their tables, the redundancy, and the name of the log that `plan`
+-- writes and `check` reads
 pub record JobOf : Type 0 where
-  pub sources : SourcesOf
+  pub points : List ℕ
+  pub candidates : List ℕ
+  pub redundancy : ℕ
   pub log : List ℕ
 
 -- a command: `plan`, `check`, or `rows` with the names of its two tables
@@ -28,13 +30,17 @@ pub data CommandOf : Type 0 where
 abbrev pub plain_sources : List ℕ → List ℕ → SourcesOf
 plain_sources points candidates = record { points = points; candidates = candidates; redundancy = 0; log = None }
 
+-- the tables of `plan`, which reads no log
+abbrev pub planned_sources : JobOf → SourcesOf
+planned_sources job = record { points = job.points; candidates = job.candidates; redundancy = job.redundancy; log = None }
+
 -- the tables of `check`, and its log
 abbrev pub checked_sources : JobOf → SourcesOf
-checked_sources job = record { points = job.sources.points; candidates = job.sources.candidates; redundancy = job.sources.redundancy; log = Some job.log }
+checked_sources job = record { points = job.points; candidates = job.candidates; redundancy = job.redundancy; log = Some job.log }
 
 -- what a command reads
 abbrev pub sources_of : CommandOf → SourcesOf
-sources_of (plan_command job) = job.sources
+sources_of (plan_command job) = planned_sources job
 sources_of (rows_command points candidates) = plain_sources points candidates
 sources_of (check_command job) = checked_sources job
 
@@ -51,7 +57,7 @@ are_shared points candidates log = bytes_eq points candidates || (bytes_eq point
 abbrev pub job_of : List ℕ → List ℕ → List ℕ → List ℕ → Option JobOf
 job_of points candidates redundancy log =
     if are_shared points candidates log then None
-    else option_map (λ q. record { sources = record { points = points; candidates = candidates; redundancy = q; log = None }; log = log }) (whole_of 3 redundancy)
+    else option_map (λ q. record { points = points; candidates = candidates; redundancy = q; log = log }) (whole_of 3 redundancy)
 
 -- the command of words that are all plain
 abbrev pub command_from : List (List ℕ) → Option CommandOf

@@ -5,13 +5,13 @@ use Rattle.geoplan.specs.declared.command.Job.{Job}
 use Rattle.geoplan.specs.declared.command.Sources.{Sources}
 use Rattle.geoplan.specs.CommandOf.{SourcesOf, JobOf, CommandOf, plan_command, rows_command, check_command}
 
--- Commands as their bytes.
+-- Commands as their bytes. Only private clauses and proofs cite it.
 
 abbrev pub sources_view : Sources → SourcesOf
 sources_view sources = record { points = sources.points.now; candidates = sources.candidates.now; redundancy = sources.redundancy; log = option_map (λ name. name.now) sources.log }
 
 abbrev pub job_view : Job → JobOf
-job_view job = record { sources = sources_view job.sources; log = job.log.now }
+job_view job = record { points = job.points.now; candidates = job.candidates.now; redundancy = job.redundancy; log = job.log.now }
 
 abbrev pub command_view : Command → CommandOf
 command_view (command.Plan job) = plan_command (job_view job)

@@ -1,14 +1,18 @@
+-- What the contract of the top call says, in the order of reading: CommandOf, Input, Tables, Texts, Outcomes, Printing,
+-- Promises, and Checked for the law beside it. The other modules are for private clauses and proofs.
 pub mod Digits
 pub mod CommandOf
-pub mod CommandView
-pub mod Texts
-pub mod Codes
 pub mod Tables
 pub mod Input
+pub mod Texts
+pub mod Outcomes
+pub mod Printing
+pub mod Promises
+pub mod Checked
+pub mod CommandView
+pub mod Codes
 pub mod Standing
 pub mod Loading
 pub mod Solving
 pub mod Reporting
-pub mod Printing
-pub mod Promises
-pub mod Checked
+pub mod Running

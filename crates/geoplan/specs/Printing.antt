@@ -1,17 +1,9 @@
-use Rattle.std.specs.Prelude.{◌≡◌, ◌⊎◌, ℕ, List, ◌++◌, Option}
+use Rattle.std.specs.Prelude.{◌≡◌, ◌⊎◌, ℕ, List, ◌++◌}
 use Rattle.shelf_io.specs.Faults.{Rose}
 use Rattle.shelf_io.specs.Written.{with_written}
-use Rattle.shelf_io.specs.States.{SinkState, ShelfState}
-use Rattle.geoplan.specs.Codes.{after_failed_put}
-use Rattle.geoplan.specs.CommandOf.{command_of, OnCommand}
-use Rattle.geoplan.specs.Reporting.{Ends}
-use Rattle.geoplan.specs.Standing.{Stands}
-use Rattle.geoplan.specs.Texts.{words_text}
-use Rattle.geoplan.specs.declared.status.Status.{Status}
-use Rattle.geoplan.specs.declared.status.Status.TheVariants as status
-use Rattle.std.specs.Prelude.{None}
+use Rattle.shelf_io.specs.States.{SinkState}
 
--- What printing does, and the whole run. This project's own.
+-- How much of the text of an outcome was printed. This project's own.
 
 -- the beginning of a text was written
 pub record WritesPrefix (text : List ℕ) (before now : SinkState) : Type 0 where
@@ -20,50 +12,27 @@ pub record WritesPrefix (text : List ℕ) (before now : SinkState) : Type 0 wher
   pub begins : text ≡ piece ++ rest
   pub written : now.written ≡ with_written before.written piece
 
--- the whole text was written
+-- the whole text was written, and the sink counted no fault
 pub record WritesAll (text : List ℕ) (before now : SinkState) : Type 0 where
   pub written : now.written ≡ with_written before.written text
   pub quiet : now.faults ≡ before.faults
 
--- the text was printed and the status stays
-pub record IsPrinted (begun : Status) (text : List ℕ) (ended : Status) (before now : SinkState) : Type 0 where
-  pub same : ended ≡ begun
-  pub all : WritesAll text before now
+-- the sink counted a fault, and the beginning of the text was written
+abbrev pub IsCutShort : List ℕ → SinkState → SinkState → Type 0
+IsCutShort text sink sink_now = Rose sink.faults sink_now.faults × WritesPrefix text sink sink_now
 
--- a put failed, and the status is what it is after that
-pub record FailsToPrint (begun : Status) (text : List ℕ) (ended : Status) (before now : SinkState) : Type 0 where
-  pub after : ended ≡ after_failed_put begun
-  pub rose : Rose before.faults now.faults
-  pub begins : WritesPrefix text before now
+-- the text was written whole, or its beginning where the sink counted a fault
+abbrev pub IsSaid : List ℕ → SinkState → SinkState → Type 0
+IsSaid text sink sink_now = WritesAll text sink sink_now ⊎ IsCutShort text sink sink_now
 
--- memory ran out in a put
-pub record RunsOutPrinting (text : List ℕ) (ended : Status) (before now : SinkState) : Type 0 where
-  pub after : ended ≡ status.NoMemory
-  pub quiet : now.faults ≡ before.faults
-  pub begins : WritesPrefix text before now
+-- an outcome, and its text was printed whole
+abbrev pub PrintsAll : (List ℕ → Type 0) → SinkState → SinkState → Type 0
+PrintsAll Outcome sink sink_now = (text : List ℕ) × Outcome text × WritesAll text sink sink_now
 
--- how a text is printed with its status, and which status the program ends with
-abbrev pub Prints : Status → List ℕ → Status → SinkState → SinkState → Type 0
-Prints begun text ended before now =
-    IsPrinted begun text ended before now ⊎ (FailsToPrint begun text ended before now ⊎ RunsOutPrinting text ended before now)
+-- an outcome, and its text was printed, or its beginning where the sink counted a fault
+abbrev pub Says : (List ℕ → Type 0) → SinkState → SinkState → Type 0
+Says Outcome sink sink_now = (text : List ℕ) × Outcome text × IsSaid text sink sink_now
 
--- the words are refused by name, where there was memory for it
-abbrev pub SaysWords : Status → List ℕ → Type 0
-SaysWords begun text = Ends status.WordsRefused words_text begun text
-
--- the words are refused: nothing is read or written
-pub record RefusesWords (before now : ShelfState) (begun : Status) (text : List ℕ) : Type 0 where
-  pub same : now ≡ before
-  pub says : SaysWords begun text
-
--- the answer to a command line, before anything is printed
-abbrev pub Answered : List (List ℕ) → ShelfState → ShelfState → Status → List ℕ → Type 0
-Answered words before now begun text =
-    OnCommand words (λ command. Stands command before now begun text) ⊎ ((command_of words ≡ None) × RefusesWords before now begun text)
-
--- a run: the answer, and its printing
-pub record Runs (words : List (List ℕ)) (ended : Status) (before now : ShelfState) (sink sink_now : SinkState) : Type 0 where
-  pub begun : Status
-  pub text : List ℕ
-  pub answered : Answered words before now begun text
-  pub printed : Prints begun text ended sink sink_now
+-- an outcome, and the put of its text failed
+abbrev pub FailsToPut : (List ℕ → Type 0) → SinkState → SinkState → Type 0
+FailsToPut Outcome sink sink_now = (text : List ℕ) × Outcome text × IsCutShort text sink sink_now

@@ -12,7 +12,7 @@ use Rattle.geoplan.specs.Texts.{tables_plan_text, no_plan_text, tables_undecided
 use Rattle.geoplan.specs.declared.status.Status.{Status}
 use Rattle.geoplan.specs.declared.status.Status.TheVariants as status
 
--- The report of an answer. This project's own.
+-- The report of an answer. Only private clauses and proofs cite it. This project's own.
 
 -- the limit of a number is one of the network's
 pub record HasLimit (tables : TablesOf) (number : ℕ) : Type 0 where

@@ -11,7 +11,7 @@ use Rattle.shelf_io.specs.States.{ShelfState}
 use Rattle.branch_bound.specs.Searched.{IsSearched}
 use Rattle.geoplan.specs.Tables.{TablesOf}
 
--- What searching the tables' network does. This project's own.
+-- What searching the tables' network does. Only private clauses and proofs cite it. This project's own.
 
 -- the search is done, and its whole log stands under the name
 pub record Solves (tables : TablesOf) (log : List ℕ) (done : SearchDone) (before now : ShelfState) : Type 0 where

@@ -3,9 +3,9 @@ ghost use Rattle.std.specs.Prelude.{◌≡◌, ◌≤◌, length, IfOk, IfErr};
 ghost use Rattle.shelf_io.specs.States.{state_of};
 ghost use Rattle.geoplan.specs.CommandOf.{sources_of};
 ghost use Rattle.geoplan.specs.CommandView.{sources_view, job_view, command_view};
-ghost use Rattle.geoplan.specs.Loading.{HasTables};
+ghost use Rattle.geoplan.specs.Loading.{IsGoodNetwork, HasTables};
 ghost use Rattle.geoplan.specs.Reporting.{CanReport, Ends, Reports, Replays};
-ghost use Rattle.geoplan.specs.Standing.{IsGoodNetwork, NoTables, PlanStands, RowsStand, CheckStands, Stands};
+ghost use Rattle.geoplan.specs.Standing.{NoTables, PlanStands, RowsStand, CheckStands, Stands};
 ghost use Rattle.geoplan.specs.Texts.{tables_rows_text, tables_undecided_text};
 ghost use Rattle.geoplan.specs.declared.status.Status.TheVariants as status;
 
@@ -115,13 +115,13 @@ fn tables_of<H: Shelf>(
                 let text = table_refusal(alloc, fault);
                 Err(Outcome::made(alloc, Status::TableRefused, text))
             }
-            Input::TooLong(file) => {
-                let text = too_long_refusal(alloc, sources.name_of(file));
-                Err(Outcome::made(alloc, Status::FileTooLong, text))
-            }
         },
-        Err(LoadFault::Unread(file)) => {
-            let text = unread_refusal(alloc, sources.name_of(file));
+        Err(LoadFault::TooLong(name)) => {
+            let text = too_long_refusal(alloc, name);
+            Err(Outcome::made(alloc, Status::FileTooLong, text))
+        }
+        Err(LoadFault::Unread(name)) => {
+            let text = unread_refusal(alloc, name);
             Err(Outcome::made(alloc, Status::ReadFault, text))
         }
         Err(LoadFault::NoMemory) => Err(Outcome::silent(alloc, Status::NoMemory)),
@@ -130,12 +130,13 @@ fn tables_of<H: Shelf>(
 
 /// The answer of the command `plan`.
 fn answer_plan<H: Shelf>(alloc: Global, job: &Job<'_>, shelf: &mut H) -> Outcome
-    requires { job.now.sources.redundancy ≤ 999 }
+    requires { job.now.redundancy ≤ 999 }
     ensures { PlanStands (job_view job.now)
         (state_of H.held H.faults H.last_fault H.started shelf.old)
         (state_of H.held H.faults H.last_fault H.started shelf.new) result.status result.text.items }
 {
-    let accepted = match tables_of(alloc, &job.sources, shelf) {
+    let sources = job.planned_sources();
+    let accepted = match tables_of(alloc, &sources, shelf) {
         Ok(accepted) => accepted,
         Err(refusal) => return refusal,
     };
@@ -189,7 +190,7 @@ fn replayed(alloc: Global, tables: &Tables, log: &[u8]) -> Outcome
 
 /// The answer of the command `check`.
 fn answer_check<H: Shelf>(alloc: Global, job: &Job<'_>, shelf: &mut H) -> Outcome
-    requires { job.now.sources.redundancy ≤ 999 }
+    requires { job.now.redundancy ≤ 999 }
     ensures { CheckStands (job_view job.now)
         (state_of H.held H.faults H.last_fault H.started shelf.old)
         (state_of H.held H.faults H.last_fault H.started shelf.new) result.status result.text.items }

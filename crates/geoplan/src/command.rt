@@ -1,11 +1,9 @@
 ghost use Rattle.std.specs.Prelude.{◌≡◌, ◌≤◌, length, option_map, drop, bytes_eq, IfSome};
 ghost use Rattle.std.specs.List.{list_all};
-ghost use Rattle.geoplan.specs.CommandOf.{is_plain, job_of, command_from, command_of, sources_of, checked_sources};
+ghost use Rattle.geoplan.specs.CommandOf.{is_plain, job_of, command_from, command_of, sources_of, planned_sources, checked_sources};
 ghost use Rattle.geoplan.specs.CommandView.{sources_view, job_view, command_view};
-ghost use Rattle.geoplan.specs.Input.{log_name, name_of};
 
 use crate::digits::whole;
-use crate::input::File;
 use crate::words::Words;
 
 /// What a command reads: its two tables, by their names, and the redundancy that is asked of their
@@ -18,46 +16,37 @@ pub struct Sources<'a> {
     pub log: Option<&'a str>,
 }
 
-impl<'a> Sources<'a> {
-    /// The name of a file that the command reads.
-    pub fn name_of(&self, file: File) -> &'a str
-        ensures { result.now ≡ name_of (sources_view self.now) file }
-    {
-        match file {
-            File::Points => self.points,
-            File::Candidates => self.candidates,
-            File::Log => log_name(self.log),
-        }
-    }
-}
-
-/// The name of a log, no bytes where none is read.
-fn log_name(log: Option<&str>) -> &str
-    ensures { result.now ≡ log_name (option_map (λ name. name.now) log.entry) }
-{
-    match log {
-        Some(name) => name,
-        None => "",
-    }
-}
-
-/// What the commands `plan` and `check` are asked for: their tables, and the name of the log that
-/// `plan` writes and `check` reads.
+/// What the commands `plan` and `check` are asked for: their tables, the redundancy in thousandths,
+/// and the name of the log that `plan` writes and `check` reads.
 #[derive(Clone, Copy)]
 pub struct Job<'a> {
-    pub sources: Sources<'a>,
+    pub points: &'a str,
+    pub candidates: &'a str,
+    pub redundancy: u32,
     pub log: &'a str,
 }
 
 impl<'a> Job<'a> {
+    /// What `plan` reads: its tables.
+    pub fn planned_sources(&self) -> Sources<'a>
+        ensures { sources_view result ≡ planned_sources (job_view self.now) }
+    {
+        Sources {
+            points: self.points,
+            candidates: self.candidates,
+            redundancy: self.redundancy,
+            log: None,
+        }
+    }
+
     /// What `check` reads: its tables, and its log.
     pub fn checked_sources(&self) -> Sources<'a>
         ensures { sources_view result ≡ checked_sources (job_view self.now) }
     {
         Sources {
-            points: self.sources.points,
-            candidates: self.sources.candidates,
-            redundancy: self.sources.redundancy,
+            points: self.points,
+            candidates: self.candidates,
+            redundancy: self.redundancy,
             log: Some(self.log),
         }
     }
@@ -65,22 +54,19 @@ impl<'a> Job<'a> {
     /// The job of its words.
     fn of(points: &'a str, candidates: &'a str, redundancy: &str, log: &'a str) -> Option<Job<'a>>
         ensures job { option_map job_view result ≡ job_of points.entry.now candidates.entry.now redundancy.now log.entry.now }
-        ensures within { IfSome result (λ job. job.sources.redundancy ≤ 999) }
+        ensures within { IfSome result (λ job. job.redundancy ≤ 999) }
     {
         if is_same(points, candidates) || is_same(points, log) || is_same(candidates, log) {
             return None;
         }
         match whole(redundancy.as_bytes(), 3) {
             None => None,
-            Some(redundancy) => {
-                let sources = Sources {
-                    points,
-                    candidates,
-                    redundancy: redundancy as u32,
-                    log: None,
-                };
-                Some(Job { sources, log })
-            }
+            Some(redundancy) => Some(Job {
+                points,
+                candidates,
+                redundancy: redundancy as u32,
+                log,
+            }),
         }
     }
 }
@@ -127,17 +113,15 @@ impl<'a> Command<'a> {
         ensures command { option_map command_view result ≡ command_from words.now }
         ensures within { IfSome result (λ command. (sources_of (command_view command)).redundancy ≤ 999) }
     {
+        let job = match Job::of(words.get(2), words.get(3), words.get(4), words.get(5)) {
+            None => return None,
+            Some(job) => job,
+        };
         let word = words.get(1);
         if is_same(word, "plan") {
-            match Job::of(words.get(2), words.get(3), words.get(4), words.get(5)) {
-                None => None,
-                Some(job) => Some(Command::Plan(job)),
-            }
+            Some(Command::Plan(job))
         } else if is_same(word, "check") {
-            match Job::of(words.get(2), words.get(3), words.get(4), words.get(5)) {
-                None => None,
-                Some(job) => Some(Command::Check(job)),
-            }
+            Some(Command::Check(job))
         } else {
             None
         }

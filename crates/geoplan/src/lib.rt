@@ -22,6 +22,4 @@ pub use top::geoplan;
 pub use words::Words;
 
 #[cfg(test)]
-mod check_tests;
-#[cfg(test)]
 mod tests;

@@ -4,11 +4,10 @@ ghost use Rattle.candidate_tables.specs.Accepted.{AreCandidates};
 ghost use Rattle.shelf_io.specs.States.{state_of};
 ghost use Rattle.geoplan.specs.CommandView.{sources_view};
 ghost use Rattle.geoplan.specs.Input.{accepted_input, judged_input};
-ghost use Rattle.geoplan.specs.declared.input.Input.TheVariants as input;
-ghost use Rattle.geoplan.specs.Loading.{ReadsFile, FailsRead, ReadsLog, FailsLog, IsGoodInput, Loads, FailsLoad};
+ghost use Rattle.geoplan.specs.Loading.{input_view, ReadsFile, FailsRead, ReadsLog, FailsLog, IsGoodInput, Loads, FailsLoad};
 
 use crate::command::Sources;
-use crate::input::{File, Input};
+use crate::input::Input;
 use crate::tables::Tables;
 use candidate_tables::{Candidates, read_candidates};
 use geo_base::NoMemory;
@@ -23,72 +22,54 @@ const MOST_BYTES: u64 = 1048576;
 /// The most bytes of a log that is read.
 const MOST_LOG_BYTES: u64 = 268435456;
 
-/// Why a file was not read: the read failed, or memory ran out.
-#[derive(Clone, Copy, Debug, PartialEq, Eq)]
-pub enum ReadFault {
-    Failed,
+/// Why the files of a command were not loaded: the one of this name is too long, or could not be
+/// read, or memory ran out.
+#[derive(Clone, Copy)]
+pub enum LoadFault<'a> {
+    TooLong(&'a str),
+    Unread(&'a str),
     NoMemory,
 }
 
-/// Why the files of a command were not read: one of them could not be, or memory ran out.
-#[derive(Clone, Copy, Debug, PartialEq, Eq)]
-pub enum LoadFault {
-    Unread(File),
-    NoMemory,
-}
-
-/// What the files of a command give, and the bytes of the log that it reads. There are none where it
-/// reads no log, or where a file is too long.
+/// What the tables of a command give, and the bytes of the log that it reads. There are none where it
+/// reads no log.
 #[derive(Drop)]
 pub struct Loaded {
     pub input: Input,
     pub log: Vec<u8>,
 }
 
-impl Loaded {
-    /// A file is too long.
-    fn too_long(alloc: Global, file: File) -> Loaded
-        ensures { result.input ≡ input.TooLong file }
-    {
-        Loaded {
-            input: Input::TooLong(file),
-            log: Vec::new(alloc),
-        }
-    }
-}
-
-/// The bytes of a file, or none where it has more than so many.
-fn read_file<H: Shelf>(
+/// The bytes of a file, at most so many.
+fn read_file<'a, H: Shelf>(
     alloc: Global,
     shelf: &mut H,
-    name: &str,
+    name: &'a str,
     most: u64,
-) -> Result<Option<Vec<u8>>, ReadFault>
+) -> Result<Vec<u8>, LoadFault<'a>>
     requires { most ≤ 2 ^ 28 }
-    ensures read { IfOk result (λ read. ReadsFile most name.now (option_map (λ bytes. bytes.items) read)
+    ensures read { IfOk result (λ bytes. ReadsFile most name.entry.now bytes.items
         (state_of H.held H.faults H.last_fault H.started shelf.old)
         (state_of H.held H.faults H.last_fault H.started shelf.new)) }
-    ensures fault { IfErr result (λ why. FailsRead name.now why
+    ensures fault { IfErr result (λ why. FailsRead most name.entry.now why
         (state_of H.held H.faults H.last_fault H.started shelf.old)
         (state_of H.held H.faults H.last_fault H.started shelf.new)) }
 {
     let mut bytes = Vec::new(alloc);
     match shelf.read_whole(name, most, &mut bytes) {
-        Ok(()) => Ok(Some(bytes)),
-        Err(ReadAnswer::TooLong) => Ok(None),
-        Err(ReadAnswer::Failed) => Err(ReadFault::Failed),
-        Err(ReadAnswer::NoMemory) => Err(ReadFault::NoMemory),
+        Ok(()) => Ok(bytes),
+        Err(ReadAnswer::TooLong) => Err(LoadFault::TooLong(name)),
+        Err(ReadAnswer::Failed) => Err(LoadFault::Unread(name)),
+        Err(ReadAnswer::NoMemory) => Err(LoadFault::NoMemory),
     }
 }
 
-/// The bytes of the log that is read, or none where it is too long. Where none is read there are no
-/// bytes.
-fn read_log<H: Shelf>(
+/// The bytes of the log that is read. Where none is read there are no bytes.
+fn read_log<'a, H: Shelf>(
     alloc: Global,
     shelf: &mut H,
-    log: Option<&str>,
-) -> Result<Option<Vec<u8>>, ReadFault>
-    ensures read { IfOk result (λ read. ReadsLog (option_map (λ name. name.now) log.entry) (option_map (λ bytes. bytes.items) read)
+    log: Option<&'a str>,
+) -> Result<Vec<u8>, LoadFault<'a>>
+    ensures read { IfOk result (λ bytes. ReadsLog (option_map (λ name. name.now) log.entry) bytes.items
         (state_of H.held H.faults H.last_fault H.started shelf.old)
         (state_of H.held H.faults H.last_fault H.started shelf.new)) }
     ensures fault { IfErr result (λ why. FailsLog (option_map (λ name. name.now) log.entry) why
@@ -96,7 +77,7 @@ fn read_log<H: Shelf>(
         (state_of H.held H.faults H.last_fault H.started shelf.new)) }
 {
     match log {
-        None => Ok(Some(Vec::new(alloc))),
+        None => Ok(Vec::new(alloc)),
         Some(name) => read_file(alloc, shelf, name, MOST_LOG_BYTES),
     }
 }
@@ -111,7 +92,7 @@ fn accept(
 ) -> Result<Input, NoMemory>
     requires redundancy { redundancy ≤ 999 }
     requires accepted { AreCandidates points candidates }
-    ensures input { IfOk result (λ given. given ≡ accepted_input redundancy points candidates) }
+    ensures input { IfOk result (λ given. input_view given ≡ accepted_input redundancy points candidates) }
     ensures good { IfOk result IsGoodInput }
 {
     match build(alloc, &points, &candidates, redundancy) {
@@ -134,7 +115,7 @@ fn judge(
     candidates: &[u8],
 ) -> Result<Input, NoMemory>
     requires { redundancy ≤ 999 }
-    ensures input { IfOk result (λ given. given ≡ judged_input redundancy points.now candidates.now) }
+    ensures input { IfOk result (λ given. input_view given ≡ judged_input redundancy points.now candidates.now) }
     ensures good { IfOk result IsGoodInput }
 {
     let points = match read_points(alloc, points) {
@@ -152,11 +133,11 @@ fn judge(
 
 /// Reads the files of a command, the points first and the log last, and judges what the tables give.
 /// The redundancy is at most 999.
-pub fn load<H: Shelf>(
+pub fn load<'a, H: Shelf>(
     alloc: Global,
-    sources: &Sources<'_>,
+    sources: &Sources<'a>,
     shelf: &mut H,
-) -> Result<Loaded, LoadFault>
+) -> Result<Loaded, LoadFault<'a>>
     requires { sources.now.redundancy ≤ 999 }
     ensures loaded { IfOk result (λ loaded. Loads (sources_view sources.now) loaded.input loaded.log.items
         (state_of H.held H.faults H.last_fault H.started shelf.old)
@@ -166,22 +147,16 @@ pub fn load<H: Shelf>(
         (state_of H.held H.faults H.last_fault H.started shelf.new)) }
 {
     let points = match read_file(alloc, shelf, sources.points, MOST_BYTES) {
-        Ok(Some(points)) => points,
-        Ok(None) => return Ok(Loaded::too_long(alloc, File::Points)),
-        Err(ReadFault::Failed) => return Err(LoadFault::Unread(File::Points)),
-        Err(ReadFault::NoMemory) => return Err(LoadFault::NoMemory),
+        Ok(points) => points,
+        Err(why) => return Err(why),
     };
     let candidates = match read_file(alloc, shelf, sources.candidates, MOST_BYTES) {
-        Ok(Some(candidates)) => candidates,
-        Ok(None) => return Ok(Loaded::too_long(alloc, File::Candidates)),
-        Err(ReadFault::Failed) => return Err(LoadFault::Unread(File::Candidates)),
-        Err(ReadFault::NoMemory) => return Err(LoadFault::NoMemory),
+        Ok(candidates) => candidates,
+        Err(why) => return Err(why),
     };
     let log = match read_log(alloc, shelf, sources.log) {
-        Ok(Some(log)) => log,
-        Ok(None) => return Ok(Loaded::too_long(alloc, File::Log)),
-        Err(ReadFault::Failed) => return Err(LoadFault::Unread(File::Log)),
-        Err(ReadFault::NoMemory) => return Err(LoadFault::NoMemory),
+        Ok(log) => log,
+        Err(why) => return Err(why),
     };
     match judge(
         alloc,

@@ -1,7 +1,7 @@
 //! A run of the program over any shelf and sink.
 ghost use Rattle.std.specs.Prelude.{◌≡◌};
 ghost use Rattle.shelf_io.specs.States.{sink_state_of, state_of};
-ghost use Rattle.geoplan.specs.Printing.{Prints, SaysWords, Runs};
+ghost use Rattle.geoplan.specs.Running.{Prints, SaysWords, Runs};
 
 use crate::answer::answer;
 use crate::command::Command;

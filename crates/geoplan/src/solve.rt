@@ -27,8 +27,5 @@ pub fn solve<H: Shelf>(
         Err(WriteAnswer::Failed) => return Err(SearchFault::WriteFault),
         Err(WriteAnswer::NoMemory) => return Err(SearchFault::NoMemory),
     }
-    match search(alloc, tables.network(), shelf, log) {
-        Ok(done) => Ok(done),
-        Err(why) => Err(why),
-    }
+    search(alloc, tables.network(), shelf, log)
 }

@@ -1,11 +1,13 @@
 //! The top call.
-ghost use Rattle.std.specs.Prelude.{◌≡◌, ◌⊎◌, ◌≤◌, Some, None, is_some};
+ghost use Rattle.std.specs.Prelude.{◌≡◌, ◌⊎◌, Some, None, is_some};
 ghost use Rattle.std.specs.Option.{ForSome};
 ghost use Rattle.shelf_io.specs.Faults.{Rose};
 ghost use Rattle.shelf_io.specs.States.{sink_state_of, state_of};
 ghost use Rattle.geoplan.specs.CommandOf.{CommandOf, command_of, sources_of, written_by, OnCommand, OnPlan, IfPlan, IfRows, OnCheck, IfCheck};
-ghost use Rattle.geoplan.specs.Promises.{WhereHeld, IsStatus, IsFound, IsNone, IsLeftOpen, AreListed, IsTableRefused, IsUnread, IsUnwritten, IsTooLong, IsAccepted, IsLogRefused, OthersStay, RanOut, Says, IsComplete};
-ghost use Rattle.geoplan.specs.Texts.{words_text};
+ghost use Rattle.geoplan.specs.Input.{input_of};
+ghost use Rattle.geoplan.specs.Outcomes.{FindsPlan, FindsNone, LeavesOpen, ListsRows, AcceptsLog, RefusesLog, RefusesWords, RefusesTable, RefusesLength, FailsToRead};
+ghost use Rattle.geoplan.specs.Printing.{PrintsAll, Says};
+ghost use Rattle.geoplan.specs.Promises.{WhereHeld, IsStatus, IsUnwritten, RanOut, OthersStay, IsComplete, IsRefusedBy};
 
 use crate::run::run;
 use crate::words::Words;
@@ -20,53 +22,58 @@ pub fn geoplan<H: Shelf, O: Sink>(alloc: Global, words: &Words, shelf: &mut H, o
 
     // 0 of `plan`: the printed plan meets every limit for all whole-number displacements, and every
     // plan that meets them costs at least as much, which the log proves.
-    ensures found { result ≡ 0 → IfPlan words.now (λ job. WhereHeld (H.held shelf.old) (H.held shelf.new)
-        (λ files after. IsFound job files after
-        (sink_state_of O.written O.faults out.old) (sink_state_of O.written O.faults out.new))) }
-
-    // 0 of `rows`: the unknowns and rows of the network of the two tables were printed.
-    ensures rows { result ≡ 0 → IfRows words.now (λ sources. AreListed sources
+    ensures found { result ≡ 0 → IfPlan words.now (λ job. PrintsAll (FindsPlan job
         (state_of H.held H.faults H.last_fault H.started shelf.old)
-        (state_of H.held H.faults H.last_fault H.started shelf.new)
+        (state_of H.held H.faults H.last_fault H.started shelf.new))
         (sink_state_of O.written O.faults out.old) (sink_state_of O.written O.faults out.new)) }
 
-    // 0 of `check`: the text under the log's name is a log of the network, and its lines were counted
-    // and its bound printed.
-    ensures checked { result ≡ 0 → IfCheck words.now (λ job. IsAccepted job
+    // 0 of `rows`: the unknowns and rows of the network of the two tables were printed.
+    ensures rows { result ≡ 0 → IfRows words.now (λ sources. PrintsAll (ListsRows sources
         (state_of H.held H.faults H.last_fault H.started shelf.old)
-        (state_of H.held H.faults H.last_fault H.started shelf.new)
+        (state_of H.held H.faults H.last_fault H.started shelf.new))
+        (sink_state_of O.written O.faults out.old) (sink_state_of O.written O.faults out.new)) }
+
+    // 0 of `check`: the text under the log's name is a log of the network, its lines were counted and
+    // its bound printed, and every plan that meets the limits costs at least the bound.
+    ensures checked { result ≡ 0 → IfCheck words.now (λ job. PrintsAll (AcceptsLog job
+        (state_of H.held H.faults H.last_fault H.started shelf.old)
+        (state_of H.held H.faults H.last_fault H.started shelf.new))
         (sink_state_of O.written O.faults out.old) (sink_state_of O.written O.faults out.new)) }
 
     // 1: no plan meets the limits, which the log proves.
-    ensures none { result ≡ 1 → OnPlan words.now (λ job. WhereHeld (H.held shelf.old) (H.held shelf.new)
-        (λ files after. IsNone job files after
-        (sink_state_of O.written O.faults out.old) (sink_state_of O.written O.faults out.new))) }
+    ensures none { result ≡ 1 → OnPlan words.now (λ job. PrintsAll (FindsNone job
+        (state_of H.held H.faults H.last_fault H.started shelf.old)
+        (state_of H.held H.faults H.last_fault H.started shelf.new))
+        (sink_state_of O.written O.faults out.old) (sink_state_of O.written O.faults out.new)) }
 
     // 2: exactly where the words aren't accepted, but for want of memory.
-    ensures words { result ≡ 2 → (command_of words.now ≡ None) × Says words_text
+    ensures words { result ≡ 2 → Says (RefusesWords words.now
+        (state_of H.held H.faults H.last_fault H.started shelf.old)
+        (state_of H.held H.faults H.last_fault H.started shelf.new))
         (sink_state_of O.written O.faults out.old) (sink_state_of O.written O.faults out.new) }
     ensures refused { command_of words.now ≡ None → (result ≡ 2) ⊎ (result ≡ 7) }
 
     // 3: the shown fault is the first one of the points table, or of the candidates table where the
     // points table has none, or of their network where neither has one.
-    ensures refused_table { result ≡ 3 → OnCommand words.now (λ command. IsTableRefused (sources_of command)
+    ensures refused_table { result ≡ 3 → OnCommand words.now (λ command. Says (RefusesTable (sources_of command)
         (state_of H.held H.faults H.last_fault H.started shelf.old)
-        (state_of H.held H.faults H.last_fault H.started shelf.new)
+        (state_of H.held H.faults H.last_fault H.started shelf.new))
         (sink_state_of O.written O.faults out.old) (sink_state_of O.written O.faults out.new)) }
 
     // 4: the printed plan costs no more than any that meets the limits, which the log proves. It is
     // not decided: the interval of the printed limit contains 0.
-    ensures undecided { result ≡ 4 → OnPlan words.now (λ job. WhereHeld (H.held shelf.old) (H.held shelf.new)
-        (λ files after. IsLeftOpen job files after
-        (sink_state_of O.written O.faults out.old) (sink_state_of O.written O.faults out.new))) }
-
-    // 5: a read of a file of the command failed in this call.
-    ensures unread { result ≡ 5 → OnCommand words.now (λ command. IsUnread (sources_of command)
+    ensures undecided { result ≡ 4 → OnPlan words.now (λ job. PrintsAll (LeavesOpen job
         (state_of H.held H.faults H.last_fault H.started shelf.old)
-        (state_of H.held H.faults H.last_fault H.started shelf.new)
+        (state_of H.held H.faults H.last_fault H.started shelf.new))
         (sink_state_of O.written O.faults out.old) (sink_state_of O.written O.faults out.new)) }
 
-    // 6: a write of the log failed in this call, or a put of what a command prints did.
+    // 5: a read of a file of the command failed in this call.
+    ensures unread { result ≡ 5 → OnCommand words.now (λ command. Says (FailsToRead (sources_of command)
+        (state_of H.held H.faults H.last_fault H.started shelf.old)
+        (state_of H.held H.faults H.last_fault H.started shelf.new))
+        (sink_state_of O.written O.faults out.old) (sink_state_of O.written O.faults out.new)) }
+
+    // 6: a write of the log failed in this call, or the put of a report did.
     ensures unwritten { result ≡ 6 → OnCommand words.now (λ command. IsUnwritten command
         (state_of H.held H.faults H.last_fault H.started shelf.old)
         (state_of H.held H.faults H.last_fault H.started shelf.new)
@@ -79,23 +86,26 @@ pub fn geoplan<H: Shelf, O: Sink>(alloc: Global, words: &Words, shelf: &mut H, o
         (sink_state_of O.written O.faults out.old) (sink_state_of O.written O.faults out.new) }
 
     // 8 of `check`: the shown fault is the first one of the text under the log's name.
-    ensures log_refused { result ≡ 8 → OnCheck words.now (λ job. IsLogRefused job
+    ensures log_refused { result ≡ 8 → OnCheck words.now (λ job. Says (RefusesLog job
         (state_of H.held H.faults H.last_fault H.started shelf.old)
-        (state_of H.held H.faults H.last_fault H.started shelf.new)
+        (state_of H.held H.faults H.last_fault H.started shelf.new))
         (sink_state_of O.written O.faults out.old) (sink_state_of O.written O.faults out.new)) }
 
     // 9: the shown file is the first one, in the order of reading, that is too long.
-    ensures too_long { result ≡ 9 → OnCommand words.now (λ command. IsTooLong (sources_of command)
+    ensures too_long { result ≡ 9 → OnCommand words.now (λ command. Says (RefusesLength (sources_of command)
         (state_of H.held H.faults H.last_fault H.started shelf.old)
-        (state_of H.held H.faults H.last_fault H.started shelf.new)
+        (state_of H.held H.faults H.last_fault H.started shelf.new))
         (sink_state_of O.written O.faults out.old) (sink_state_of O.written O.faults out.new)) }
 
     // Accepted words and no fault counted: the status is what the files give, or want of memory.
-    // Of `check` it is 0 where the text is a log, and 8 where it has a first fault, and never both
-    // may be (`each_text_has_one_verdict`).
     ensures complete { (command : CommandOf) → command_of words.now ≡ Some command →
         (Rose (H.faults shelf.old) (H.faults shelf.new) → ⊥) → (Rose (O.faults out.old) (O.faults out.new) → ⊥) →
         ForSome (H.held shelf.old) (λ files. IsComplete command files result) }
+
+    // Whatever faults were counted: a file that is too long or a table with a fault is refused, but
+    // for a failed read and want of memory.
+    ensures refusals { (command : CommandOf) → command_of words.now ≡ Some command →
+        ForSome (H.held shelf.old) (λ files. IsRefusedBy (input_of (sources_of command) files) result) }
 
     // Every name but the log's of `plan` holds what it held; `rows`, `check`, and words that aren't
     // accepted, change nothing.

@@ -44,12 +44,14 @@ impl Words {
         Ok(())
     }
 
+    /// The number of words, the program's name among them.
     pub fn len(&self) -> u32
         ensures { result ≡ length self.now }
     {
         self.words.len() as u32
     }
 
+    /// The word of a number, counted from 0: the program's name is the first.
     pub fn get(&self, k: u32) -> &str
         requires { k < length self.now }
         ensures { slice_get self.now k ≡ Some result.now }

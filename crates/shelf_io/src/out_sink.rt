@@ -26,6 +26,7 @@ impl<'r, R: Print> Sink for OutSink<'r, R> {
 }
 
 impl<'r, R: Print> OutSink<'r, R> {
+    /// Nothing failed yet.
     pub fn new(rt: &'r R) -> OutSink<'r, R>
         ensures written { ⟦<OutSink<'r, R> as Sink>⟧.written result ≡ None }
         ensures faults { ⟦<OutSink<'r, R> as Sink>⟧.faults result ≡ 0 }

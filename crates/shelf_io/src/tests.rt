@@ -12,7 +12,7 @@ fn write_log<H: Shelf>(shelf: &mut H) -> Result<(), WriteAnswer> {
 }
 
 #[test]
-fn calls_fail_where_they_are_told_to(rt: HostRuntime) -> Result<(), Fail> {
+fn writes_fail_where_they_are_told_to(rt: HostRuntime) -> Result<(), Fail> {
     for (failing, answer, held) in [
         (0, Ok(()), "split 1\ncosts\n!"),
         (1, Err(WriteAnswer::Failed), "old"),
@@ -28,37 +28,48 @@ fn calls_fail_where_they_are_told_to(rt: HostRuntime) -> Result<(), Fail> {
         assert_eq!(rt; shelf.file("other"), Some(b"kept".as_slice()));
         assert_eq!(rt; shelf.file("none"), None);
     }
+    Ok(())
+}
 
-    let mut told = MemShelf::new(rt.alloc(), vec![in rt.alloc(); 3]?);
-    told.put_file("log", b"12345")?;
-    let mut sure = SureShelf::new(rt.alloc());
-    sure.put_file("log", b"old")?;
-    assert_eq!(rt; write_log(&mut sure), Ok(()));
-    sure.put_file("other", b"12345")?;
+#[test]
+fn reads_fail_where_they_are_told_to(rt: HostRuntime) -> Result<(), Fail> {
+    let mut shelf = MemShelf::new(rt.alloc(), vec![in rt.alloc(); 3]?);
+    shelf.put_file("log", b"12345")?;
     let mut into = vec![in rt.alloc(); b'<']?;
-    assert_eq!(rt;
-        told.read_whole("log", 4, &mut into),
-        Err(ReadAnswer::TooLong)
-    );
-    assert_eq!(rt; told.read_whole("log", 5, &mut into), Ok(()));
-    assert_eq!(rt;
-        told.read_whole("log", 5, &mut into),
-        Err(ReadAnswer::Failed)
-    );
-    assert_eq!(rt;
-        told.read_whole("none", 5, &mut into),
-        Err(ReadAnswer::Failed)
-    );
-    assert_eq!(rt;
-        sure.read_whole("other", 4, &mut into),
-        Err(ReadAnswer::TooLong)
-    );
-    assert_eq!(rt; sure.read_whole("other", 5, &mut into), Ok(()));
-    assert_eq!(rt; sure.read_whole("none", 0, &mut into), Ok(()));
-    assert_eq!(rt; into.as_slice(), b"<1234512345".as_slice());
-    assert_eq!(rt; sure.file("log"), Some(b"split 1\ncosts\n!".as_slice()));
-    assert_eq!(rt; sure.file("none"), None);
+    for (name, limit, answer) in [
+        ("log", 4, Err(ReadAnswer::TooLong)),
+        ("log", 5, Ok(())),
+        ("log", 5, Err(ReadAnswer::Failed)),
+        ("none", 5, Err(ReadAnswer::Failed)),
+    ] {
+        assert_eq!(rt; shelf.read_whole(name, limit, &mut into), answer);
+    }
+    assert_eq!(rt; into.as_slice(), b"<12345".as_slice());
+    Ok(())
+}
 
+#[test]
+fn a_sure_shelf_reads_a_name_that_is_not_held_as_empty(rt: HostRuntime) -> Result<(), Fail> {
+    let mut shelf = SureShelf::new(rt.alloc());
+    shelf.put_file("log", b"old")?;
+    shelf.put_file("other", b"12345")?;
+    assert_eq!(rt; write_log(&mut shelf), Ok(()));
+    let mut into = vec![in rt.alloc(); b'<']?;
+    for (name, limit, answer) in [
+        ("other", 4, Err(ReadAnswer::TooLong)),
+        ("other", 5, Ok(())),
+        ("none", 0, Ok(())),
+    ] {
+        assert_eq!(rt; shelf.read_whole(name, limit, &mut into), answer);
+    }
+    assert_eq!(rt; into.as_slice(), b"<12345".as_slice());
+    assert_eq!(rt; shelf.file("log"), Some(b"split 1\ncosts\n!".as_slice()));
+    assert_eq!(rt; shelf.file("none"), None);
+    Ok(())
+}
+
+#[test]
+fn puts_fail_where_they_are_told_to(rt: HostRuntime) -> Result<(), Fail> {
     let mut out = MemSink::new(rt.alloc(), vec![in rt.alloc(); 2]?);
     assert_eq!(rt; out.put(b"plan\n"), Ok(()));
     assert_eq!(rt; out.put(b"cost\n"), Err(WriteAnswer::Failed));

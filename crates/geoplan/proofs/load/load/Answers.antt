@@ -1,42 +1,38 @@
 use Rattle.shelf_io.specs.States.{state_of}
 use Rattle.geoplan.specs.CommandView.{sources_view}
-use Rattle.geoplan.proofs.LoadLemmas.{Loads-long_points, Loads-long_candidates, Loads-long_log, Loads-judged}
+use Rattle.geoplan.proofs.LoadLemmas.{FailsLoad-points, FailsLoad-candidates, FailsLoad-log, Loads-judged}
 use Rattle.geoplan.proofs.load.load.Goals as goal
 
-pub returns-in-Ok-None-clause-loaded : goal.returns-in-Ok-None-clause-loaded
-returns-in-Ok-None-clause-loaded g c =
-    Loads-long_points (sources_view c.args.sources.now) c.too_long.result.input c.too_long.result.log.items
+pub returns-in-Err-clause-fault : goal.returns-in-Err-clause-fault
+returns-in-Err-clause-fault g c =
+    FailsLoad-points (sources_view c.args.sources.now) c.in-Err.why
     (state_of g.H.Shelf.held g.H.Shelf.faults g.H.Shelf.last_fault g.H.Shelf.started c.args.shelf.now)
     (state_of g.H.Shelf.held g.H.Shelf.faults g.H.Shelf.last_fault g.H.Shelf.started c.read_file.new.shelf)
-    c.too_long.ensures (rw c.in-Ok-None.field-0-is at c.in-Ok-None.ensures.read)
+    c.in-Err.ensures.fault
 
-pub returns-in-Ok-None-read_file-clause-loaded : goal.returns-in-Ok-None-read_file-clause-loaded
-returns-in-Ok-None-read_file-clause-loaded g c =
-    Loads-long_candidates (sources_view c.args.sources.now) c.in-Ok-Some.points.items c.too_long-in-Ok-None-read_file.result.input c.too_long-in-Ok-None-read_file.result.log.items
-    (state_of g.H.Shelf.held g.H.Shelf.faults g.H.Shelf.last_fault g.H.Shelf.started c.args.shelf.now)
-    (state_of g.H.Shelf.held g.H.Shelf.faults g.H.Shelf.last_fault g.H.Shelf.started c.read_file.new.shelf)
-    (state_of g.H.Shelf.held g.H.Shelf.faults g.H.Shelf.last_fault g.H.Shelf.started c.read_file-2.new.shelf)
-    c.too_long-in-Ok-None-read_file.ensures
-    (rw c.in-Ok-Some.field-0-is at c.in-Ok-Some.ensures.read) (rw c.in-Ok-None-read_file.field-0-is at c.in-Ok-None-read_file.ensures.read)
-
-pub returns-in-Ok-None-read_log-clause-loaded : goal.returns-in-Ok-None-read_log-clause-loaded
-returns-in-Ok-None-read_log-clause-loaded g c =
-    Loads-long_log (sources_view c.args.sources.now) c.in-Ok-Some.points.items c.in-Ok-Some-read_file.candidates.items c.too_long-in-Ok-None-read_log.result.input c.too_long-in-Ok-None-read_log.result.log.items
+pub returns-in-Err-read_file-clause-fault : goal.returns-in-Err-read_file-clause-fault
+returns-in-Err-read_file-clause-fault g c =
+    FailsLoad-candidates (sources_view c.args.sources.now) c.in-Ok.points.items c.in-Err-read_file.why
     (state_of g.H.Shelf.held g.H.Shelf.faults g.H.Shelf.last_fault g.H.Shelf.started c.args.shelf.now)
     (state_of g.H.Shelf.held g.H.Shelf.faults g.H.Shelf.last_fault g.H.Shelf.started c.read_file.new.shelf)
     (state_of g.H.Shelf.held g.H.Shelf.faults g.H.Shelf.last_fault g.H.Shelf.started c.read_file-2.new.shelf)
-    (state_of g.H.Shelf.held g.H.Shelf.faults g.H.Shelf.last_fault g.H.Shelf.started c.read_log.new.shelf)
-    c.too_long-in-Ok-None-read_log.ensures
-    (rw c.in-Ok-Some.field-0-is at c.in-Ok-Some.ensures.read) (rw c.in-Ok-Some-read_file.field-0-is at c.in-Ok-Some-read_file.ensures.read)
-    (rw c.in-Ok-None-read_log.field-0-is at c.in-Ok-None-read_log.ensures.read)
+    c.in-Ok.ensures.read c.in-Err-read_file.ensures.fault
 
-pub returns-in-Ok-clause-loaded : goal.returns-in-Ok-clause-loaded
-returns-in-Ok-clause-loaded g c =
-    Loads-judged (sources_view c.args.sources.now) c.in-Ok-Some.points.items c.in-Ok-Some-read_file.candidates.items c.in-Ok-Some-read_log.log.items c.in-Ok.input
+pub returns-in-Err-read_log-clause-fault : goal.returns-in-Err-read_log-clause-fault
+returns-in-Err-read_log-clause-fault g c =
+    FailsLoad-log (sources_view c.args.sources.now) c.in-Ok.points.items c.in-Ok-read_file.candidates.items c.in-Err-read_log.why
     (state_of g.H.Shelf.held g.H.Shelf.faults g.H.Shelf.last_fault g.H.Shelf.started c.args.shelf.now)
     (state_of g.H.Shelf.held g.H.Shelf.faults g.H.Shelf.last_fault g.H.Shelf.started c.read_file.new.shelf)
     (state_of g.H.Shelf.held g.H.Shelf.faults g.H.Shelf.last_fault g.H.Shelf.started c.read_file-2.new.shelf)
     (state_of g.H.Shelf.held g.H.Shelf.faults g.H.Shelf.last_fault g.H.Shelf.started c.read_log.new.shelf)
-    (rw c.in-Ok-Some.field-0-is at c.in-Ok-Some.ensures.read) (rw c.in-Ok-Some-read_file.field-0-is at c.in-Ok-Some-read_file.ensures.read)
-    (rw c.in-Ok-Some-read_log.field-0-is at c.in-Ok-Some-read_log.ensures.read)
-    (rw (c.as_slice.ensures.value, c.as_slice-2.ensures.value) at c.in-Ok.ensures.input) c.in-Ok.ensures.good
+    c.in-Ok.ensures.read c.in-Ok-read_file.ensures.read c.in-Err-read_log.ensures.fault
+
+pub returns-in-Ok-judge-clause-loaded : goal.returns-in-Ok-judge-clause-loaded
+returns-in-Ok-judge-clause-loaded g c =
+    Loads-judged (sources_view c.args.sources.now) c.in-Ok.points.items c.in-Ok-read_file.candidates.items c.in-Ok-read_log.log.items c.in-Ok-judge.input
+    (state_of g.H.Shelf.held g.H.Shelf.faults g.H.Shelf.last_fault g.H.Shelf.started c.args.shelf.now)
+    (state_of g.H.Shelf.held g.H.Shelf.faults g.H.Shelf.last_fault g.H.Shelf.started c.read_file.new.shelf)
+    (state_of g.H.Shelf.held g.H.Shelf.faults g.H.Shelf.last_fault g.H.Shelf.started c.read_file-2.new.shelf)
+    (state_of g.H.Shelf.held g.H.Shelf.faults g.H.Shelf.last_fault g.H.Shelf.started c.read_log.new.shelf)
+    c.in-Ok.ensures.read c.in-Ok-read_file.ensures.read c.in-Ok-read_log.ensures.read
+    (rw (c.as_slice.ensures.value, c.as_slice-2.ensures.value) at c.in-Ok-judge.ensures.input) c.in-Ok-judge.ensures.good

@@ -1,7 +1,7 @@
 use Rattle.std.proofs.Common.{ap, ◌∙◌, Err, refl}
 use Rattle.branch_bound.specs.declared.search_fault.SearchFault.TheVariants as search
 use Rattle.shelf_io.specs.States.{state_of}
-use Rattle.geoplan.proofs.SolveLemmas.{Solves-after, FailsSolve-after, FailsSolve-start}
+use Rattle.geoplan.proofs.SolveLemmas.{solved-answer, failed-answer, FailsSolve-start}
 use Rattle.geoplan.proofs.solve.solve.Goals as goal
 
 pub returns-in-Err-Failed-clause-fault : goal.returns-in-Err-Failed-clause-fault
@@ -18,20 +18,20 @@ returns-in-Err-NoMemory-clause-fault g c =
     (state_of g.H.Shelf.held g.H.Shelf.faults g.H.Shelf.last_fault g.H.Shelf.started c.start.new.self)
     c.in-Err-NoMemory.ensures.refused c.start.ensures.cause.later (λ is. absurd (cc))
 
-pub returns-in-Ok-search-clause-solved : goal.returns-in-Ok-search-clause-solved
-returns-in-Ok-search-clause-solved g c =
+pub returns-clause-solved : goal.returns-clause-solved
+returns-clause-solved g c =
     let done = rw c.in-Ok.is at c.start.ensures.cause.done in
-    Solves-after c.args.tables.now c.args.log.now c.in-Ok-search.done
+    solved-answer c.args.tables.now c.args.log.now
     (state_of g.H.Shelf.held g.H.Shelf.faults g.H.Shelf.last_fault g.H.Shelf.started c.args.shelf.now)
     (state_of g.H.Shelf.held g.H.Shelf.faults g.H.Shelf.last_fault g.H.Shelf.started c.start.new.self)
     (state_of g.H.Shelf.held g.H.Shelf.faults g.H.Shelf.last_fault g.H.Shelf.started c.search.new.shelf)
-    c.in-Ok.ensures.empty (done refl) (rw c.network.ensures at c.in-Ok-search.ensures.searched)
+    c.in-Ok.ensures.empty (done refl) c.search.result (rw c.network.ensures at c.search.ensures.searched)
 
-pub returns-in-Err-clause-fault : goal.returns-in-Err-clause-fault
-returns-in-Err-clause-fault g c =
+pub returns-clause-fault : goal.returns-clause-fault
+returns-clause-fault g c =
     let done = rw c.in-Ok.is at c.start.ensures.cause.done in
-    FailsSolve-after c.args.tables.now c.args.log.now c.in-Err.why
+    failed-answer c.args.tables.now c.args.log.now
     (state_of g.H.Shelf.held g.H.Shelf.faults g.H.Shelf.last_fault g.H.Shelf.started c.args.shelf.now)
     (state_of g.H.Shelf.held g.H.Shelf.faults g.H.Shelf.last_fault g.H.Shelf.started c.start.new.self)
     (state_of g.H.Shelf.held g.H.Shelf.faults g.H.Shelf.last_fault g.H.Shelf.started c.search.new.shelf)
-    c.in-Ok.ensures.empty (done refl) (rw c.network.ensures at c.in-Err.ensures.refused)
+    c.in-Ok.ensures.empty (done refl) c.search.result (rw c.network.ensures at c.search.ensures.refused)

@@ -1,7 +1,7 @@
 use Rattle.std.proofs.Common.{sym, ◌∙◌}
 use Rattle.shelf_io.specs.States.{sink_state_of, state_of}
 use Rattle.geoplan.proofs.FaultLemmas.{unwritten-of, others-of, untouched-of, shelf_told-of, out_told-of}
-use Rattle.geoplan.proofs.MemoryLemmas.{ran_out-of, complete-of, refused-of}
+use Rattle.geoplan.proofs.MemoryLemmas.{ran_out-of, complete-of, refused-of, refusals-of}
 use Rattle.geoplan.proofs.TopLemmas.{found-of, rows-of, checked-of, log_refused-of, none-of, undecided-of, words-of, refused_table-of, unread-of, too_long-of}
 use Rattle.geoplan.proofs.top.geoplan.Goals as goal
 
@@ -100,6 +100,14 @@ returns-clause-complete g c = λ command is quiet quiet_sink files told.
     (state_of g.H.Shelf.held g.H.Shelf.faults g.H.Shelf.last_fault g.H.Shelf.started c.run.new.shelf)
     (sink_state_of g.O.Sink.written g.O.Sink.faults c.args.out.now) (sink_state_of g.O.Sink.written g.O.Sink.faults c.run.new.out)
     c.run.ensures command is quiet quiet_sink files told)
+
+pub returns-clause-refusals : goal.returns-clause-refusals
+returns-clause-refusals g c = λ command is files told.
+    rw c.code.ensures (refusals-of c.args.words.now c.run.result
+    (state_of g.H.Shelf.held g.H.Shelf.faults g.H.Shelf.last_fault g.H.Shelf.started c.args.shelf.now)
+    (state_of g.H.Shelf.held g.H.Shelf.faults g.H.Shelf.last_fault g.H.Shelf.started c.run.new.shelf)
+    (sink_state_of g.O.Sink.written g.O.Sink.faults c.args.out.now) (sink_state_of g.O.Sink.written g.O.Sink.faults c.run.new.out)
+    c.run.ensures command is files told)
 
 pub returns-clause-others : goal.returns-clause-others
 returns-clause-others g c =
