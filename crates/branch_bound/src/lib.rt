@@ -4,8 +4,10 @@
 mod answer;
 mod best;
 mod branch;
+mod choice;
 mod limit_tests;
 mod line;
+mod missing;
 mod node_tests;
 mod run;
 mod search_fault;

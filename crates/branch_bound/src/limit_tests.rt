@@ -19,7 +19,7 @@ pub struct OpenLimit {
 }
 
 /// Whether a limit is in force for a plan: it has no owner, or its owner is chosen.
-fn is_in_force(network: &Network, plan: &Plan, limit: u32) -> bool
+pub fn is_in_force(network: &Network, plan: &Plan, limit: u32) -> bool
     requires plan { length plan.now ≡ length network.now.candidates }
     requires limit { limit < length network.now.limits }
     ensures { (l : LimitOf) → slice_get network.now.limits limit ≡ Some l → IsTrue result ↔ IsInForce l plan.now }

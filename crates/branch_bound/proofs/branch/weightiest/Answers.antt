@@ -1,6 +1,6 @@
 use Rattle.std.proofs.Common.{◌<◌, length, ap, arith}
 use Rattle.branch_bound.proofs.NodeLemmas.{same_plans}
-use Rattle.branch_bound.proofs.branch.worthiest.Goals as goal
+use Rattle.branch_bound.proofs.branch.weightiest.Goals as goal
 
 pub returns-in-None-clause-none : goal.returns-in-None-clause-none
 returns-in-None-clause-none c =

@@ -1,7 +1,7 @@
 use Rattle.std.proofs.Common.{◌≡◌, ℕ, ◌<◌, None}
 use Rattle.std.specs.Prelude.{IfSome}
 use Rattle.bound_log.specs.LogTree.{IsOpenAt}
-use Rattle.branch_bound.proofs.branch.worthiest.Given as goal
+use Rattle.branch_bound.proofs.branch.weightiest.Given as goal
 
 abbrev pub invariant-loop-candidate : goal.invariant-loop-candidate
 invariant-loop-candidate l = record {
