@@ -47,7 +47,7 @@ fn take_steps(side: Side, row: &mut [i128], rows: &Tri)
     requires some { 0 < length row.old }
     requires room { length row.old ≤ length rows.now }
     requires pivots { (t : ℕ) → t < length rows.now - length row.old → IsPivotRow (tri_row rows.now t) }
-    requires size { (m : ℕ) → unsigned_abs (at row.old m) < 2 ^ 110 }
+    requires size { (m : ℕ) → unsigned_abs (at row.old m) < 2 ^ 109 }
     requires head { at row.old 0 ≤ℤ pos (2 ^ 60 + 64) }
     ensures exact { (matrix : List (List ℤ)) → IsTriangle (length rows.now) matrix
         → ((t : ℕ) → t < length rows.now - length row.old → row_at (matrix_after (over_of side) t matrix) 0 ≡ tri_row rows.now t)
