@@ -5,10 +5,11 @@ use Rattle.whole_algebra.specs.Grid.{entry}
 use Rattle.lent_parts.specs.Triangle.{IsTri}
 use Rattle.lent_parts.proofs.Triangles.{length-IsTri}
 use Rattle.geo_model.specs.Row.{Entries, RowOf, IsRow}
+use Rattle.geo_model.proofs.SizeLemmas.{light}
 use Rattle.normal_matrix.specs.declared.change.Change.{Change}
 use Rattle.normal_matrix.specs.declared.change.Change.TheVariants.{Add, Remove}
 use Rattle.normal_matrix.specs.Changes.{sign_of}
-use Rattle.normal_matrix.proofs.RowSteps.{light, sum_is_small, rows_step}
+use Rattle.normal_matrix.proofs.RowSteps.{sum_is_small, rows_step}
 use Rattle.normal_matrix.proofs.sums.add_rows.Goals as goal
 
 one_of : (sign : ℤ) (change : Change) → sign ≡ sign_of change → unsigned_abs sign ≡ 1
