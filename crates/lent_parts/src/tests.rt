@@ -82,7 +82,7 @@ fn lines_cut_at_their_ends(rt: HostRuntime) {
 }
 
 // The place where the last token of a line begins.
-fn last_start(line: &[u8]) -> usize {
+fn last_start(line: &[u8]) -> u64 {
     let mut last = 0;
     for token in tokens(line) {
         last = token.start;
