@@ -10,7 +10,8 @@ use Rattle.lent_parts.proofs.Triangles.{length-IsTri, length-tri_row}
 use Rattle.pivot_chain.specs.Step.{over_of, IsPivotRow}
 use Rattle.pivot_chain.specs.Chain.{chain_of, StopsAt}
 use Rattle.pivot_chain.specs.declared.side.Side.{Side}
-use Rattle.pivot_chain.proofs.Matrices.{GoesOn, row_kept}
+use Rattle.psd_cert.proofs.WrittenRows.{row_kept}
+use Rattle.pivot_chain.proofs.Matrices.{GoesOn}
 use Rattle.pivot_chain.proofs.ChainSteps.{no_stop, stops_at}
 
 pub long_row : (n : ℕ) (tri : List (List ℤ)) (k : ℕ) (row : List ℤ) → IsTri n tri → k < n → row ≡ tri_row tri k → length row ≡ n - k

@@ -1,5 +1,6 @@
 pub mod Decided
 pub mod RowLaws
+pub mod WrittenRows
 pub mod Quotients
 pub mod ScaleLaws
 pub mod Products

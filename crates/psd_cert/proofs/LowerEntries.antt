@@ -2,7 +2,6 @@
 use Rattle.std.proofs.Common.{◌≡◌, ℕ, zero, suc, ◌+◌, ◌-◌, ◌^◌, ◌<◌, ◌≤◌, List, [], ◌∷◌, map, length, take, drop, get_or, refl, sym, ◌∙◌, ap, ap₂, subst, arith, inl, inr, ℤ, pos, ◌+ℤ◌, ◌-ℤ◌, ◌*ℤ◌, neg_ℤ, ◌≤ℤ◌, ◌<ℤ◌, unsigned_abs, slice_set}
 use Rattle.std.proofs.lemmas.Int.{ints}
 use Rattle.std.proofs.lemmas.Bool.{cases_lt}
-use Rattle.std.proofs.lemmas.List.{get_or-set_same, get_or-set_other}
 use Rattle.whole_algebra.specs.Sums.{int_sum}
 use Rattle.whole_algebra.specs.Rounding.{floor_over, gap_over}
 use Rattle.whole_algebra.specs.Matrices.{at}
@@ -12,13 +11,14 @@ use Rattle.whole_algebra.proofs.Ring.{add_comm, add_assoc}
 use Rattle.whole_algebra.proofs.Places.{triangle_by_places}
 use Rattle.whole_algebra.proofs.Normal.{ring, x0, x1, ◌⊕◌, ◌⊖◌}
 use Rattle.lent_parts.specs.Triangle.{IsTri, tri_row, refilled}
-use Rattle.lent_parts.proofs.Triangles.{refilled_whole, length-IsTri, length-tri_row, IsTri-slice_set}
+use Rattle.lent_parts.proofs.Triangles.{length-IsTri, length-tri_row}
 use Rattle.psd_cert.specs.Sizes.{RowFits}
 use Rattle.psd_cert.specs.Lower.{divided, gaps_of, IsDivisor, IsDivision}
 use Rattle.psd_cert.proofs.Products.{kept, read_back}
 use Rattle.psd_cert.proofs.Entries.{entry_read}
 use Rattle.psd_cert.proofs.LeftOverLaws.{nothing_past}
 use Rattle.psd_cert.proofs.DividedLaws.{divided-right, divided-diagonal}
+use Rattle.psd_cert.proofs.WrittenRows.{row_kept, row_written, row_shape}
 
 -- one number more in a sum
 pub sum_one_more : (f : ℤ → ℤ) (xs : List ℤ) (k : ℕ) (x : ℤ) → k < length xs → x ≡ get_or xs k (pos 0)
@@ -135,15 +135,12 @@ read_diagonal s m i zero first row x slack d z lt e1 e2 e f =
     none_more i = omega arith
 
 -- ---- rows as the code writes them
-pub row_written : (n : ℕ) (left : List (List ℤ)) (w : List ℤ) (i : ℕ) (whole : List (List ℤ)) → IsTri n left → IsTri n whole → i < n → length w ≡ n - i
+pub entries_written : (n : ℕ) (left : List (List ℤ)) (w : List ℤ) (i : ℕ) (whole : List (List ℤ)) → IsTri n left → IsTri n whole → i < n → length w ≡ n - i
     → ((j : ℕ) → j < i → (k : ℕ) → at (row_at left j) k ≡ at (row_at whole j) k)
     → ((k : ℕ) → k < length w → at w k ≡ at (row_at whole i) k)
     → IsTri n (slice_set left i (refilled (tri_row left i) w))
     × ((j : ℕ) → j < i + 1 → (k : ℕ) → at (row_at (slice_set left i (refilled (tri_row left i) w)) j) k ≡ at (row_at whole j) k)
-row_written n left w i whole t u lt e before here =
-    let filled : refilled (tri_row left i) w ≡ w = refilled_whole (tri_row left i) w (e ∙ sym (length-tri_row n left i t lt)) in
-    subst (λ r. IsTri n (slice_set left i r) × ((j : ℕ) → j < i + 1 → (k : ℕ) → at (row_at (slice_set left i r) j) k ≡ at (row_at whole j) k)) (sym filled)
-    (IsTri-slice_set n left i w t e, λ j lj k. rows j lj k)
+entries_written n left w i whole t u lt e before here = (row_shape n left w i t lt e, λ j lj k. entries j lj k)
   where
     same_row : (k : ℕ) → at w k ≡ at (row_at whole i) k
     same_row k =
@@ -152,13 +149,13 @@ row_written n left w i whole t u lt e before here =
           | inr g ↦ nothing_past w k g ∙ sym (nothing_past (row_at whole i) k (let f = length-tri_row n whole i u lt in omega arith))
         ]
 
-    rows : (j : ℕ) → j < i + 1 → (k : ℕ) → at (row_at (slice_set left i w) j) k ≡ at (row_at whole j) k
-    rows j lj k =
+    entries : (j : ℕ) → j < i + 1 → (k : ℕ) → at (row_at (slice_set left i (refilled (tri_row left i) w)) j) k ≡ at (row_at whole j) k
+    entries j lj k =
         elim (cases_lt j i) [
-          | inl l ↦ ap (λ r. at r k) (get_or-set_other left i j w [] (λ f. absurd (omega arith))) ∙ before j l k
+          | inl l ↦ ap (λ r. at r k) (row_kept left (refilled (tri_row left i) w) i j (λ f. absurd (omega arith))) ∙ before j l k
           | inr g ↦ (let same : j ≡ i = omega arith in
-              ap (λ l. at (row_at (slice_set left i w) l) k) same
-              ∙ ap (λ r. at r k) (get_or-set_same left i w [] (let f = length-IsTri n left t in omega arith))
+              ap (λ l. at (row_at (slice_set left i (refilled (tri_row left i) w)) l) k) same
+              ∙ ap (λ r. at r k) (row_written n left w i t lt e)
               ∙ same_row k ∙ ap (λ l. at (row_at whole l) k) (sym same))
         ]
 

@@ -6,7 +6,7 @@ use Rattle.whole_algebra.specs.Grid.{row_at}
 use Rattle.lent_parts.specs.Triangle.{IsTri, tri_row, refilled}
 use Rattle.lent_parts.proofs.Triangles.{length-IsTri}
 use Rattle.pivot_chain.specs.Step.{over_of, IsPivotRow}
-use Rattle.pivot_chain.proofs.Matrices.{row_put, row_written, row_shape, row_kept}
+use Rattle.psd_cert.proofs.WrittenRows.{row_put, row_written, row_shape, row_kept}
 use Rattle.pivot_chain.proofs.ChainRun.{long_row, new_row, pivots_more, stops_here, never_stops}
 use Rattle.pivot_chain.proofs.chain.run_chain.Goals as goal
 

@@ -4,7 +4,7 @@ use Rattle.whole_algebra.specs.Grid.{row_at}
 use Rattle.lent_parts.proofs.Triangles.{length-IsTri}
 use Rattle.limit_forms.specs.Grid.{lower_grid, upper_grid}
 use Rattle.limit_forms.proofs.GridEntries.{lower_triangle, upper_triangle}
-use Rattle.pivot_chain.proofs.Matrices.{row_put, row_shape, rows_all}
+use Rattle.psd_cert.proofs.WrittenRows.{row_put, row_shape, rows_all}
 use Rattle.pivot_chain.proofs.ChainRun.{long_row}
 use Rattle.pivot_chain.proofs.judging.write_grids.Goals as goal
 

@@ -4,7 +4,7 @@ use Rattle.lent_parts.specs.Triangle.{IsTri, tri_row}
 use Rattle.lent_parts.proofs.Triangles.{length-tri_row, length-IsTri}
 use Rattle.psd_cert.specs.Lower.{divided}
 use Rattle.psd_cert.proofs.DividedLaws.{triangle-divided}
-use Rattle.psd_cert.proofs.LowerEntries.{below_first, row_written, rows_written}
+use Rattle.psd_cert.proofs.LowerEntries.{below_first, entries_written, rows_written}
 use Rattle.psd_cert.proofs.lower.divide.Goals as goal
 
 pub row_mut-requires : goal.row_mut-requires
@@ -33,7 +33,7 @@ loop-i-preserved c =
     let row = simp (to_z-of_z, c.ranges.s) at c.write_divided.ensures in
     let rows = simp (to_z-of_z, c.ranges.s) at c.loop-i.invariant.1 in
     simp (to_z-of_z, c.ranges.s)
-    (row_written (length c.args.current.now - 1) c.loop-i.left c.write_divided.new.target c.loop-i.i (divided c.args.s c.args.current.now) c.loop-i.invariant.0
+    (entries_written (length c.args.current.now - 1) c.loop-i.left c.write_divided.new.target c.loop-i.i (divided c.args.s c.args.current.now) c.loop-i.invariant.0
     (triangle-divided c.args.s (length c.args.current.now - 1) c.args.current.now shape) (omega arith) (omega arith) rows row)
 
 pub returns : goal.returns
