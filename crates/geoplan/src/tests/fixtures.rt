@@ -15,7 +15,7 @@ pub const HEIGHTS: &str = "A,,,100.000,,fixed\nH,,,101.000,,1.0\n";
 /// The same with a limit of 0.9 mm.
 pub const CLOSER_HEIGHTS: &str = "A,,,100.000,,fixed\nH,,,101.000,,0.9\n";
 
-/// Two points fixed in plane and height and one more, and a new one with limits of 4.0 and 7.0 mm.
+/// Three points fixed in plane and height, and a new one with limits of 4.0 and 7.0 mm.
 pub const SPACE_POINTS: &str =
     "F1,0.000,0.000,0.000,fixed,fixed\nF2,100.000,0.000,5.000,fixed,fixed\nF3,0.000,100.000,8.000,fixed,fixed\nP,50.000,50.000,10.000,4.0,7.0\n";
 
