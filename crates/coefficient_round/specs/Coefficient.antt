@@ -10,6 +10,7 @@ scale = 10000
 abbrev pub radian : ℕ
 radian = 636620
 
+-- the square of a number
 abbrev pub square : ℕ → ℕ
 square n = n * n
 
@@ -37,23 +38,25 @@ unfoldable pub greatest_reached : ℕ → ℕ → ℕ → ℕ
 greatest_reached part length_squared zero = 0
 greatest_reached part length_squared (suc most) = if reaches part length_squared (suc most) then suc most else greatest_reached part length_squared most
 
+-- a size with the sign of a number
 abbrev pub with_sign_of : ℤ → ℕ → ℤ
 with_sign_of (pos n) size = pos size
 with_sign_of (negsuc n) size = neg_ℤ (pos size)
 
--- the coefficient of a distance for one part of its line
+-- the coefficient of a distance for one part of its line: 10000 times the cosine or the sine of the bearing
 unfoldable pub distance_coefficient : ℤ → ℤ → ℤ → ℤ
 distance_coefficient part dx dy = with_sign_of part (greatest_reached (unsigned_abs part) (square_length dx dy) scale)
 
--- the greatest number q from 1 up to `most` with (2 q - 1) * d at most 2 * n, or 0: n / d rounded to the nearest, a half going up
+-- the greatest number q from 1 up to `most` with (2 q - 1) * d at most 2 * n, or 0: where n / d is at most `most`, it is n / d
+-- rounded to the nearest, a half going up
 unfoldable pub nearest_size : ℕ → ℕ → ℕ → ℕ
 nearest_size n d zero = 0
 nearest_size n d (suc most) = if nat_le ((2 * suc most - 1) * d) (2 * n) then suc most else nearest_size n d most
 
--- the coefficient of a direction for one part of its line: 10000 times the change of the bearing in cc by a mm across
+-- the coefficient of a direction for one part of its line: 10000 times the change of the bearing in cc by a mm, up to the sign
 unfoldable pub direction_coefficient : ℤ → ℤ → ℤ → ℤ
 direction_coefficient part dx dy = with_sign_of part (nearest_size (radian * scale * unsigned_abs part) (square_length dx dy) radian)
 
--- the weight of an observation with a standard deviation of u hundredths
+-- the weight of an observation with a standard deviation of u hundredths of a mm or cc: 10 ^ 8 over the square of u
 unfoldable pub weight_for : ℕ → ℤ
 weight_for u = pos (nearest_size (10 ^ 8) (square u) 1000000)

@@ -1,6 +1,7 @@
 pub mod NameFacts
 pub mod NumberFacts
 pub mod ColumnFacts
+pub mod Places
 pub mod PlaceFacts
 pub mod StoredFacts
 pub mod TableFacts
