@@ -8,9 +8,9 @@ use Rattle.std.proofs.lemmas.List.{same_from_push}
 use Rattle.std.proofs.lemmas.List.Elements.{All-nil, All-cons, All-head, All-tail, All-weaker}
 use Rattle.lent_parts.specs.Pieces.{is_space, space, is_line_feed, tokens_of, lines_of}
 use Rattle.lent_parts.proofs.PieceLemmas.{tokens_of-joined, tokens_of-only, lines_of-more}
-use Rattle.bound_log.specs.Grammar.{number_bound, HasNumbersBelow, IsLine, line_words, line_body, text_line}
+use Rattle.bound_log.specs.Grammar.{number_bound, HasNumbersBelow, IsLine, text_line}
 use Rattle.bound_log.specs.LogLines.{words_of, BeginsWith}
-use Rattle.bound_log.specs.LogText.{line_text, line_end, lines_text}
+use Rattle.bound_log.specs.LogText.{line_words, line_body, line_text, line_end, lines_text}
 use Rattle.bound_log.specs.Tree.{LineOf, split, leaf, cost, pivot}
 use Rattle.bound_log.proofs.NumberLemmas.{decimal-bytes, decimal-apart}
 
@@ -49,17 +49,12 @@ line_body-no_feed (leaf (pivot limit)) small = pair_no_feed 112 limit refl small
 
 -- ---- texts of lines
 
-pub line_text-body : (line : LineOf) → line_text line ≡ line_body line ++ line_end
-line_text-body (split candidate) = refl
-line_text-body (leaf cost) = refl
-line_text-body (leaf (pivot limit)) = refl
-
 -- a text in the grammar is the line without its LF
 pub body_of : (text : List ℕ) (line : LineOf) → IsLine text line → text ≡ line_body line
-body_of text line is = (same_from_push text (line_body line) 10 10 (is.spelled ∙ line_text-body line)).0
+body_of text line is = (same_from_push text (line_body line) 10 10 is.spelled).0
 
 pub IsLine-body : (line : LineOf) → HasNumbersBelow number_bound line → IsLine (line_body line) line
-IsLine-body line small = record { spelled = sym (line_text-body line); numbers = small }
+IsLine-body line small = record { spelled = refl; numbers = small }
 
 -- ---- words of lines
 
@@ -80,7 +75,7 @@ pub line_of_words : (text : List ℕ) (line : LineOf) (after : List (List ℕ)) 
 line_of_words text line after begins none =
     let words : words_of (tokens_of text) ≡ line_words line = begins.spelled ∙ ap (λ more. line_words line ++ more) none ∙ append-nil (line_words line) in
     record {
-      spelled = ap (λ body. body ++ line_end) (sym (tokens_of-joined text) ∙ ap (join_with_byte space) words) ∙ sym (line_text-body line);
+      spelled = ap (λ body. body ++ line_end) (sym (tokens_of-joined text) ∙ ap (join_with_byte space) words);
       numbers = begins.numbers;
     }
 
@@ -125,7 +120,7 @@ a_text_is_one text a b is also = one_line a b is.numbers also.numbers (sym (word
 -- a text that begins with a line has that line first
 pub lines_of-line_text : (line : LineOf) (rest : List ℕ) → HasNumbersBelow number_bound line → lines_of (line_text line ++ rest) ≡ record { text = line_body line; ended = true } ∷ lines_of rest
 lines_of-line_text line rest small =
-    ap lines_of (ap (λ text. text ++ rest) (line_text-body line) ∙ append_assoc (line_body line) line_end rest)
+    ap lines_of (append_assoc (line_body line) line_end rest)
     ∙ lines_of-more (line_body line) rest (line_body-no_feed line small)
 
 -- lines one after another are cut into these lines

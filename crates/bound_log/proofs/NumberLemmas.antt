@@ -1,18 +1,16 @@
 -- The texts of numbers of at most 19 digits.
-use Rattle.std.proofs.Common.{◌≡◌, ℕ, zero, suc, ◌+◌, ◌*◌, ◌-◌, ◌^◌, ◌<◌, ◌≤◌, Bool, true, List, [], ◌∷◌, length, get_or, take, All, arith, ap, sym, ◌∙◌, subst, inl, inr}
-use Rattle.std.specs.Prelude.{IsTrue, ◌↔◌}
-use Rattle.std.specs.Char.{is_ascii_digit, digit_value}
+use Rattle.std.proofs.Common.{◌≡◌, ℕ, zero, suc, ◌+◌, ◌^◌, ◌<◌, ◌≤◌, List, [], ◌∷◌, length, get_or, All, arith, refl, ap, sym, ◌∙◌, subst, inl, inr, eq-or-lt_of_le, Option, Some, None, IfSome, IfNone}
+use Rattle.std.specs.Char.{digit_value}
 use Rattle.std.specs.Fmt.{decimal}
 use Rattle.std.specs.Int.{IsInRange}
-use Rattle.std.specs.List.{list_all, AllByRecursion}
+use Rattle.std.specs.List.{AllByRecursion}
 use Rattle.std.specs.Str.Parse.{digits_value, AllDigits}
 use Rattle.std.proofs.lemmas.Fmt.{decimal_is_IsNumeral, decimal_digit, decimal_nonempty, first_decimal, length-decimal-le, decimal-digits_value}
-use Rattle.std.proofs.lemmas.Int.Digits.{digits_value_more}
 use Rattle.std.proofs.lemmas.List.Elements.{All-from_recursion}
 use Rattle.std.proofs.lemmas.Str.{digit_value_digit}
-use Rattle.std.proofs.lemmas.Str.Parse.{digit_at, digit_from_value}
-use Rattle.std.proofs.Math.Nat.{pow-le-pow_right, pow-suc}
-use Rattle.text_num.proofs.Digits.{digits_model, AllDigits-from_test, test-from_AllDigits, digits_value-below}
+use Rattle.std.proofs.lemmas.Str.Parse.{digit_from_value}
+use Rattle.text_num.specs.Decimal.{IsNumeralUpTo}
+use Rattle.text_num.proofs.Digits.{digits_model, test-from_AllDigits, digits_value-below}
 use Rattle.bound_log.specs.Grammar.{number_bound, IsNumber, IsShortNumeral}
 
 -- a number of at most 19 digits fits the code's numbers
@@ -85,27 +83,35 @@ number_of_numeral text numeral =
 
 -- ---- how the code reads a number
 
--- one step of the loop
-pub record Steps (xs : List ℕ) (i sum digit : ℕ) : Type 0 where
-  pub room : sum < 10 ^ 18
-  pub digit_small : digit < 10
-  pub value : sum * 10 + digit ≡ digits_value 10 (take (i + 1) xs)
-  pub small : sum * 10 + digit < 10 ^ (i + 1)
+no_more : (rest : List ℕ) → length rest ≡ 0 → rest ≡ []
+no_more [] none = refl
+no_more (x ∷ rest) none = absurd (omega arith)
 
-pub step : (xs : List ℕ) (i sum digit : ℕ) → list_all is_ascii_digit xs ≡ true → length xs ≤ 19 → i < length xs → sum ≡ digits_value 10 (take i xs) → sum < 10 ^ i → digit ≡ get_or xs i 0 - 48 → Steps xs i sum digit
-step xs i sum digit form few here value small is =
-    let range : IsInRange 48 57 (get_or xs i 0) = digit_at xs i (AllDigits-from_test xs form) here in
-    let worth : digit_value (get_or xs i 0) + 48 ≡ get_or xs i 0 = digit_value_digit (get_or xs i 0) range in
-    let more = digits_value_more 10 xs i here in
-    let place : i ≤ 18 = omega arith in
-    let room : 10 ^ i ≤ 10 ^ 18 = pow-le-pow_right {n = 10} (omega arith) place in
-    let next : 10 ^ (i + 1) ≡ 10 ^ i * 10 = ap (λ t. 10 ^ t) (omega arith) ∙ pow-suc 10 i in
-    record { room = omega arith; digit_small = omega (arith, range.1); value = omega arith; small = omega (arith, range.1) }
+-- digits are a numeral unless a zero stands at their front before others
+pub numeral_from : (text : List ℕ) → IsNumeralUpTo 19 text → (get_or text 0 0 ≡ 48 → length text ≤ 1) → IsShortNumeral text
+numeral_from [] digits alone = absurd (omega (arith, digits.some))
+numeral_from (c ∷ rest) digits alone =
+    let first : IsInRange 48 57 c = digit_from_value c digits.only_digits.0 in
+    elim (eq-or-lt_of_le first.0) [
+      | inl zero_first ↦ inl (sym zero_first, no_more rest (omega (arith, alone (sym zero_first))))
+      | inr above ↦ inr ((omega (arith, above), first.1), digits.only_digits.1, omega (arith, digits.few))
+    ]
 
--- a text whose first byte is a digit from 1 to 9 is a numeral where few digits and nothing else follow
-pub numeral_test : (text rest : List ℕ) (first : ℕ) (test : Bool) → text ≡ first ∷ rest → (first ≡ 48 → ⊥) → IsInRange 48 57 first → length rest ≤ 18 → test ≡ list_all is_ascii_digit rest → IsTrue test ↔ IsShortNumeral text
-numeral_test text rest first test is other digit few tells =
-    subst (λ t. IsTrue test ↔ IsShortNumeral t) (sym is) (
-      λ passes. inr ((omega arith, digit.1), AllDigits-from_test rest (sym tells ∙ passes), few),
-      λ numeral. elim numeral [ inl alone ↦ absurd (other alone.0) | inr more ↦ tells ∙ test-from_AllDigits rest more.1 ],
-    )
+-- what is read is the number
+pub number_read : (text : List ℕ) (found : Option ℕ) → IfSome found (λ value. IsNumeralUpTo 19 text × (value ≡ digits_value 10 text)) → (get_or text 0 0 ≡ 48 → length text ≤ 1) → IfSome found (λ number. IsNumber text number)
+number_read text None is alone = tt
+number_read text (Some value) is alone = subst (IsNumber text) (sym is.1) (number_of_numeral text (numeral_from text is.0 alone))
+
+-- what isn't read is no number
+pub no_number : (text : List ℕ) (found : Option ℕ) → IfNone found (IsNumeralUpTo 19 text → ⊥) → IfNone found ((number : ℕ) → IsNumber text number → ⊥)
+no_number text (Some value) other = tt
+no_number text None other = λ number is.
+    let parts = numeral_digits text (numeral_of text number is) in
+    other (record { only_digits = parts.0; some = omega (arith, parts.1); few = parts.2 })
+
+-- a zero before other digits begins no number
+pub no_leading_zero : (text : List ℕ) → 1 < length text → get_or text 0 0 ≡ 48 → (number : ℕ) → IsNumber text number → ⊥
+no_leading_zero text more zero_first number is =
+    let parts = numeral_digits text (numeral_of text number is) in
+    let one : length text ≡ 1 = parts.3 zero_first in
+    absurd (omega arith)

@@ -1,17 +1,17 @@
 -- A text has one tree, and a tree is allowed line by line.
-use Rattle.std.proofs.Common.{◌≡◌, ℕ, ◌<◌, ◌≤◌, List, [], ◌∷◌, ◌++◌, length, map, All, arith, refl, ap, ap₂, sym, ◌∙◌, subst, append_assoc}
+use Rattle.std.proofs.Common.{◌≡◌, ℕ, List, [], ◌∷◌, ◌++◌, map, All, refl, ap, ap₂, sym, ◌∙◌, subst, append_assoc}
 use Rattle.std.proofs.lemmas.List.{append_cancel_left, map-append}
 use Rattle.std.proofs.lemmas.List.Elements.{All-nil, All-cons, All-head, All-tail, All-append}
-use Rattle.std.proofs.lemmas.Option.{slice_get_within}
 use Rattle.geo_model.specs.Network.{NetworkOf, IsNetwork}
 use Rattle.geo_model.specs.declared.plan.Node.{Node}
 use Rattle.lent_parts.specs.Pieces.{TextLineOf, lines_of}
 use Rattle.bound_log.specs.declared.bound.Bound.{Bound}
-use Rattle.bound_log.specs.Grammar.{number_bound, HasNumbersBelow, IsLine, line_body}
-use Rattle.bound_log.specs.LogText.{head_text, line_text, lines_text, log_text}
+use Rattle.bound_log.specs.Grammar.{number_bound, HasNumbersBelow, IsLine}
+use Rattle.bound_log.specs.LogText.{head_text, line_body, line_text, lines_text, log_text}
 use Rattle.bound_log.specs.LogTree.{root_of, with_chosen, without_chosen, IsAllowed, IsAllowedLine, bound_at, HasBound}
 use Rattle.bound_log.specs.Placed.{placed}
 use Rattle.bound_log.specs.Tree.{LineOf, split, leaf, cost, pivot, Tree, fork, tip, tree_lines}
+use Rattle.bound_log.proofs.AllowedLemmas.{line_numbers}
 use Rattle.bound_log.proofs.GrammarLemmas.{IsLine-body, a_text_is_one, lines_of-line_text}
 
 -- ---- a text has one list of lines
@@ -21,18 +21,18 @@ first_text [] = []
 first_text (line ∷ rest) = line.text
 
 -- what begins with a line begins with no other, and goes on with one text
-record SameStart (a b : LineOf) (x y : List ℕ) : Type 0 where
-  line : a ≡ b
-  rest : x ≡ y
+pub record SameStart (a b : LineOf) (x y : List ℕ) : Type 0 where
+  pub line : a ≡ b
+  pub rest : x ≡ y
 
-same_start : (a b : LineOf) (x y : List ℕ) → HasNumbersBelow number_bound a → HasNumbersBelow number_bound b → line_text a ++ x ≡ line_text b ++ y → SameStart a b x y
+pub same_start : (a b : LineOf) (x y : List ℕ) → HasNumbersBelow number_bound a → HasNumbersBelow number_bound b → line_text a ++ x ≡ line_text b ++ y → SameStart a b x y
 same_start a b x y small also same =
     let body : line_body a ≡ line_body b = ap first_text (sym (lines_of-line_text a x small) ∙ ap lines_of same ∙ lines_of-line_text b y also) in
     let line : a ≡ b = a_text_is_one (line_body a) a b (IsLine-body a small) (subst (λ text. IsLine text b) (sym body) (IsLine-body b also)) in
     record { line = line; rest = append_cancel_left (line_text a) x y (same ∙ ap (λ l. line_text l ++ y) (sym line)) }
 
 -- a line has at least its LF
-some_text : (line : LineOf) (rest : List ℕ) → [] ≡ line_text line ++ rest → ⊥
+pub some_text : (line : LineOf) (rest : List ℕ) → [] ≡ line_text line ++ rest → ⊥
 some_text (split candidate) rest same = absurd (cc)
 some_text (leaf cost) rest same = absurd (cc)
 some_text (leaf (pivot limit)) rest same = absurd (cc)
@@ -76,17 +76,12 @@ one_tree a b small also same =
 
 -- ---- a text has one bound
 
--- the numbers of an allowed tree are in their ranges
+-- the numbers of an allowed tree have at most 19 digits
 allowed_numbers : (network : NetworkOf) (node : Node) (tree : Tree) → IsNetwork network → IsAllowed network node tree → All (HasNumbersBelow number_bound) (tree_lines tree)
-allowed_numbers network node (tip cost) bounds allowed = All-cons (HasNumbersBelow number_bound) (leaf cost) [] tt (All-nil (HasNumbersBelow number_bound))
-allowed_numbers network node (tip (pivot limit)) bounds allowed =
-    let inside : limit < length network.limits = slice_get_within network.limits limit allowed.limit allowed.named in
-    let few : length network.limits ≤ 20000 = bounds.limits in
-    All-cons (HasNumbersBelow number_bound) (leaf (pivot limit)) [] (omega arith) (All-nil (HasNumbersBelow number_bound))
+allowed_numbers network node (tip end) bounds allowed =
+    All-cons (HasNumbersBelow number_bound) (leaf end) [] (line_numbers network node (leaf end) bounds allowed) (All-nil (HasNumbersBelow number_bound))
 allowed_numbers network node (fork candidate with_it without_it) bounds allowed =
-    let inside : candidate < length network.candidates = allowed.0.in_range in
-    let few : length network.candidates ≤ 256 = bounds.candidates in
-    All-cons (HasNumbersBelow number_bound) (split candidate) (tree_lines with_it ++ tree_lines without_it) (omega arith)
+    All-cons (HasNumbersBelow number_bound) (split candidate) (tree_lines with_it ++ tree_lines without_it) (line_numbers network node (split candidate) bounds allowed.0)
     (All-append (HasNumbersBelow number_bound) (tree_lines with_it) (tree_lines without_it)
     (allowed_numbers network (with_chosen node candidate) with_it bounds allowed.1)
     (allowed_numbers network (without_chosen node candidate) without_it bounds allowed.2))

@@ -1,3 +1,4 @@
+-- Bounds and prices. This project's own.
 use Rattle.std.specs.Prelude.{ℕ, ◌≤◌, min}
 use Rattle.bound_log.specs.declared.bound.Bound.{Bound}
 use Rattle.bound_log.specs.declared.bound.Bound.TheVariants.{NoPlan, AtLeast}

@@ -1,11 +1,10 @@
 -- The grammar of the lines of a log: a kind and numbers, with one space between each two. This project's own.
-use Rattle.std.specs.Prelude.{◌≡◌, true, ℕ, ◌<◌, ◌≤◌, ◌^◌, ◌⊎◌, List, [], ◌∷◌, ◌++◌, length, codes}
+use Rattle.std.specs.Prelude.{◌≡◌, true, ℕ, ◌<◌, ◌≤◌, ◌^◌, ◌⊎◌, List, [], ◌∷◌, ◌++◌, length}
 use Rattle.std.specs.Fmt.{decimal}
-use Rattle.std.specs.List.{join_with_byte}
 use Rattle.std.specs.Int.{IsInRange}
 use Rattle.std.specs.Str.Parse.{AllDigits}
-use Rattle.lent_parts.specs.Pieces.{TextLineOf, space}
-use Rattle.bound_log.specs.LogText.{line_text, line_end}
+use Rattle.lent_parts.specs.Pieces.{TextLineOf}
+use Rattle.bound_log.specs.LogText.{line_body, line_text, line_end}
 use Rattle.bound_log.specs.Tree.{LineOf, split, leaf, cost, pivot}
 
 -- ---- numbers
@@ -36,16 +35,6 @@ HasNumbersBelow bound (leaf (pivot limit)) = limit < bound
 pub record IsLine (text : List ℕ) (line : LineOf) : Type 0 where
   pub spelled : text ++ line_end ≡ line_text line
   pub numbers : HasNumbersBelow number_bound line
-
--- the words of a line
-abbrev pub line_words : LineOf → List (List ℕ)
-line_words (split candidate) = codes "s" ∷ decimal candidate ∷ []
-line_words (leaf cost) = codes "c" ∷ []
-line_words (leaf (pivot limit)) = codes "p" ∷ decimal limit ∷ []
-
--- a line without its LF
-abbrev pub line_body : LineOf → List ℕ
-line_body line = join_with_byte space (line_words line)
 
 -- a line as it is cut from a text
 abbrev pub text_line : LineOf → TextLineOf

@@ -4,6 +4,7 @@ pub mod Grammar
 pub mod LogLines
 pub mod LogText
 pub mod LogTree
+pub mod OpenCount
 pub mod Placed
 pub mod Sound
 pub mod Tree

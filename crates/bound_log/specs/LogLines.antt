@@ -1,16 +1,17 @@
 -- What the code's lines stand for, and how they are read word by word. This project's own.
 use Rattle.std.specs.Prelude.{◌≡◌, ℕ, List, ◌++◌, map}
 use Rattle.lent_parts.specs.Pieces.{TokenOf}
-use Rattle.bound_log.specs.Grammar.{HasNumbersBelow, number_bound, line_words}
+use Rattle.bound_log.specs.Grammar.{HasNumbersBelow, number_bound}
+use Rattle.bound_log.specs.LogText.{line_words}
 use Rattle.bound_log.specs.Tree.{LineOf, split, leaf, cost, pivot}
 use Rattle.bound_log.specs.declared.log_line.LogLine.{LogLine}
 use Rattle.bound_log.specs.declared.log_line.LogLine.TheVariants.{Split, Cost, Pivot}
 
 -- the line that a value stands for
-abbrev pub line_of : LogLine → LineOf
-line_of (Split candidate) = split candidate
-line_of Cost = leaf cost
-line_of (Pivot limit) = leaf (pivot limit)
+abbrev pub log_line_of : LogLine → LineOf
+log_line_of (Split candidate) = split candidate
+log_line_of Cost = leaf cost
+log_line_of (Pivot limit) = leaf (pivot limit)
 
 -- the texts of tokens
 abbrev pub words_of : List TokenOf → List (List ℕ)

@@ -1,5 +1,7 @@
 use Rattle.std.specs.Prelude.{ℕ, List, [], ◌∷◌, ◌++◌, codes, flat_map}
 use Rattle.std.specs.Fmt.{decimal}
+use Rattle.std.specs.List.{join_with_byte}
+use Rattle.lent_parts.specs.Pieces.{space}
 use Rattle.bound_log.specs.Tree.{LineOf, split, leaf, cost, pivot, Tree, tree_lines}
 
 -- The bytes of a log. This project's own.
@@ -8,15 +10,27 @@ use Rattle.bound_log.specs.Tree.{LineOf, split, leaf, cost, pivot, Tree, tree_li
 abbrev pub line_end : List ℕ
 line_end = 10 ∷ []
 
+-- the first line of a log without its LF
+abbrev pub head_body : List ℕ
+head_body = codes "geoplan-log 1"
+
 -- the first line of a log
 abbrev pub head_text : List ℕ
-head_text = codes "geoplan-log 1" ++ line_end
+head_text = head_body ++ line_end
 
--- a line with its end: `s C`, `c` or `p L`
+-- the words of a line: `s C`, `c` or `p L`
+abbrev pub line_words : LineOf → List (List ℕ)
+line_words (split candidate) = codes "s" ∷ decimal candidate ∷ []
+line_words (leaf cost) = codes "c" ∷ []
+line_words (leaf (pivot limit)) = codes "p" ∷ decimal limit ∷ []
+
+-- a line without its LF: its words, with one space between two
+abbrev pub line_body : LineOf → List ℕ
+line_body line = join_with_byte space (line_words line)
+
+-- a line with its LF
 abbrev pub line_text : LineOf → List ℕ
-line_text (split candidate) = codes "s " ++ (decimal candidate ++ line_end)
-line_text (leaf cost) = codes "c" ++ line_end
-line_text (leaf (pivot limit)) = codes "p " ++ (decimal limit ++ line_end)
+line_text line = line_body line ++ line_end
 
 -- lines, one after another
 abbrev pub lines_text : List LineOf → List ℕ

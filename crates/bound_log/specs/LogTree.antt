@@ -1,7 +1,8 @@
-use Rattle.std.specs.Prelude.{◌≡◌, ℕ, ◌<◌, true, false, List, length, replicate, Some, slice_get, slice_set}
+use Rattle.std.specs.Prelude.{◌≡◌, ℕ, ◌<◌, true, false, List, length, Some, slice_get, slice_set}
 use Rattle.geo_model.specs.Energy.{cost_of}
 use Rattle.geo_model.specs.Limit.{LimitOf, IsInForce}
 use Rattle.geo_model.specs.Network.{NetworkOf}
+use Rattle.geo_model.specs.Nodes.{all_plans}
 use Rattle.geo_model.specs.declared.plan.Node.{Node}
 use Rattle.geo_model.specs.declared.verdict.Verdict.TheVariants.{Refuted}
 use Rattle.pivot_chain.specs.Verdict.{verdict_of}
@@ -16,7 +17,7 @@ use Rattle.bound_log.specs.Tree.{LineOf, split, leaf, Leaf, cost, pivot, Tree, f
 
 -- the node of all plans
 abbrev pub root_of : NetworkOf → Node
-root_of network = record { inside = replicate (length network.candidates) false; upper = replicate (length network.candidates) true }
+root_of network = all_plans (length network.candidates)
 
 -- the child of a split that chooses the candidate
 abbrev pub with_chosen : Node → ℕ → Node
@@ -26,24 +27,52 @@ with_chosen node candidate = record { inside = slice_set node.inside candidate t
 abbrev pub without_chosen : Node → ℕ → Node
 without_chosen node candidate = record { inside = node.inside; upper = slice_set node.upper candidate false }
 
--- a split is allowed on a candidate that the node leaves open
+-- ---- the tests of a line at its node
+
+-- each number of the line is in its range
+abbrev pub IsInRange : NetworkOf → LineOf → Type 0
+IsInRange network (split candidate) = candidate < length network.candidates
+IsInRange network (leaf cost) = Unit {0}
+IsInRange network (leaf (pivot number)) = number < length network.limits
+
+-- a split is on a candidate that the node leaves open: in its upper plan and not in its inner one
+abbrev pub IsOpenFor : Node → LineOf → Type 0
+IsOpenFor node (split candidate) = (slice_get node.upper candidate ≡ Some true) × (slice_get node.inside candidate ≡ Some false)
+IsOpenFor node (leaf end) = Unit {0}
+
+-- a limit that the line names is in force for the inner plan: it has no owner, or the plan chooses its owner
+abbrev pub IsOwned : NetworkOf → Node → LineOf → Type 0
+IsOwned network node (split candidate) = Unit {0}
+IsOwned network node (leaf cost) = Unit {0}
+IsOwned network node (leaf (pivot number)) = (limit : LimitOf) → slice_get network.limits number ≡ Some limit → IsInForce limit node.inside
+
+-- the verdict of the upper plan on the limit of a pivot line is Refuted
+abbrev pub IsRefuted : NetworkOf → Node → LineOf → Type 0
+IsRefuted network node (split candidate) = Unit {0}
+IsRefuted network node (leaf cost) = Unit {0}
+IsRefuted network node (leaf (pivot number)) = (limit : LimitOf) → slice_get network.limits number ≡ Some limit → verdict_of network node.upper limit ≡ Refuted
+
+-- a line is allowed at a node: it passes each test
+pub record IsAllowedLine (network : NetworkOf) (node : Node) (line : LineOf) : Type 0 where
+  pub in_range : IsInRange network line
+  pub is_open : IsOpenFor node line
+  pub owned : IsOwned network node line
+  pub refuted : IsRefuted network node line
+
+-- what a split wants of its candidate, in one record
 pub record IsOpenAt (network : NetworkOf) (node : Node) (candidate : ℕ) : Type 0 where
   pub in_range : candidate < length network.candidates
   pub in_upper : slice_get node.upper candidate ≡ Some true
   pub not_inside : slice_get node.inside candidate ≡ Some false
 
--- a limit refutes a node: it is in force for the inner plan, and its verdict on the upper plan is Refuted
+-- what a pivot line wants of its limit, in one record: it refutes the node
 pub record IsRefutedBy (network : NetworkOf) (node : Node) (number : ℕ) : Type 0 where
   pub limit : LimitOf
   pub named : slice_get network.limits number ≡ Some limit
   pub owned : IsInForce limit node.inside
   pub refuted : verdict_of network node.upper limit ≡ Refuted
 
--- a line is allowed at a node
-abbrev pub IsAllowedLine : NetworkOf → Node → LineOf → Type 0
-IsAllowedLine network node (split candidate) = IsOpenAt network node candidate
-IsAllowedLine network node (leaf cost) = Unit {0}
-IsAllowedLine network node (leaf (pivot limit)) = IsRefutedBy network node limit
+-- ---- trees
 
 -- a tree is allowed at a node: each of its lines is allowed at its own node
 abbrev pub IsAllowed : NetworkOf → Node → Tree → Type 0
@@ -54,7 +83,7 @@ IsAllowed network node (fork candidate with_it without_it) =
     IsAllowed network (without_chosen node candidate) without_it
 
 -- the bound of a leaf at a node: the price of the inner plan, or that no plan is left
-abbrev pub leaf_bound : NetworkOf → Node → Leaf → Bound
+unfoldable pub leaf_bound : NetworkOf → Node → Leaf → Bound
 leaf_bound network node cost = AtLeast (cost_of network.candidates node.inside)
 leaf_bound network node (pivot limit) = NoPlan
 

@@ -1,3 +1,4 @@
+-- What it means that a checker of logs is sound. This project's own.
 use Rattle.std.specs.Prelude.{◌≡◌, ℕ, List, Bool, length}
 use Rattle.geo_model.specs.Energy.{cost_of}
 use Rattle.geo_model.specs.Meeting.{MeetsLimits}

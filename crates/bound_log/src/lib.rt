@@ -2,6 +2,7 @@
 #![tactic(auto)]
 
 mod bound;
+mod count;
 mod grammar_laws;
 mod laws;
 mod line;
@@ -11,12 +12,16 @@ mod read;
 mod tree_laws;
 
 pub use bound::Bound;
+pub use count::{count_line, lines_are_counted_on};
 pub use grammar_laws::{a_text_is_one_line, numbers_are_numerals, written_lines_are_read};
 pub use laws::checker_is_sound;
-pub use line::{put_cost, put_head, put_pivot, put_split};
+pub use line::{is_head, put_cost, put_head, put_pivot, put_split};
 pub use log_line::LogLine;
 pub use read::read_line;
-pub use tree_laws::{a_text_has_one_bound, a_text_has_one_tree, trees_are_allowed_line_by_line};
+pub use tree_laws::{
+    a_text_has_one_bound, a_text_has_one_tree, lines_are_allowed_by_their_kinds,
+    trees_are_allowed_line_by_line,
+};
 
 #[cfg(test)]
 mod tests;

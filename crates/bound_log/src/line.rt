@@ -1,10 +1,20 @@
 //! The lines of a log, as the search writes them.
-ghost use Rattle.std.specs.Prelude.{◌≡◌, ◌+◌, ◌≤◌, ◌++◌, length, OnOk, OnErr};
-ghost use Rattle.bound_log.specs.LogText.{head_text, line_text, line_end};
+ghost use Rattle.std.specs.Prelude.{◌≡◌, ◌+◌, ◌≤◌, ◌++◌, length, OnOk, OnErr, IsTrue, ◌↔◌};
+ghost use Rattle.bound_log.specs.LogText.{head_body, head_text, line_text, line_end};
 ghost use Rattle.bound_log.specs.Tree.{split, leaf, cost as cost_leaf, pivot};
 
 use geo_base::NoMemory;
 use itoa::Buffer;
+
+/// The first line of a log, without its LF.
+const HEAD: &[u8] = b"geoplan-log 1";
+
+/// Whether a line, which is given without its LF, is the first line of a log.
+pub fn is_head(line: &[u8]) -> bool
+    ensures { IsTrue result ↔ line.now ≡ head_body }
+{
+    line == HEAD
+}
 
 /// Appends a word, digits and the end of a line. Refused, `out` is as before.
 fn put_line(out: &mut Vec<u8>, word: &[u8], digits: &[u8]) -> Result<(), NoMemory>
@@ -24,7 +34,7 @@ pub fn put_head(out: &mut Vec<u8>) -> Result<(), NoMemory>
     ensures put { OnOk result (out.new.items ≡ out.old.items ++ head_text) }
     ensures refused { OnErr result (out.new.items ≡ out.old.items) }
 {
-    put_line(out, b"geoplan-log 1", b"")
+    put_line(out, HEAD, b"")
 }
 
 /// Appends the line of a split on candidate `c`. Refused, `out` is as before.

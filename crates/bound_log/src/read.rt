@@ -1,7 +1,7 @@
 //! Reading the lines of a log, from lent tokens.
 ghost use Rattle.std.specs.Prelude.{◌≡◌, ℕ, List, ◌∷◌, IfSome, IfNone};
 ghost use Rattle.bound_log.specs.Grammar.{IsLine, IsNumber};
-ghost use Rattle.bound_log.specs.LogLines.{BeginsWith, line_of, words_of};
+ghost use Rattle.bound_log.specs.LogLines.{BeginsWith, log_line_of, words_of};
 ghost use Rattle.bound_log.specs.Tree.{LineOf};
 
 use crate::log_line::LogLine;
@@ -12,7 +12,7 @@ use lent_parts::{TokenWalk, tokens};
 /// or `p L`, with one space between two words, where a number is `0`, or a digit from 1 to 9 followed
 /// by at most 18 digits. It takes no memory.
 pub fn read_line(line: &[u8]) -> Option<LogLine>
-    ensures some { IfSome result (λ read. IsLine line.now (line_of read)) }
+    ensures some { IfSome result (λ read. IsLine line.now (log_line_of read)) }
     ensures none { IfNone result ((other : LineOf) → IsLine line.now other → ⊥) }
 {
     let mut words = tokens(line);
@@ -27,7 +27,7 @@ pub fn read_line(line: &[u8]) -> Option<LogLine>
 
 // Reads the words of a line from the front. On None some may be taken.
 fn read_words(words: &mut TokenWalk<'_>) -> Option<LogLine>
-    ensures some { IfSome result (λ read. BeginsWith (words_of words.old) (line_of read) (words_of words.new)) }
+    ensures some { IfSome result (λ read. BeginsWith (words_of words.old) (log_line_of read) (words_of words.new)) }
     ensures none { IfNone result ((other : LineOf) (after : List (List ℕ)) → BeginsWith (words_of words.old) other after → ⊥) }
 {
     let Some(kind) = words.next() else {

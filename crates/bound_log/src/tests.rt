@@ -1,4 +1,5 @@
 use super::*;
+use geo_model::Counts;
 use lent_parts::lines;
 use std::test::Fail;
 
@@ -59,4 +60,33 @@ fn put_lines_are_read(rt: HostRuntime) -> Result<(), Fail> {
     }
     assert_eq!(rt; walk.next(), None);
     Ok(())
+}
+
+#[test]
+fn the_first_line_is_told(rt: HostRuntime) {
+    assert_eq!(rt; is_head(b"geoplan-log 1"), true);
+    assert_eq!(rt; is_head(b"geoplan-log 1\n"), false);
+    assert_eq!(rt; is_head(b"geoplan-log 1\r"), false);
+    assert_eq!(rt; is_head(b"geoplan-log 2"), false);
+    assert_eq!(rt; is_head(b"geoplan-log"), false);
+    assert_eq!(rt; is_head(b""), false);
+}
+
+#[test]
+fn lines_are_counted(rt: HostRuntime) {
+    let mut counts = Counts {
+        splits: 0,
+        costs: u64::MAX - 1,
+        pivots: u64::MAX,
+        cuts: 3,
+        duals: 4,
+    };
+    count_line(&mut counts, LogLine::Split(7));
+    count_line(&mut counts, LogLine::Cost);
+    count_line(&mut counts, LogLine::Pivot(0));
+    assert_eq!(rt; (counts.splits, counts.costs), (1, u64::MAX));
+    assert_eq!(rt;
+        (counts.pivots, counts.cuts, counts.duals),
+        (u64::MAX, 3, 4)
+    );
 }

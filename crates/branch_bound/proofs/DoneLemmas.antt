@@ -14,6 +14,7 @@ use Rattle.bound_log.specs.declared.bound.Bound.{Bound}
 use Rattle.bound_log.specs.declared.bound.Bound.TheVariants.{NoPlan, AtLeast}
 use Rattle.bound_log.specs.Bound.{lesser}
 use Rattle.bound_log.specs.LogTree.{IsOpenAt, IsRefutedBy, with_chosen, without_chosen}
+use Rattle.bound_log.proofs.BoundLemmas.{lesser_none, lesser_assoc}
 use Rattle.bound_log.proofs.SoundLemmas.{IsInForce-grows, at_place}
 use Rattle.branch_bound.specs.declared.best.Best.{Best}
 use Rattle.branch_bound.specs.declared.best.Best.TheVariants as best
@@ -36,17 +37,6 @@ second_least a b le = ap AtLeast (omega arith)
 
 less_than_bound : (a b : ℕ) → a < b → a ≤ b
 less_than_bound a b less = omega arith
-
--- where no plan is left, the bound stays
-lesser-no_plan : (bound : Bound) → bound ≡ lesser bound NoPlan
-lesser-no_plan NoPlan = refl
-lesser-no_plan (AtLeast price) = refl
-
-lesser-assoc : (a b c : Bound) → lesser (lesser a b) c ≡ lesser a (lesser b c)
-lesser-assoc NoPlan b c = refl
-lesser-assoc (AtLeast x) NoPlan c = refl
-lesser-assoc (AtLeast x) (AtLeast y) NoPlan = refl
-lesser-assoc (AtLeast x) (AtLeast y) (AtLeast z) = ap AtLeast (omega arith)
 
 -- a plan that costs no less than a covered one is covered
 IsCovered-dearer : (network : NetworkOf) (found : Best) (plan other : List Bool) → cost_of network.candidates plan ≤ cost_of network.candidates other → IsCovered network found plan → IsCovered network found other
@@ -103,7 +93,7 @@ refuted_empty network node number other bounds refuted certified above below =
 -- a limit refutes a node
 pub IsDone-refuted : (network : NetworkOf) (node : Node) (number : ℕ) (found : Best) → IsNetwork network → IsKept network found → IsRefutedBy network node number → IsDone network node NoPlan found found
 IsDone-refuted network node number found bounds kept refuted = record {
-  price = lesser-no_plan (best_bound network found);
+  price = sym (lesser_none (best_bound network found));
   kept = kept;
   covered = λ other certified above below. absurd (refuted_empty network node number other bounds refuted certified above below);
   still = λ other covered. covered;
@@ -166,7 +156,7 @@ has_or_lacks plan i inside = elim (cases_Bool (get_or plan i false)) [
 -- both children are done
 pub IsDone-split : (network : NetworkOf) (node : Node) (candidate : ℕ) (first second : Bound) (before middle now : Best) → IsOpenAt network node candidate → IsDone network (with_chosen node candidate) first before middle → IsDone network (without_chosen node candidate) second middle now → IsDone network node (lesser first second) before now
 IsDone-split network node candidate first second before middle now is_open one two = record {
-  price = two.price ∙ ap (λ b. lesser b second) one.price ∙ lesser-assoc (best_bound network before) first second;
+  price = two.price ∙ ap (λ b. lesser b second) one.price ∙ lesser_assoc (best_bound network before) first second;
   kept = two.kept;
   covered = λ other certified above below.
       let inside : candidate < length other = omega (arith, IsWithin-length other node.upper below, slice_get_within node.upper candidate true is_open.in_upper) in

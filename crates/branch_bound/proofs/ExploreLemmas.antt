@@ -1,5 +1,4 @@
-use Rattle.std.proofs.lemmas.Bool.{false≢true}
-use Rattle.std.proofs.Common.{replicate, ◌≡◌, ℕ, zero, suc, Bool, true, false, List, [], ◌∷◌, ◌++◌, length, set, refl, sym, ap, ap₂, ◌∙◌, subst, Some, if◌then◌else◌, ◌+◌, min, ◌-◌, ◌^◌}
+use Rattle.std.proofs.Common.{replicate, ◌≡◌, ℕ, zero, suc, Bool, true, false, List, [], ◌∷◌, ◌++◌, length, refl, sym, ap, ap₂, ◌∙◌, subst, Some}
 use Rattle.std.specs.Prelude.{slice_get, slice_set}
 use Rattle.std.proofs.lemmas.List.Concat.{flat_map-append}
 use Rattle.std.proofs.lemmas.List.{length-set, length-replicate, append-nil}
@@ -8,33 +7,24 @@ use Rattle.geo_model.specs.Energy.{IsWithin}
 use Rattle.geo_model.specs.Network.{NetworkOf}
 use Rattle.geo_model.specs.declared.answer.Counts.{Counts}
 use Rattle.geo_model.specs.declared.plan.Node.{Node}
-use Rattle.bound_log.specs.Counted.{is_split, is_cost, is_pivot}
+use Rattle.bound_log.specs.Counted.{counts_with}
+use Rattle.bound_log.proofs.CountLemmas.{counts_with-then}
+use Rattle.geo_model.proofs.PlanLemmas.{IsWithin-with, IsWithin-without, IsWithin-none}
 use Rattle.bound_log.specs.LogText.{line_text, lines_text}
 use Rattle.bound_log.specs.LogTree.{root_of, IsOpenAt, with_chosen, without_chosen, bound_at}
-use Rattle.bound_log.specs.Tree.{LineOf, split, leaf, Leaf, cost, pivot, Tree, fork, tip, tree_lines}
+use Rattle.bound_log.specs.Tree.{split, leaf, Leaf, cost, pivot, Tree, fork, tip, tree_lines}
 use Rattle.branch_bound.specs.declared.best.Best.{Best}
 use Rattle.branch_bound.specs.declared.line.Line.{Line}
 use Rattle.branch_bound.specs.declared.line.Line.TheVariants as line
 use Rattle.branch_bound.specs.declared.search_fault.SearchFault.{SearchFault}
 use Rattle.branch_bound.specs.declared.search_fault.SearchFault.TheVariants as fault
 use Rattle.shelf_io.specs.States.{ShelfState}
-use Rattle.branch_bound.specs.Explored.{Adds, Breaks, line_of, counted_on, counts_with, IsNode, IsLineAt, Explores, BreaksOff}
+use Rattle.branch_bound.specs.Explored.{Adds, Breaks, line_of, IsNode, IsLineAt, Explores, BreaksOff}
 use Rattle.branch_bound.specs.Found.{IsKept}
 use Rattle.branch_bound.proofs.DoneLemmas.{IsDone-split}
 use Rattle.branch_bound.proofs.PieceLemmas.{Breaks-nothing, Adds-then, Breaks-after, Breaks-longer}
 
 -- How the parts of an exploration make the whole.
-
--- counts with lines, and then with more
-counted_on-append : (before : ℕ) (test : LineOf → Bool) (xs ys : List LineOf) → counted_on (counted_on before test xs) test ys ≡ counted_on before test (xs ++ ys)
-counted_on-append before test [] ys = refl
-counted_on-append before test (x ∷ xs) ys = counted_on-append (if test x then min (before + 1) (2 ^ 64 - 1) else before) test xs ys
-
-pub counts_with-append : (before : Counts) (xs ys : List LineOf) → counts_with (counts_with before xs) ys ≡ counts_with before (xs ++ ys)
-counts_with-append before xs ys =
-    ap (λ n. record (counts_with (counts_with before xs) ys) { splits = n }) (counted_on-append before.splits is_split xs ys)
-    ∙ ap (λ n. record { splits = counted_on before.splits is_split (xs ++ ys); costs = n; pivots = counted_on (counted_on before.pivots is_pivot xs) is_pivot ys; cuts = before.cuts; duals = before.duals }) (counted_on-append before.costs is_cost xs ys)
-    ∙ ap (λ n. record { splits = counted_on before.splits is_split (xs ++ ys); costs = counted_on before.costs is_cost (xs ++ ys); pivots = n; cuts = before.cuts; duals = before.duals }) (counted_on-append before.pivots is_pivot xs ys)
 
 -- memory ran out before a line was written
 pub BreaksOff-nothing : (network : NetworkOf) (node : Node) (name : List ℕ) (state : ShelfState) → ((files : Files) → state.held ≡ Some files → IsHeld files name) → BreaksOff network node name fault.NoMemory state state
@@ -122,38 +112,24 @@ Explores-split network node name candidate best middle_best best_now counts coun
       (Adds-then name (lines_text (tree_lines first.tree)) (lines_text (tree_lines second.tree)) middle later now first.added second.added));
   counted = second.counted
       ∙ ap (λ c. counts_with c (tree_lines second.tree)) (first.counted ∙ ap (λ c. counts_with c (tree_lines first.tree)) counted)
-      ∙ counts_with-append (counts_with counts (split candidate ∷ [])) (tree_lines first.tree) (tree_lines second.tree);
+      ∙ counts_with-then (counts_with counts (split candidate ∷ [])) (tree_lines first.tree) (tree_lines second.tree)
+      ∙ counts_with-then counts (split candidate ∷ []) (tree_lines first.tree ++ tree_lines second.tree);
   done = IsDone-split network node candidate (bound_at network (with_chosen node candidate) first.tree) (bound_at network (without_chosen node candidate) second.tree) best middle_best best_now is_open first.done second.done;
 }
-
-within_with : (inside upper : List Bool) (i : ℕ) → IsWithin inside upper → slice_get upper i ≡ Some true → IsWithin (slice_set inside i true) upper
-within_with [] upper i within has = within
-within_with (x ∷ inside) [] i within has = absurd within
-within_with (x ∷ inside) (true ∷ upper) zero within has = (λ h. refl, within.1)
-within_with (x ∷ inside) (false ∷ upper) zero within has = absurd (cc)
-within_with (x ∷ inside) (y ∷ upper) (suc i) within has = (within.0, within_with inside upper i within.1 has)
-
-within_without : (inside upper : List Bool) (i : ℕ) → IsWithin inside upper → slice_get inside i ≡ Some false → IsWithin inside (slice_set upper i false)
-within_without [] [] i within lacks = within
-within_without [] (y ∷ upper) i within lacks = absurd within
-within_without (x ∷ inside) [] i within lacks = absurd within
-within_without (true ∷ inside) (y ∷ upper) zero within lacks = absurd (cc)
-within_without (false ∷ inside) (y ∷ upper) zero within lacks = (λ h. h, within.1)
-within_without (x ∷ inside) (y ∷ upper) (suc i) within lacks = (within.0, within_without inside upper i within.1 lacks)
 
 -- the children of a node are nodes
 pub IsNode-with : (network : NetworkOf) (node : Node) (candidate : ℕ) → IsNode network node → IsOpenAt network node candidate → IsNode network (with_chosen node candidate)
 IsNode-with network node candidate is is_open = record {
   inside_long = length-set node.inside candidate true ∙ is.inside_long;
   upper_long = is.upper_long;
-  within = within_with node.inside node.upper candidate is.within is_open.in_upper;
+  within = IsWithin-with node.inside node.upper candidate is.within is_open.in_upper;
 }
 
 pub IsNode-without : (network : NetworkOf) (node : Node) (candidate : ℕ) → IsNode network node → IsOpenAt network node candidate → IsNode network (without_chosen node candidate)
 IsNode-without network node candidate is is_open = record {
   inside_long = is.inside_long;
   upper_long = length-set node.upper candidate false ∙ is.upper_long;
-  within = within_without node.inside node.upper candidate is.within is_open.not_inside;
+  within = IsWithin-without node.inside node.upper candidate is.within is_open.not_inside;
 }
 
 -- an entry that is set and then set back
@@ -208,14 +184,10 @@ Explores-same network node same_node name old_best best best_now counts counts_n
     subst (λ b. Explores network node name b best_now counts counts_now before now) same_best
     (subst (λ n. Explores network n name old_best best_now counts counts_now before now) same explored)
 
-none_within_all : (n : ℕ) → IsWithin (replicate n false) (replicate n true)
-none_within_all zero = tt
-none_within_all (suc n) = (λ h. absurd (false≢true h), none_within_all n)
-
 -- the node of all plans is a node
 pub IsNode-root : (network : NetworkOf) → IsNode network (root_of network)
 IsNode-root network = record {
   inside_long = length-replicate (length network.candidates) false;
   upper_long = length-replicate (length network.candidates) true;
-  within = none_within_all (length network.candidates);
+  within = subst (λ (n : ℕ). IsWithin (replicate n false) (replicate (length network.candidates) true)) (length-replicate (length network.candidates) true) (IsWithin-none (replicate (length network.candidates) true));
 }

@@ -1,6 +1,4 @@
-use Rattle.std.proofs.Common.{replicate, true, false, ◌≡◌, ℕ, Bool, List, [], ◌∷◌, sym, ap, cond, zero-add, ◌∙◌, subst, Some, min, ◌+◌, ◌-◌, ◌^◌, ◌≤◌, arith, if◌then◌else◌}
-use Rattle.std.specs.Prelude.{count_by}
-use Rattle.std.proofs.lemmas.List.Sums.{sum_by-cons}
+use Rattle.std.proofs.Common.{replicate, true, false, ◌≡◌, ℕ, List, sym, ap, ◌∙◌, subst, Some}
 use Rattle.shelf_io.specs.Files.{Files, IsHeld}
 use Rattle.geo_model.specs.Network.{NetworkOf}
 use Rattle.geo_model.specs.Energy.{IsWithin}
@@ -10,16 +8,17 @@ use Rattle.geo_model.specs.declared.answer.SearchDone.{SearchDone}
 use Rattle.geo_model.specs.declared.plan.Node.{Node}
 use Rattle.geo_model.proofs.PlanLemmas.{IsWithin-none, IsWithin-all}
 use Rattle.bound_log.specs.declared.bound.Bound.{Bound}
-use Rattle.bound_log.specs.Counted.{counted, counts_of, is_split, is_cost, is_pivot}
+use Rattle.bound_log.specs.Counted.{counts_with}
+use Rattle.bound_log.proofs.CountLemmas.{counts_with-none}
 use Rattle.bound_log.specs.LogText.{head_text, lines_text, log_text}
 use Rattle.bound_log.specs.LogTree.{root_of, IsAllowed, bound_at}
-use Rattle.bound_log.specs.Tree.{LineOf, tip, cost, tree_lines}
+use Rattle.bound_log.specs.Tree.{tip, cost, tree_lines}
 use Rattle.branch_bound.specs.declared.search_fault.SearchFault.{SearchFault}
 use Rattle.branch_bound.specs.declared.search_fault.SearchFault.TheVariants as fault
 use Rattle.branch_bound.specs.declared.best.Best.{Best}
 use Rattle.branch_bound.specs.declared.best.Best.TheVariants as best
 use Rattle.shelf_io.specs.States.{ShelfState}
-use Rattle.branch_bound.specs.Explored.{Adds, Breaks, Explores, BreaksOff, counted_on, counts_with}
+use Rattle.branch_bound.specs.Explored.{Adds, Breaks, Explores, BreaksOff}
 use Rattle.branch_bound.specs.Found.{IsDone, IsAnswerOf}
 use Rattle.branch_bound.specs.Logged.{Searches, BreaksLog}
 use Rattle.branch_bound.specs.Searched.{IsAnswer, no_counts}
@@ -56,34 +55,6 @@ answer_fits network bound (best.Unsettled plan) made done is =
           (subst (λ (n : ℕ). IsWithin other (replicate n true)) certified.long (IsWithin-all other));
       open_limit = is.open_limit;
     })
-
--- the last value of a counter
-abbrev last_count : ℕ
-last_count = 2 ^ 64 - 1
-
-step_small : (b : Bool) (before : ℕ) → before ≤ last_count → (if b then min (before + 1) last_count else before) ≤ last_count
-step_small true before small = omega arith
-step_small false before small = small
-
-step_counted : (b : Bool) (before rest total : ℕ) → before ≤ last_count → total ≡ cond b 1 0 + rest → min ((if b then min (before + 1) last_count else before) + rest) last_count ≡ min (before + total) last_count
-step_counted true before rest total small is = omega arith
-step_counted false before rest total small is = omega arith
-
--- counting one after another is counting
-counted_on-is : (before : ℕ) (test : LineOf → Bool) (lines : List LineOf) → before ≤ last_count → counted_on before test lines ≡ min (before + count_by test lines) last_count
-counted_on-is before test [] small = omega arith
-counted_on-is before test (line ∷ lines) small =
-    counted_on-is (if test line then min (before + 1) last_count else before) test lines (step_small (test line) before small)
-    ∙ step_counted (test line) before (count_by test lines) (count_by test (line ∷ lines)) small (sum_by-cons (λ l. cond (test l) 1 0) line lines)
-
-counted_on-zero : (test : LineOf → Bool) (lines : List LineOf) → counted_on 0 test lines ≡ counted test lines
-counted_on-zero test lines = counted_on-is 0 test lines (omega arith) ∙ ap (λ n. min n last_count) (zero-add (count_by test lines))
-
-counts_with-none : (lines : List LineOf) → counts_with no_counts lines ≡ counts_of lines
-counts_with-none lines =
-    ap (λ n. record { splits = n; costs = counted_on 0 is_cost lines; pivots = counted_on 0 is_pivot lines; cuts = 0; duals = 0 }) (counted_on-zero is_split lines)
-    ∙ ap (λ n. record { splits = counted is_split lines; costs = n; pivots = counted_on 0 is_pivot lines; cuts = 0; duals = 0 }) (counted_on-zero is_cost lines)
-    ∙ ap (λ n. record { splits = counted is_split lines; costs = counted is_cost lines; pivots = n; cuts = 0; duals = 0 }) (counted_on-zero is_pivot lines)
 
 -- the search is done
 pub Searches-done : (network : NetworkOf) (node : Node) (name : List ℕ) (found found_now : Best) (counts counts_now : Counts) (done : SearchDone) (before middle now : ShelfState) → node ≡ root_of network → found ≡ best.NoPlan → counts ≡ no_counts → Adds name head_text before middle → Explores network node name found found_now counts counts_now middle now → IsAnswerOf network found_now done.answer → done.counts ≡ counts_now → Searches network name done before now

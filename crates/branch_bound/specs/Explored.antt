@@ -1,12 +1,12 @@
-use Rattle.std.specs.Prelude.{◌≡◌, ℕ, ◌+◌, ◌-◌, ◌^◌, ◌≤◌, min, if◌then◌else◌, Bool, List, [], ◌∷◌, ◌++◌, length, Option, Some}
-use Rattle.shelf_io.specs.Files.{Files, with_piece}
+use Rattle.std.specs.Prelude.{◌≡◌, ℕ, ◌≤◌, List, ◌++◌, length, Some}
+use Rattle.shelf_io.specs.Files.{with_piece}
 use Rattle.shelf_io.specs.States.{ShelfState}
-use Rattle.shelf_io.specs.Faults.{LastFault, Rose, KeepsFaults, write_of}
+use Rattle.shelf_io.specs.Faults.{Rose, KeepsFaults, write_of}
 use Rattle.geo_model.specs.Energy.{IsWithin}
 use Rattle.geo_model.specs.Network.{NetworkOf}
 use Rattle.geo_model.specs.declared.answer.Counts.{Counts}
 use Rattle.geo_model.specs.declared.plan.Node.{Node}
-use Rattle.bound_log.specs.Counted.{is_split, is_cost, is_pivot}
+use Rattle.bound_log.specs.Counted.{counts_with}
 use Rattle.bound_log.specs.LogText.{lines_text}
 use Rattle.bound_log.specs.LogTree.{IsOpenAt, IsAllowed, IsAllowedLine, leaf_bound, bound_at}
 use Rattle.bound_log.specs.Tree.{LineOf, split, leaf, Leaf, cost, pivot, Tree, tree_lines}
@@ -40,21 +40,6 @@ abbrev pub line_of : Line → LineOf
 line_of (line.Split candidate) = split candidate
 line_of line.Cost = leaf cost
 line_of (line.Pivot limit) = leaf (pivot limit)
-
--- a count with the lines that pass, one after another, up to the last value of a counter
-abbrev pub counted_on : ℕ → (LineOf → Bool) → List LineOf → ℕ
-counted_on before test [] = before
-counted_on before test (line ∷ lines) = counted_on (if test line then min (before + 1) (2 ^ 64 - 1) else before) test lines
-
--- counts with these lines besides
-abbrev pub counts_with : Counts → List LineOf → Counts
-counts_with before lines = record {
-  splits = counted_on before.splits is_split lines;
-  costs = counted_on before.costs is_cost lines;
-  pivots = counted_on before.pivots is_pivot lines;
-  cuts = before.cuts;
-  duals = before.duals;
-}
 
 -- a node of the network: its plans have an entry for each candidate, and the inner one lies in the upper one
 pub record IsNode (network : NetworkOf) (node : Node) : Type 0 where

@@ -4,27 +4,14 @@ ghost use Rattle.pivot_chain.specs.Room.{IsRoomOf};
 ghost use Rattle.bound_log.specs.LogTree.{IsOpenAt};
 ghost use Rattle.branch_bound.specs.Explored.{IsNode};
 
+use crate::choice::{Choice, better, is_open};
+use crate::limit_tests::is_in_force;
+use crate::missing::{Missing, unit_load};
 use geo_model::{Candidate, Limit, Network, Node, Row, Verdict};
 use pivot_chain::{ChainRoom, verdict};
 
-/// How much more a row counts at the wanted unknown than elsewhere.
-const AT_WANTED: u128 = 1024;
-
-/// An open candidate, and what it is worth for its price.
-#[derive(Clone, Copy, Debug, PartialEq, Eq)]
-struct Choice {
-    candidate: u32,
-    worth: u128,
-}
-
-/// Whether a node leaves a candidate open.
-fn is_open(network: &Network, node: &Node, candidate: u32) -> bool
-    requires node { IsNode network.now node.now }
-    requires candidate { candidate < length network.now.candidates }
-    ensures { IsTrue result ↔ IsOpenAt network.now node.now candidate }
-{
-    node.upper.has(candidate) && !node.inside.has(candidate)
-}
+/// How much more a row counts at an unknown that the limit loads than elsewhere.
+const AT_LOADED: u128 = 1024;
 
 /// The owner of a limit, where the node leaves it open and the limit shuts it out: the upper plan is
 /// refuted on the limit.
@@ -63,73 +50,97 @@ fn shut_candidate(room: &mut ChainRoom, network: &Network, node: &Node) -> Optio
     None
 }
 
-/// The unknown at which a limit is wanted: the first one that it loads.
-fn wanted_unknown(limit: &Limit) -> u32 {
-    let Some(square) = limit.squares.as_slice().first() else {
-        return 0;
+/// The better of a choice so far and those open candidates that bring energy where a limit misses it
+/// at the displacement by 1 in one unknown: each is worth its share of that for its price.
+fn supplier_at(
+    network: &Network,
+    node: &Node,
+    limit: &Limit,
+    unknown: u32,
+    found: Option<Choice>,
+) -> Option<Choice>
+    requires node { IsNode network.now node.now }
+    requires found { IfSome found (λ choice. IsOpenAt network.now node.now choice.candidate) }
+    ensures { IfSome result (λ choice. IsOpenAt network.now node.now choice.candidate) }
+{
+    let Some(missing) = Missing::of(network, &node.inside, limit, unknown) else {
+        return found;
     };
-    match square.entries.as_slice().first() {
-        Some(entry) => entry.0,
-        None => 0,
+    let mut best = found;
+    for (i, candidate) in network.candidates().iter().enumerate() {
+        let offered = Choice {
+            candidate: i as u32,
+            worth: missing.share_for_price(candidate),
+        };
+        best = better(network, node, offered, best);
     }
+    best
 }
 
-/// What a row is worth at an unknown: its weight times the squares of its coefficients, where that
-/// of the unknown counts most.
-fn row_worth(row: &Row, unknown: u32) -> u128 {
+/// The open candidate that brings the largest share of an energy which the inner plan misses of a
+/// limit, for its price.
+fn supplier_of(network: &Network, node: &Node, limit: &Limit) -> Option<Choice>
+    requires { IsNode network.now node.now }
+    ensures { IfSome result (λ choice. IsOpenAt network.now node.now choice.candidate) }
+{
+    let mut found = None;
+    for unknown in 0..network.unknowns().len() as u32 {
+        found = supplier_at(network, node, limit, unknown, found);
+    }
+    found
+}
+
+/// The open candidate that brings most of what is missing for its price, at the first limit in force
+/// of which the inner plan misses energy at a displacement by 1 in one unknown.
+fn supplier(network: &Network, node: &Node) -> Option<u32>
+    requires { IsNode network.now node.now }
+    ensures { IfSome result (λ candidate. IsOpenAt network.now node.now candidate) }
+{
+    for limit in 0..network.limits().len() as u32 {
+        if is_in_force(network, &node.inside, limit) {
+            if let Some(choice) = supplier_of(network, node, &network.limits()[limit as usize]) {
+                return Some(choice.candidate);
+            }
+        }
+    }
+    None
+}
+
+/// What a row weighs for a limit: its weight times the squares of its coefficients, of which those
+/// at the unknowns that the limit loads count most.
+fn row_worth(row: &Row, limit: &Limit) -> u128 {
     let mut sum = 0u128;
     for entry in row.entries() {
         let size = entry.1.unsigned_abs() as u128;
-        let times = if entry.0 == unknown { AT_WANTED } else { 1 };
+        let times = if unit_load(limit, entry.0) > 0 {
+            AT_LOADED
+        } else {
+            1
+        };
         sum = sum.saturating_add(size.saturating_mul(size).saturating_mul(times));
     }
     sum.saturating_mul(row.weight().unsigned_abs() as u128)
 }
 
-/// What a candidate is worth at an unknown, for its price.
-fn worth_of(candidate: &Candidate, unknown: u32) -> u128 {
+/// What the rows of a candidate weigh for a limit, for its price.
+fn worth_of(candidate: &Candidate, limit: &Limit) -> u128 {
     let mut sum = 0u128;
     for row in candidate.rows.as_slice() {
-        sum = sum.saturating_add(row_worth(row, unknown));
+        sum = sum.saturating_add(row_worth(row, limit));
     }
     sum / (candidate.price as u128 + 1)
 }
 
-/// The better of a choice and a candidate: a choice gives way only to an open candidate worth more.
-fn better(
-    network: &Network,
-    node: &Node,
-    unknown: u32,
-    candidate: u32,
-    found: Option<Choice>,
-) -> Option<Choice>
-    requires node { IsNode network.now node.now }
-    requires candidate { candidate < length network.now.candidates }
-    requires found { IfSome found (λ choice. IsOpenAt network.now node.now choice.candidate) }
-    ensures open { IfSome result (λ choice. IsOpenAt network.now node.now choice.candidate) }
-    ensures none { IfNone result ((found ≡ None) × (IsOpenAt network.now node.now candidate → ⊥)) }
-{
-    if !is_open(network, node, candidate) {
-        return found;
-    }
-    let worth = worth_of(&network.candidates()[candidate as usize], unknown);
-    if let Some(choice) = found {
-        if choice.worth >= worth {
-            return Some(choice);
-        }
-    }
-    Some(Choice { candidate, worth })
-}
-
-/// The open candidate that is worth most at an unknown, the first one of those.
-fn worthiest(network: &Network, node: &Node, unknown: u32) -> Option<u32>
+/// The open candidate whose rows weigh most for a limit and its price, the first one of those.
+fn weightiest(network: &Network, node: &Node, limit: &Limit) -> Option<u32>
     requires { IsNode network.now node.now }
     ensures open { IfSome result (λ candidate. IsOpenAt network.now node.now candidate) }
     ensures none { IfNone result (node.now.inside ≡ node.now.upper) }
 {
     let mut found = None;
     for candidate in 0..network.candidates().len() as u32 {
-        found = better(network, node, unknown, candidate, found);
+        let worth = worth_of(&network.candidates()[candidate as usize], limit);
+        found = better(network, node, Choice { candidate, worth }, found);
     }
     match found {
         Some(choice) => Some(choice.candidate),
@@ -138,8 +149,9 @@ fn worthiest(network: &Network, node: &Node, unknown: u32) -> Option<u32>
 }
 
 /// The candidate on which a node is split whose inner plan isn't met on a limit: one that its own
-/// limit shuts out, which ends the child that takes it, or else the one worth most for its price
-/// where the limit wants it. There is none where the node has one plan alone.
+/// limit shuts out, which ends the child that takes it; else the one that brings the largest share of
+/// a missing energy for its price; or else, where no energy is missing at a displacement by 1 in one
+/// unknown, the one whose rows weigh most. There is none where the node has one plan alone.
 pub fn branch_candidate(
     room: &mut ChainRoom,
     network: &Network,
@@ -156,9 +168,8 @@ pub fn branch_candidate(
     if let Some(candidate) = shut_candidate(room, network, node) {
         return Some(candidate);
     }
-    worthiest(
-        network,
-        node,
-        wanted_unknown(&network.limits()[limit as usize]),
-    )
+    if let Some(candidate) = supplier(network, node) {
+        return Some(candidate);
+    }
+    weightiest(network, node, &network.limits()[limit as usize])
 }

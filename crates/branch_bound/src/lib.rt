@@ -4,8 +4,10 @@
 mod answer;
 mod best;
 mod branch;
+mod choice;
 mod limit_tests;
 mod line;
+mod missing;
 mod node_tests;
 mod run;
 mod search_fault;
@@ -14,7 +16,5 @@ pub use geo_model::{Answer, SearchDone};
 pub use run::search;
 pub use search_fault::SearchFault;
 
-#[cfg(test)]
-mod draft;
 #[cfg(test)]
 mod tests;

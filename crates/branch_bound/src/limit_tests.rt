@@ -18,17 +18,13 @@ pub struct OpenLimit {
     pub hi: i128,
 }
 
-/// Whether a limit is in force for a plan: it has no owner, or its owner is chosen.
-fn is_in_force(network: &Network, plan: &Plan, limit: u32) -> bool
+/// Whether the limit of a number is in force for a plan.
+pub fn is_in_force(network: &Network, plan: &Plan, limit: u32) -> bool
     requires plan { length plan.now ≡ length network.now.candidates }
     requires limit { limit < length network.now.limits }
     ensures { (l : LimitOf) → slice_get network.now.limits limit ≡ Some l → IsTrue result ↔ IsInForce l plan.now }
 {
-    let limit = &network.limits()[limit as usize];
-    match limit.owner {
-        None => true,
-        Some(owner) => plan.has(owner),
-    }
+    network.limits()[limit as usize].is_in_force(plan)
 }
 
 /// Whether a limit refutes a node: it is in force for the inner plan, and the upper plan is refuted.

@@ -1,11 +1,13 @@
 //! The lines that the search writes.
-ghost use Rattle.std.specs.Prelude.{◌≡◌, ◌+◌, ◌-◌, ◌^◌, [], ◌∷◌, ◌++◌, min, Some, OnOk, OnErr, IfErr};
+ghost use Rattle.std.specs.Prelude.{◌≡◌, [], ◌∷◌, ◌++◌, Some, OnOk, OnErr, IfErr};
+ghost use Rattle.bound_log.specs.Counted.{counts_with};
+ghost use Rattle.bound_log.specs.LogLines.{log_line_of};
 ghost use Rattle.bound_log.specs.LogText.{line_text};
 ghost use Rattle.shelf_io.specs.States.{state_of};
-ghost use Rattle.branch_bound.specs.Explored.{Adds, Breaks, line_of, counts_with};
+ghost use Rattle.branch_bound.specs.Explored.{Adds, Breaks, line_of};
 
 use crate::search_fault::SearchFault;
-use bound_log::{put_cost, put_pivot, put_split};
+use bound_log::{LogLine, count_line, put_cost, put_pivot, put_split};
 use geo_base::NoMemory;
 use geo_model::Counts;
 use shelf_io::{Shelf, WriteAnswer};
@@ -22,6 +24,7 @@ pub enum Line {
 /// Appends the bytes of a line. Refused, `out` is as before.
 fn spell(out: &mut Vec<u8>, line: Line) -> Result<(), NoMemory>
     ensures put { OnOk result (out.new.items ≡ out.old.items ++ line_text (line_of line)) }
+    ensures refused { OnErr result (out.new.items ≡ out.old.items) }
 {
     match line {
         Line::Split(candidate) => put_split(out, candidate),
@@ -30,14 +33,14 @@ fn spell(out: &mut Vec<u8>, line: Line) -> Result<(), NoMemory>
     }
 }
 
-/// Counts a line. A count that has reached its last value stays there.
-fn count(counts: &mut Counts, line: Line)
-    ensures { counts.new ≡ counts_with counts.old (line_of line ∷ []) }
+/// The same line, as logs are counted.
+fn counted_line(line: Line) -> LogLine
+    ensures { log_line_of result ≡ line_of line }
 {
     match line {
-        Line::Split(_) => counts.splits = counts.splits.saturating_add(1),
-        Line::Cost => counts.costs = counts.costs.saturating_add(1),
-        Line::Pivot(_) => counts.pivots = counts.pivots.saturating_add(1),
+        Line::Split(candidate) => LogLine::Split(candidate as u64),
+        Line::Cost => LogLine::Cost,
+        Line::Pivot(limit) => LogLine::Pivot(limit as u64),
     }
 }
 
@@ -80,6 +83,6 @@ pub fn write_line<H: Shelf>(
         return Err(SearchFault::NoMemory);
     }
     write_piece(shelf, name, buffer.as_slice())?;
-    count(counts, line);
+    count_line(counts, counted_line(line));
     Ok(())
 }

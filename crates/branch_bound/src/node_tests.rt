@@ -112,7 +112,6 @@ pub fn line_at(
     }
     if is_cheaper(network, &node.inside, best) {
         *best = Best::Unsettled(node.inside.copy(alloc)?);
-        return Ok(Line::Cost);
     }
     Ok(Line::Cost)
 }

@@ -2,7 +2,6 @@
 ghost use Rattle.std.specs.Prelude.{◌≡◌, Some, OnOk, IfErr, IfOk};
 ghost use Rattle.pivot_chain.specs.Room.{IsRoomOf};
 ghost use Rattle.bound_log.specs.LogText.{head_text};
-ghost use Rattle.bound_log.specs.LogTree.{root_of};
 ghost use Rattle.branch_bound.specs.declared.best.Best.TheVariants as found;
 ghost use Rattle.shelf_io.specs.States.{state_of};
 ghost use Rattle.branch_bound.specs.Explored.{IsNode, Adds, Breaks, Explores, BreaksOff};
@@ -16,8 +15,7 @@ use crate::line::{Line, write_line, write_piece};
 use crate::node_tests::line_at;
 use crate::search_fault::SearchFault;
 use bound_log::put_head;
-use geo_base::NoMemory;
-use geo_model::{Counts, Network, Node, Plan, SearchDone};
+use geo_model::{Counts, Network, Node, SearchDone};
 use pivot_chain::ChainRoom;
 use shelf_io::Shelf;
 use std::alloc::Global;
@@ -41,13 +39,7 @@ impl Progress {
     {
         Progress {
             best: Best::NoPlan,
-            counts: Counts {
-                splits: 0,
-                costs: 0,
-                pivots: 0,
-                cuts: 0,
-                duals: 0,
-            },
+            counts: Counts::none(),
             buffer: Vec::new(alloc),
             room,
         }
@@ -94,44 +86,24 @@ fn explore<H: Shelf>(
         (state_of H.held H.faults H.last_fault H.started shelf.old)
         (state_of H.held H.faults H.last_fault H.started shelf.new)) }
 {
-    let line = match line_at(alloc, &mut progress.room, network, node, &mut progress.best) {
-        Ok(line) => line,
-        Err(_) => return Err(SearchFault::NoMemory),
-    };
-    if let Err(why) = write_line(
+    let line = line_at(alloc, &mut progress.room, network, node, &mut progress.best)?;
+    write_line(
         shelf,
         name,
         &mut progress.buffer,
         &mut progress.counts,
         line,
-    ) {
-        return Err(why);
-    }
+    )?;
     let Line::Split(candidate) = line else {
         return Ok(());
     };
     node.inside.set(candidate, true);
-    if let Err(why) = explore(alloc, network, shelf, name, progress, node) {
-        return Err(why);
-    }
+    explore(alloc, network, shelf, name, progress, node)?;
     node.inside.set(candidate, false);
     node.upper.set(candidate, false);
-    if let Err(why) = explore(alloc, network, shelf, name, progress, node) {
-        return Err(why);
-    }
+    explore(alloc, network, shelf, name, progress, node)?;
     node.upper.set(candidate, true);
     Ok(())
-}
-
-/// The node of all plans.
-fn root_node(alloc: Global, network: &Network) -> Result<Node, NoMemory>
-    ensures root { IfOk result (λ node. node ≡ root_of network.now) }
-    ensures node { IfOk result (λ node. IsNode network.now node) }
-{
-    let m = network.candidates().len() as u32;
-    let inside = Plan::empty(alloc, m)?;
-    let upper = Plan::full(alloc, m)?;
-    Ok(Node { inside, upper })
 }
 
 /// Writes the first line of a log. `buffer` is room for its bytes.
@@ -145,14 +117,20 @@ fn begin_log<H: Shelf>(shelf: &mut H, name: &str, buffer: &mut Vec<u8>) -> Resul
         (state_of H.held H.faults H.last_fault H.started shelf.new)) }
 {
     buffer.clear();
-    if put_head(buffer).is_err() {
-        return Err(SearchFault::NoMemory);
-    }
+    put_head(buffer)?;
     write_piece(shelf, name, buffer.as_slice())
 }
 
-/// Searches for the cheapest plan that meets the limits, and appends a log that proves the answer to
-/// the started name, a line at a time.
+/// Searches for the cheapest plan that is certified, and appends a log that proves the answer to the
+/// started name, a line at a time: each line is one append.
+///
+/// `Best` has a certified plan whose price is the log's bound, so no plan that meets the limits costs
+/// less. `NoPlan`: the log has no bound, and no plan meets the limits. `Undecided` has a plan that is
+/// neither certified nor refuted, whose price is the log's bound while each certified plan costs more,
+/// with the first limit in force for it whose verdict is open, and that verdict's step and interval.
+///
+/// `WriteFault`: an append failed. `NoMemory`: here, or in an append. After both the name holds what it
+/// held, followed by the beginning of a log of this network, and the other names hold what they held.
 pub fn search<H: Shelf>(
     alloc: Global,
     network: &Network,
@@ -171,20 +149,10 @@ pub fn search<H: Shelf>(
         (state_of H.held H.faults H.last_fault H.started shelf.old)
         (state_of H.held H.faults H.last_fault H.started shelf.new)) }
 {
-    let mut node = match root_node(alloc, network) {
-        Ok(node) => node,
-        Err(_) => return Err(SearchFault::NoMemory),
-    };
-    let room = match ChainRoom::new(alloc, network) {
-        Ok(room) => room,
-        Err(_) => return Err(SearchFault::NoMemory),
-    };
+    let mut node = Node::whole(alloc, network.candidates().len() as u32)?;
+    let room = ChainRoom::new(alloc, network)?;
     let mut progress = Progress::new(alloc, room);
-    if let Err(why) = begin_log(shelf, name, &mut progress.buffer) {
-        return Err(why);
-    }
-    if let Err(why) = explore(alloc, network, shelf, name, &mut progress, &mut node) {
-        return Err(why);
-    }
+    begin_log(shelf, name, &mut progress.buffer)?;
+    explore(alloc, network, shelf, name, &mut progress, &mut node)?;
     Ok(progress.done(network))
 }

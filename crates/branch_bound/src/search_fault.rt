@@ -1,6 +1,4 @@
 use geo_base::NoMemory;
-use shelf_io::WriteAnswer;
-use std::alloc::{AllocError, AllocFailed};
 
 /// Why a search ended without an answer: a write of the log failed, or memory ran out.
 #[derive(Clone, Copy, Debug, PartialEq, Eq)]
@@ -17,18 +15,5 @@ impl From<NoMemory> for SearchFault {
 
     fn from(_refused: NoMemory) -> SearchFault {
         SearchFault::NoMemory
-    }
-}
-
-impl From<WriteAnswer> for SearchFault {
-    ghost use Rattle.branch_bound.specs.Faults.{IsFaultOf};
-
-    ghost from_gives = { IsFaultOf };
-
-    fn from(answer: WriteAnswer) -> SearchFault {
-        match answer {
-            WriteAnswer::Failed => SearchFault::WriteFault,
-            WriteAnswer::NoMemory => SearchFault::NoMemory,
-        }
     }
 }

@@ -1,132 +1,138 @@
-//! Searches over small networks, whose answers were found by trying every plan.
-ghost use Rattle.std.specs.Prelude.{◌≤◌, ℤ, pos, ◌≤ℤ◌};
+//! Searches over networks of one new height, whose answers and logs were reckoned by an independent
+//! program.
+ghost use Rattle.std.specs.Prelude.{◌≡◌, ◌^◌, [], ◌∷◌, ℤ, pos, ◌≤ℤ◌, length, IfOk, None, Some};
+ghost use Rattle.geo_model.specs.declared.limit.LimitKind.TheVariants.{Added, Redundancy};
 
 use super::*;
-use crate::draft::Draft;
 use geo_base::NoMemory;
-use geo_model::{Network, cost};
-use shelf_io::{Shelf, SureShelf};
+use geo_model::{Candidate, Component, Counts, Limit, LimitKind, Network, Row, Square, Unknown};
+use shelf_io::{MemShelf, Shelf, SureShelf};
 use std::alloc::Global;
 use std::test::Fail;
 
-/// Two levels of 1.00 mm to a height with a limit of 1.0 mm, and their redundancy limits.
+// The new height.
+fn height() -> Unknown {
+    Unknown {
+        point: 1,
+        component: Component::Z,
+    }
+}
+
+// A level to the new height: 10000 is the weight of 1.00 mm.
+fn level(alloc: Global, weight: i64, price: u64) -> Result<Candidate, NoMemory>
+    requires low { pos 1 ≤ℤ weight }
+    requires high { weight ≤ℤ pos 1000000 }
+    ensures { IfOk result (λ candidate. candidate ≡ record { price = price; rows = record { entries = (0, pos 10000) ∷ []; weight = weight } ∷ [] }) }
+{
+    let row = Row::new(vec![in alloc; (0, 10000)]?, weight);
+    Ok(Candidate {
+        price,
+        rows: vec![in alloc; row]?,
+    })
+}
+
+// A square of the height.
+fn square(alloc: Global, beta: i128, coefficient: i64) -> Result<Square, NoMemory>
+    ensures { IfOk result (λ square. square ≡ record { beta = beta; entries = (0, coefficient) ∷ [] }) }
+{
+    let entries = vec![in alloc; (0, coefficient)]?;
+    Ok(Square { beta, entries })
+}
+
+// The limit of 1.0 mm on the height.
+fn height_limit(alloc: Global) -> Result<Limit, NoMemory>
+    ensures { IfOk result (λ limit. limit ≡ record { kind = Added 1; owner = None; alpha = pos 100; squares = record { beta = pos (10 ^ 14); entries = (0, pos 1) ∷ [] } ∷ [] }) }
+{
+    let squares = vec![in alloc; square(alloc, 100_000_000_000_000, 1)?]?;
+    Ok(Limit {
+        kind: LimitKind::Added(1),
+        owner: None,
+        alpha: 100,
+        squares,
+    })
+}
+
+// The limit on the redundancy of a level of 1.00 mm: 500 for 0.500, 499 for 0.501.
+fn redundancy_limit(alloc: Global, candidate: u32, alpha: i64) -> Result<Limit, NoMemory>
+    ensures { IfOk result (λ limit. limit ≡ record { kind = Redundancy candidate 0; owner = Some candidate; alpha = alpha; squares = record { beta = pos (10 ^ 7); entries = (0, pos 10000) ∷ [] } ∷ [] }) }
+{
+    let squares = vec![in alloc; square(alloc, 10_000_000, 10000)?]?;
+    Ok(Limit {
+        kind: LimitKind::Redundancy(candidate, 0),
+        owner: Some(candidate),
+        alpha,
+        squares,
+    })
+}
+
+// A limit that asks for 1 more than a level of the greatest weight gives, which is far below a step
+// of the grid.
+fn missed_limit(alloc: Global) -> Result<Limit, NoMemory>
+    ensures { IfOk result (λ limit. limit ≡ record { kind = Added 1; owner = None; alpha = pos 1000000; squares = record { beta = pos (10 ^ 14); entries = (0, pos 1000) ∷ [] } ∷ record { beta = pos 1; entries = (0, pos 1) ∷ [] } ∷ [] }) }
+{
+    let most = square(alloc, 100_000_000_000_000, 1000)?;
+    let more = square(alloc, 1, 1)?;
+    Ok(Limit {
+        kind: LimitKind::Added(1),
+        owner: None,
+        alpha: 1_000_000,
+        squares: vec![in alloc; most, more]?,
+    })
+}
+
+// Levels of 1.00 mm for 5 and 7, the limit of 1.0 mm on the height, and those on their redundancies.
 fn two_levels(alloc: Global, alpha: i64) -> Result<Network, NoMemory>
     requires low { pos 1 ≤ℤ alpha }
     requires high { alpha ≤ℤ pos 1000000 }
+    ensures { IfOk result (λ network. length network.candidates ≡ 2) }
 {
-    let mut draft = Draft::new(alloc);
-    draft.limit(alloc, 0, 100)?;
-    draft.single(alloc, 0, 10000, 5)?;
-    draft.own_single(alloc, 0, 10_000_000, alpha)?;
-    draft.single(alloc, 0, 10000, 7)?;
-    draft.own_single(alloc, 0, 10_000_000, alpha)?;
-    draft.network(alloc)
+    let unknowns = vec![in alloc; height()]?;
+    let first = level(alloc, 10000, 5)?;
+    let second = level(alloc, 10000, 7)?;
+    let candidates = vec![in alloc; first, second]?;
+    let limit = height_limit(alloc)?;
+    let one = redundancy_limit(alloc, 0, alpha)?;
+    let other = redundancy_limit(alloc, 1, alpha)?;
+    let limits = vec![in alloc; limit, one, other]?;
+    Ok(Network::new(unknowns, candidates, limits))
 }
 
-/// Three such levels with a redundancy of 0.400.
-fn three_levels(alloc: Global) -> Result<Network, NoMemory> {
-    let mut draft = Draft::new(alloc);
-    draft.limit(alloc, 0, 100)?;
-    draft.single(alloc, 0, 10000, 5)?;
-    draft.own_single(alloc, 0, 10_000_000, 600)?;
-    draft.single(alloc, 0, 10000, 7)?;
-    draft.own_single(alloc, 0, 10_000_000, 600)?;
-    draft.single(alloc, 0, 10000, 9)?;
-    draft.own_single(alloc, 0, 10_000_000, 600)?;
-    draft.network(alloc)
-}
-
-/// Two distances of 1.00 mm to a point, from the west and from the south, and its axis limit of 1.0 mm.
-fn two_distances(alloc: Global) -> Result<Network, NoMemory> {
-    let mut draft = Draft::new(alloc);
-    draft.axis(alloc, 100)?;
-    draft.single(alloc, 0, 10000, 5)?;
-    draft.single(alloc, 1, 10000, 6)?;
-    draft.network(alloc)
-}
-
-/// A line of four heights with levels of 0.50 mm, limits of 5.0 mm, and one on the last height.
-fn levelling_line(alloc: Global, alpha: i64) -> Result<Network, NoMemory>
-    requires low { pos 1 ≤ℤ alpha }
-    requires high { alpha ≤ℤ pos 1000000 }
+// A level of the greatest weight for 5, and the limit that it misses by 1.
+fn missed(alloc: Global) -> Result<Network, NoMemory>
+    ensures { IfOk result (λ network. length network.candidates ≡ 1) }
 {
-    let mut draft = Draft::new(alloc);
-    draft.limit(alloc, 0, 2500)?;
-    draft.limit(alloc, 1, 2500)?;
-    draft.limit(alloc, 2, 2500)?;
-    draft.limit(alloc, 3, alpha)?;
-    draft.single(alloc, 0, 40000, 5)?;
-    draft.between(alloc, 0, 1, 40000, 5)?;
-    draft.between(alloc, 1, 2, 40000, 5)?;
-    draft.between(alloc, 2, 3, 40000, 5)?;
-    draft.network(alloc)
+    let unknowns = vec![in alloc; height()]?;
+    let only = level(alloc, 1_000_000, 5)?;
+    let candidates = vec![in alloc; only]?;
+    let limit = missed_limit(alloc)?;
+    let limits = vec![in alloc; limit]?;
+    Ok(Network::new(unknowns, candidates, limits))
 }
 
-/// Levels of 1.00 mm from two fixed heights to two new ones and between those, limits of 1.0 mm and
-/// a redundancy of 0.300.
-fn levelling_loop(alloc: Global) -> Result<Network, NoMemory> {
-    let mut draft = Draft::new(alloc);
-    draft.limit(alloc, 0, 100)?;
-    draft.limit(alloc, 1, 100)?;
-    draft.single(alloc, 0, 10000, 40)?;
-    draft.own_single(alloc, 0, 10_000_000, 700)?;
-    draft.single(alloc, 1, 10000, 50)?;
-    draft.own_single(alloc, 1, 10_000_000, 700)?;
-    draft.single(alloc, 0, 10000, 45)?;
-    draft.own_single(alloc, 0, 10_000_000, 700)?;
-    draft.single(alloc, 1, 10000, 35)?;
-    draft.own_single(alloc, 1, 10_000_000, 700)?;
-    draft.between(alloc, 0, 1, 10000, 30)?;
-    draft.own_between(alloc, 0, 1, 10_000_000, 700)?;
-    draft.network(alloc)
-}
-
-/// Adds a vector with a redundancy of 0.200.
-fn add_vector(
-    draft: &mut Draft,
-    alloc: Global,
-    weight: i64,
-    height_weight: i64,
-    price: u64,
-) -> Result<(), NoMemory>
-    requires low { pos 1 ≤ℤ weight }
-    requires high { weight ≤ℤ pos 10000 }
-    requires height_low { pos 1 ≤ℤ height_weight }
-    requires height_high { height_weight ≤ℤ pos 10000 }
-    requires price { price ≤ 1000000000 }
-{
-    draft.vector(alloc, weight, height_weight, price)?;
-    draft.own_single(alloc, 0, weight as i128 * 1000, 800)?;
-    draft.own_single(alloc, 1, weight as i128 * 1000, 800)?;
-    draft.own_single(alloc, 2, height_weight as i128 * 1000, 800)
-}
-
-/// Vectors from three fixed points to a new one, its axis limit of 4.0 mm and height limit of 7.0 mm.
-fn vectors(alloc: Global) -> Result<Network, NoMemory> {
-    let mut draft = Draft::new(alloc);
-    draft.axis(alloc, 1600)?;
-    draft.limit(alloc, 2, 4900)?;
-    add_vector(&mut draft, alloc, 400, 156, 100)?;
-    add_vector(&mut draft, alloc, 400, 156, 120)?;
-    add_vector(&mut draft, alloc, 400, 156, 150)?;
-    draft.network(alloc)
-}
-
-/// The price of a best plan.
-fn best_price(alloc: Global, network: &Network) -> Result<Option<u64>, Fail> {
-    let mut shelf = SureShelf::new(alloc);
-    shelf.start("log")?;
-    let done = search(alloc, network, &mut shelf, "log")?;
-    match &done.answer {
-        Answer::Best(plan) => Ok(Some(cost(network, plan))),
-        _ => Ok(None),
+fn counts(splits: u64, costs: u64, pivots: u64) -> Counts {
+    Counts {
+        splits,
+        costs,
+        pivots,
+        cuts: 0,
+        duals: 0,
     }
 }
 
 #[test]
-fn redundancy_takes_both_levels(rt: HostRuntime) -> Result<(), Fail> {
+fn a_redundancy_of_a_half_takes_both_levels(rt: HostRuntime) -> Result<(), Fail> {
     let network = two_levels(rt.alloc(), 500)?;
-    assert_eq!(rt; best_price(rt.alloc(), &network)?, Some(12));
+    let mut shelf = SureShelf::new(rt.alloc());
+    shelf.start("log")?;
+    let done = search(rt.alloc(), &network, &mut shelf, "log")?;
+    let chosen = match &done.answer {
+        Answer::Best(plan) => Some((plan.has(0), plan.has(1))),
+        _ => None,
+    };
+    assert_eq!(rt; chosen, Some((true, true)));
+    assert_eq!(rt; done.counts, counts(3, 1, 3));
+    let log = b"geoplan-log 1\ns 0\ns 1\nc\np 1\ns 1\np 2\np 0\n".as_slice();
+    assert_eq!(rt; shelf.file("log"), Some(log));
     Ok(())
 }
 
@@ -137,28 +143,15 @@ fn too_much_redundancy_has_no_plan(rt: HostRuntime) -> Result<(), Fail> {
     shelf.start("log")?;
     let done = search(rt.alloc(), &network, &mut shelf, "log")?;
     assert_eq!(rt; matches!(&done.answer, Answer::NoPlan), true);
+    assert_eq!(rt; done.counts, counts(2, 0, 3));
     let log = b"geoplan-log 1\ns 0\np 1\ns 1\np 2\np 0\n".as_slice();
     assert_eq!(rt; shelf.file("log"), Some(log));
     Ok(())
 }
 
 #[test]
-fn two_of_three_levels_are_best(rt: HostRuntime) -> Result<(), Fail> {
-    let network = three_levels(rt.alloc())?;
-    assert_eq!(rt; best_price(rt.alloc(), &network)?, Some(12));
-    Ok(())
-}
-
-#[test]
-fn an_exact_pair_of_distances_is_met(rt: HostRuntime) -> Result<(), Fail> {
-    let network = two_distances(rt.alloc())?;
-    assert_eq!(rt; best_price(rt.alloc(), &network)?, Some(11));
-    Ok(())
-}
-
-#[test]
-fn the_line_is_undecided(rt: HostRuntime) -> Result<(), Fail> {
-    let network = levelling_line(rt.alloc(), 100)?;
+fn a_limit_missed_by_less_than_the_grid_is_open(rt: HostRuntime) -> Result<(), Fail> {
+    let network = missed(rt.alloc())?;
     let mut shelf = SureShelf::new(rt.alloc());
     shelf.start("log")?;
     let done = search(rt.alloc(), &network, &mut shelf, "log")?;
@@ -169,30 +162,28 @@ fn the_line_is_undecided(rt: HostRuntime) -> Result<(), Fail> {
             step,
             lo,
             hi,
-        } => Some((cost(&network, plan), *limit, *step, *lo, *hi)),
+        } => Some((plan.has(0), *limit, *step, *lo, *hi)),
         _ => None,
     };
-    assert_eq!(rt; found, Some((20, 3, 4, -1, 1)));
+    assert_eq!(rt; found, Some((true, 0, 1, -1, 0)));
+    assert_eq!(rt; done.counts, counts(1, 1, 1));
+    let log = b"geoplan-log 1\ns 0\nc\np 0\n".as_slice();
+    assert_eq!(rt; shelf.file("log"), Some(log));
     Ok(())
 }
 
+// Each line is one append: the third one fails, halfway.
 #[test]
-fn a_wider_limit_decides_the_line(rt: HostRuntime) -> Result<(), Fail> {
-    let network = levelling_line(rt.alloc(), 121)?;
-    assert_eq!(rt; best_price(rt.alloc(), &network)?, Some(20));
-    Ok(())
-}
-
-#[test]
-fn the_loop_takes_three_levels(rt: HostRuntime) -> Result<(), Fail> {
-    let network = levelling_loop(rt.alloc())?;
-    assert_eq!(rt; best_price(rt.alloc(), &network)?, Some(105));
-    Ok(())
-}
-
-#[test]
-fn two_vectors_are_best(rt: HostRuntime) -> Result<(), Fail> {
-    let network = vectors(rt.alloc())?;
-    assert_eq!(rt; best_price(rt.alloc(), &network)?, Some(220));
+fn a_failed_append_leaves_whole_lines_before_it(rt: HostRuntime) -> Result<(), Fail> {
+    let network = two_levels(rt.alloc(), 500)?;
+    let mut shelf = MemShelf::new(rt.alloc(), vec![in rt.alloc(); 4]?);
+    shelf.start("log")?;
+    let refused = match search(rt.alloc(), &network, &mut shelf, "log") {
+        Ok(_) => None,
+        Err(why) => Some(why),
+    };
+    assert_eq!(rt; refused, Some(SearchFault::WriteFault));
+    let log = b"geoplan-log 1\ns 0\ns ".as_slice();
+    assert_eq!(rt; shelf.file("log"), Some(log));
     Ok(())
 }

@@ -1,52 +1,31 @@
 -- What holds of a record that breaks no rule, and of the candidates of a table without a fault.
-use Rattle.std.proofs.Common.{◌≡◌, ◌≢◌, ◌∙◌, ◌+◌, ◌≤◌, ◌^◌, ℕ, ℤ, pos, Bool, true, false, List, [], ◌∷◌, ◌++◌, Option, Some, None, length, refl, sym, ap, arith, not, ◌&&◌, ◌||◌, eqb, subst, length-append}
+use Rattle.std.proofs.Common.{◌≡◌, ◌≢◌, ◌∙◌, ◌+◌, ◌≤◌, ◌^◌, ℕ, ℤ, pos, Bool, true, false, List, [], ◌∷◌, ◌++◌, Option, Some, None, length, refl, sym, arith, not, ◌&&◌, ◌||◌, eqb, subst, length-append}
 use Rattle.std.specs.Prelude.{◌≤ℤ◌, if◌then◌else◌, int_le, is_none, is_some, option_map, slice_get, unsigned_abs}
 use Rattle.std.specs.List.{IsDistinct, list_any}
-use Rattle.std.specs.Option.{ForSome, option_map_or, option_or}
-use Rattle.std.specs.Str.{bytes_eq}
+use Rattle.std.specs.Option.{ForSome, option_map_or}
 use Rattle.std.proofs.lemmas.Bool.{and_parts, eqb-false}
 use Rattle.std.proofs.lemmas.Bool.Decides.{nat_tests}
 use Rattle.std.proofs.lemmas.Int.{ints}
-use Rattle.std.proofs.lemmas.Cmp.{nat_list_eq_equiv}
-use Rattle.std.proofs.lemmas.List.{map-append}
 use Rattle.std.proofs.lemmas.List.Elements.{All-nil, All-push}
-use Rattle.std.proofs.lemmas.Map.Keys.{IsDistinct-push}
 use Rattle.std.proofs.lemmas.Option.{slice_get-map}
 use Rattle.point_tables.proofs.RecordFacts.{record-few}
 use Rattle.text_num.specs.Decimal.{decimal_of}
-use Rattle.table_rows.specs.Faults.{Rule, first_broken}
-use Rattle.table_rows.proofs.FaultFacts.{first_broken-append}
+use Rattle.table_rows.specs.Faults.{first_broken}
+use Rattle.table_rows.proofs.FaultFacts.{both-kept, each-kept}
 use Rattle.point_tables.specs.declared.record.PointRecord.{PointRecord}
 use Rattle.point_tables.specs.Accepted.{is_absent}
 use Rattle.point_tables.specs.Columns.{is_outside, name_rules, number_rules, text_at}
 use Rattle.point_tables.specs.Names.{is_among, is_name, place_of}
 use Rattle.point_tables.specs.PointTable as points_table
 use Rattle.point_tables.proofs.PlaceFacts.{among-is, place-at}
+use Rattle.point_tables.proofs.StoredFacts.{apart-push}
+use Rattle.candidate_tables.proofs.RecordFacts.{by_name}
 use Rattle.candidate_tables.specs.declared.kind.Kind.{Kind}
 use Rattle.candidate_tables.specs.declared.record.CandidateRecord.{CandidateRecord}
 use Rattle.candidate_tables.specs.Accepted.{AreCandidates, IsBetween, IsCandidateRecord, IsEnd, IsLine}
 use Rattle.candidate_tables.specs.CandidateTable.{candidate_of, deviation_of, deviation_rules, end_rules, figure_rules, foresight_in, foresight_rules, height_deviation_of, height_rules, kind_at, length_rules, line_rules, lines_rules, name_at, names_of, part_rules, place_rules, point_rules, price_of, price_rules, rules_after}
 use Rattle.candidate_tables.specs.Kinds.{has_line, is_angle, is_vector, needs_height, needs_plane}
 use Rattle.candidate_tables.specs.Places.{has_repeat, lacks_height, lacks_plane, named, place_in}
-
--- ---- no rule is broken
-
--- of two lists of rules neither breaks one
-or-none : {K : Type 0} (a b : Option K) → option_or a b ≡ None → (a ≡ None) × (b ≡ None)
-or-none None b e = (refl, e)
-or-none (Some x) b e = absurd (cc e)
-
-pub both-kept : {K : Type 0} (front back : List (Rule K)) → first_broken (front ++ back) ≡ None → (first_broken front ≡ None) × (first_broken back ≡ None)
-both-kept front back e = or-none (first_broken front) (first_broken back) (sym (first_broken-append front back) ∙ e)
-
--- neither the first rule nor one of the others
-pub each-kept : {K : Type 0} (rule : Rule K) (rules : List (Rule K)) → first_broken (rule ∷ rules) ≡ None → (rule.broken ≡ false) × (first_broken rules ≡ None)
-unfolding first_broken
-each-kept rule rules e = by rule.broken e
-  where
-    by : (t : Bool) → (if t then Some rule.kind else first_broken rules) ≡ None → (t ≡ false) × (first_broken rules ≡ None)
-    by true f = absurd (cc f)
-    by false f = (refl, f)
 
 -- ---- tests
 
@@ -313,25 +292,14 @@ pub none-accepted : (points : List PointRecord) → AreCandidates points []
 unfolding IsDistinct
 none-accepted points = record { few = omega arith; apart = tt; each = All-nil (IsCandidateRecord points) }
 
-name-of : (points : List PointRecord) (row : List (List ℕ)) → (candidate_of points row).name ≡ name_at row
-unfolding candidate_of
-name-of points row = refl
-
-apart-push : (points : List PointRecord) (before : List CandidateRecord) (row : List (List ℕ)) → IsDistinct bytes_eq (names_of before) → is_among (name_at row) (names_of before) ≡ false
-    → IsDistinct bytes_eq (names_of (before ++ candidate_of points row ∷ []))
-unfolding is_among
-apart-push points before row apart other =
-    subst (IsDistinct bytes_eq)
-    (ap (λ (name : List ℕ). names_of before ++ name ∷ []) (sym (name-of points row)) ∙ sym (map-append (λ (c : CandidateRecord). c.name) before (candidate_of points row ∷ [])))
-    (IsDistinct-push nat_list_eq_equiv (names_of before) (name_at row) apart other)
-
 pub accepted-push : (points : List PointRecord) (before after : List CandidateRecord) (row : List (List ℕ)) → AreCandidates points before
     → first_broken (rules_after points (length before + 2) row (names_of before)) ≡ None → after ≡ before ++ candidate_of points row ∷ [] → AreCandidates points after
+unfolding candidate_of
 accepted-push points before after row are e more =
     let kept = record-kept points (length before + 2) row (names_of before) e in
     let accepted = record-accepted points (length before + 2) row (names_of before) e in
     rw more record {
       few = omega (arith, kept.few, length-append before (candidate_of points row ∷ []));
-      apart = apart-push points before row are.apart kept.name.1;
+      apart = apart-push by_name before (candidate_of points row) are.apart kept.name.1;
       each = All-push (IsCandidateRecord points) before (candidate_of points row) are.each accepted;
     }

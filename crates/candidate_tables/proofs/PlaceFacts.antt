@@ -1,6 +1,6 @@
 -- The points that a record names: their coordinates, their parts, and which rule on them is broken first.
-use Rattle.std.proofs.Common.{FitsSigned, to_z, of_z, w64, arith, ◌≡◌, ◌∙◌, ◌<◌, ◌≤◌, ◌^◌, ℕ, ℤ, pos, List, [], ◌++◌, Option, Some, None, refl, sym}
-use Rattle.std.specs.Prelude.{◌-ℤ◌, slice_get, unwrap_or, unsigned_abs}
+use Rattle.std.proofs.Common.{FitsSigned, to_z, of_z, w64, arith, ◌≡◌, ◌∙◌, ◌<◌, ◌≤◌, ◌^◌, ℕ, ℤ, List, [], ◌++◌, Option, Some, None, refl, sym}
+use Rattle.std.specs.Prelude.{◌-ℤ◌, slice_get, unsigned_abs}
 use Rattle.std.proofs.lemmas.Int.{ints, to_z-of_z, fits_signed_from_abs}
 use Rattle.table_rows.specs.Faults.{Rule, first_broken}
 use Rattle.table_rows.proofs.FaultFacts.{first_broken-left, first_broken-right}
@@ -12,14 +12,6 @@ use Rattle.candidate_tables.specs.CandidateTable.{extra_rules, line_rules, lines
 use Rattle.coefficient_round.specs.Coefficient.{square_length}
 use Rattle.candidate_tables.specs.Lines.{length_squared, x_at, y_at}
 use Rattle.candidate_tables.specs.Places.{lacks_height, lacks_plane, named}
-
-pub x-at : (points : List PointRecord) (place : ℕ) (point : PointRecord) → slice_get points place ≡ Some point → unwrap_or point.x (pos 0) ≡ x_at points place
-unfolding x_at
-x-at points place point e = rw e refl
-
-pub y-at : (points : List PointRecord) (place : ℕ) (point : PointRecord) → slice_get points place ≡ Some point → unwrap_or point.y (pos 0) ≡ y_at points place
-unfolding y_at
-y-at points place point e = rw e refl
 
 pub plane-at : (points : List PointRecord) (place : ℕ) (point : PointRecord) → slice_get points place ≡ Some point → is_absent point.plane ≡ lacks_plane points place
 unfolding lacks_plane
@@ -43,7 +35,7 @@ difference-fits a b first second =
     fits_signed_from_abs w64 (a -ℤ b) size
 
 pub difference-is : (a b : ℤ) → unsigned_abs a ≤ 10 ^ 11 → unsigned_abs b ≤ 10 ^ 11
-    → unsigned_abs (to_z w64 (of_z w64 (to_z w64 (of_z w64 a) -ℤ to_z w64 (of_z w64 b)))) ≡ unsigned_abs (a -ℤ b)
+    → to_z w64 (of_z w64 (to_z w64 (of_z w64 a) -ℤ to_z w64 (of_z w64 b))) ≡ a -ℤ b
 difference-is a b first second =
     rw (to_z-of_z w64 a (small a first), to_z-of_z w64 b (small b second), to_z-of_z w64 (a -ℤ b) (difference-fits a b first second)) refl
 

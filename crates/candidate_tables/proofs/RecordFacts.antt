@@ -1,21 +1,17 @@
 -- Which rule of a record is broken first, and the candidate that a record gives.
 use Rattle.std.proofs.Common.{◌≡◌, ◌∙◌, ◌+◌, ℕ, List, [], ◌∷◌, Option, Some, None, length, map, refl, sym, ap, subst}
-use Rattle.std.specs.Prelude.{Err}
 use Rattle.std.proofs.lemmas.List.{length-map}
-use Rattle.table_rows.specs.Faults.{Rule, first_broken}
+use Rattle.table_rows.specs.Faults.{first_broken}
 use Rattle.table_rows.proofs.FaultFacts.{first_broken-left, first_broken-right}
 use Rattle.point_tables.specs.declared.fault.FaultKind.{FaultKind}
-use Rattle.point_tables.specs.declared.fault.TableAnswer.{TableAnswer}
-use Rattle.point_tables.specs.declared.fault.TableAnswer.TheVariants as answer
-use Rattle.point_tables.specs.declared.fault.TableName.TheVariants as table
 use Rattle.point_tables.specs.declared.record.PointRecord.{PointRecord}
-use Rattle.point_tables.specs.Columns.{Answers, name_rules, record_rules}
+use Rattle.point_tables.specs.Columns.{name_rules, record_rules}
 use Rattle.candidate_tables.specs.declared.ends.Ends.{Ends}
 use Rattle.candidate_tables.specs.declared.figures.Figures.{Figures}
 use Rattle.candidate_tables.specs.declared.kind.Kind.{Kind}
 use Rattle.candidate_tables.specs.declared.record.CandidateRecord.{CandidateRecord}
 use Rattle.candidate_tables.specs.CandidateTable.{candidate_of, candidates_table, column_rules, end_rules, figure_rules, name_at, names_of, place_rules, rules_after}
-use Rattle.candidate_tables.specs.Read.{Adds, AreColumns, AreFigures, IsEnds}
+use Rattle.candidate_tables.specs.Read.{AreColumns, AreFigures, IsEnds}
 
 -- ---- the columns after the name, one part after the other
 
@@ -71,6 +67,10 @@ module _ (points : List PointRecord) (number : ℕ) (row names : List (List ℕ)
   unfolding rules_after
   broken-columns found e f g = first_broken-right _ _ e ∙ first_broken-right _ _ f ∙ g
 
+-- a candidate by its name
+abbrev pub by_name : CandidateRecord → List ℕ
+by_name candidate = candidate.name
+
 -- the names of candidates are those of their records
 pub names-read : (points : List PointRecord) (rows : List (List (List ℕ))) → names_of (map (candidate_of points) rows) ≡ map name_at rows
 unfolding candidate_of
@@ -89,12 +89,3 @@ pub read-candidate : (points : List PointRecord) (row : List (List ℕ)) (name :
 unfolding candidate_of
 read-candidate points row name ends figures same are =
     rw (same, are.ends.kind, are.ends.from, are.ends.to, are.ends.to2, are.figures.sd, are.figures.sdh, are.figures.price) refl
-
--- ---- what a record that was not added answers
-
-pub answers-err : (fault : Option (ℕ × FaultKind)) (read before after : List CandidateRecord) (number : ℕ) (rules : List (Rule FaultKind)) (candidate : CandidateRecord) (refused : TableAnswer)
-    → Adds number rules candidate before after (Err refused) → ((kind : FaultKind) → first_broken rules ≡ Some kind → fault ≡ Some (number, kind))
-    → Answers {V = List CandidateRecord} table.Candidates fault read (Err refused)
-answers-err fault read before after number rules candidate (answer.Fault found) adds first =
-    (first found.kind adds.0 ∙ ap (λ (n : ℕ). Some (n, found.kind)) (sym adds.1), adds.2)
-answers-err fault read before after number rules candidate answer.NoMemory adds first = tt

@@ -3,5 +3,4 @@ pub mod Places
 pub mod Lines
 pub mod CandidateTable
 pub mod Accepted
-pub mod Stored
 pub mod Read

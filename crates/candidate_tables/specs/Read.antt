@@ -1,18 +1,11 @@
--- What the columns of a record are read as, and what a record adds to the candidates before it.
-use Rattle.std.specs.Prelude.{ℕ, ◌≡◌, ◌<◌, List, [], ◌∷◌, ◌++◌, length, true, false, Option, Some, None, Result, Ok, Err}
+-- What the columns of a record are read as. This project's own.
+use Rattle.std.specs.Prelude.{ℕ, ◌≡◌, ◌<◌, List, length, Option, Some}
 use Rattle.std.specs.Option.{ForSome}
-use Rattle.table_rows.specs.Faults.{Rule, first_broken}
-use Rattle.point_tables.specs.declared.fault.FaultKind.{FaultKind}
-use Rattle.point_tables.specs.declared.fault.TableAnswer.{TableAnswer}
-use Rattle.point_tables.specs.declared.fault.TableAnswer.TheVariants as answer
-use Rattle.point_tables.specs.declared.fault.TableName.TheVariants as table
 use Rattle.point_tables.specs.declared.record.PointRecord.{PointRecord}
 use Rattle.point_tables.specs.Columns.{text_at}
-use Rattle.point_tables.specs.Names.{is_among, is_name}
 use Rattle.candidate_tables.specs.declared.ends.Ends.{Ends}
 use Rattle.candidate_tables.specs.declared.figures.Figures.{Figures}
 use Rattle.candidate_tables.specs.declared.kind.Kind.{Kind}
-use Rattle.candidate_tables.specs.declared.record.CandidateRecord.{CandidateRecord}
 use Rattle.candidate_tables.specs.CandidateTable.{deviation_of, foresight_in, height_deviation_of, kind_at, price_of}
 use Rattle.candidate_tables.specs.Kinds.{kind_of}
 use Rattle.candidate_tables.specs.Places.{place_in}
@@ -51,21 +44,7 @@ pub record AreFigures (kind : Kind) (row : List (List ℕ)) (figures : Figures) 
   pub sdh : figures.sdh ≡ height_deviation_of kind (text_at row 6)
   pub price : figures.price ≡ price_of (text_at row 7)
 
--- the record of this number breaks none of its rules and its candidate is added, or the kind is that of the first rule
--- that it breaks, or memory ran out
-abbrev pub Adds : ℕ → List (Rule FaultKind) → CandidateRecord → List CandidateRecord → List CandidateRecord → Result Unit TableAnswer → Type 0
-Adds number rules candidate before after (Ok done) = (first_broken rules ≡ None) × (after ≡ before ++ candidate ∷ [])
-Adds number rules candidate before after (Err (answer.Fault found)) =
-    (first_broken rules ≡ Some found.kind) × (found.number ≡ number) × (found.table ≡ table.Candidates)
-Adds number rules candidate before after (Err answer.NoMemory) = Unit {0}
-
 -- the columns of a record after its name
 pub record AreColumns (points : List PointRecord) (row : List (List ℕ)) (columns : Ends × Figures) : Type 0 where
   pub ends : IsEnds points row columns.0
   pub figures : AreFigures (kind_at row) row columns.1
-
--- a name is this text, and no other candidate has it
-pub record IsNewName (text : List ℕ) (names : List (List ℕ)) (name : List ℕ) : Type 0 where
-  pub same : name ≡ text
-  pub is_one : is_name text ≡ true
-  pub other : is_among text names ≡ false

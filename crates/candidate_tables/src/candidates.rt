@@ -23,11 +23,11 @@ impl Model for Candidates {
 
     ghost Value = { List CandidateRecord };
 
-    ghost use Rattle.candidate_tables.specs.Stored.{AreStored};
+    ghost use Rattle.point_tables.specs.Stored.{AreStored};
 
     ghost view = { λ candidates. values candidates.records };
 
-    ghost invariant = { λ candidates. AreStored candidates.records.entries };
+    ghost invariant = { λ candidates. AreStored (λ candidate. candidate.name) 256 candidates.records.entries };
 }
 
 impl Candidates {

@@ -1,41 +1,22 @@
-ghost use Rattle.std.specs.Prelude.{◌≡◌, ◌<◌, ◌≤◌, ◌^◌, length, unsigned_abs};
+ghost use Rattle.std.specs.Prelude.{◌≡◌, ◌<◌, length};
 ghost use Rattle.table_rows.specs.Faults.{first_broken};
-ghost use Rattle.candidate_tables.specs.Lines.{length_squared, x_at, y_at};
+ghost use Rattle.candidate_tables.specs.Lines.{length_squared};
 ghost use Rattle.candidate_tables.specs.CandidateTable.{length_rules, line_rules};
 
 use crate::kind::Kind;
+use coefficient_round::length_squared;
 use point_tables::{FaultKind, Points};
 
 // The largest square of the length of a line, in square millimetres.
 const MOST_SQUARE: u128 = 10_000_000_000_000_000;
 
-// The coordinate x of a point in millimetres, and 0 where it has none.
-fn x_of(points: &Points, place: u32) -> i64
-    requires { place < length points.now }
-    ensures value { result ≡ x_at points.now place }
-    ensures size { unsigned_abs result ≤ 10 ^ 11 }
-{
-    points.get(place).x.unwrap_or(0)
-}
-
-// The coordinate y of a point in millimetres, and 0 where it has none.
-fn y_of(points: &Points, place: u32) -> i64
-    requires { place < length points.now }
-    ensures value { result ≡ y_at points.now place }
-    ensures size { unsigned_abs result ≤ 10 ^ 11 }
-{
-    points.get(place).y.unwrap_or(0)
-}
-
 // The square of the length of the line between two points, in square millimetres.
-fn length_squared(points: &Points, from: u32, to: u32) -> u128
+fn square_between(points: &Points, from: u32, to: u32) -> u128
     requires from { from < length points.now }
     requires to { to < length points.now }
     ensures { result ≡ length_squared points.now from to }
 {
-    let x = u128::from((x_of(points, to) - x_of(points, from)).unsigned_abs());
-    let y = u128::from((y_of(points, to) - y_of(points, from)).unsigned_abs());
-    x * x + y * y
+    length_squared(points.x(to) - points.x(from), points.y(to) - points.y(from))
 }
 
 // The first rule that the square of a line's length breaks.
@@ -58,5 +39,5 @@ pub(crate) fn broken_line(kind: Kind, points: &Points, from: u32, to: u32) -> Op
     requires to { to < length points.now }
     ensures { result ≡ first_broken (line_rules points.now kind from to) }
 {
-    broken_length(kind, length_squared(points, from, to))
+    broken_length(kind, square_between(points, from, to))
 }

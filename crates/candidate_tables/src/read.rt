@@ -1,9 +1,10 @@
 ghost use Rattle.std.specs.Prelude.{◌≡◌, ◌+◌, IfOk, length};
 ghost use Rattle.point_tables.specs.declared.fault.TableName.TheVariants as table;
 ghost use Rattle.point_tables.specs.Columns.{Answers, Reads, name_rules};
+ghost use Rattle.point_tables.specs.Read.{Adds, IsNewName};
 ghost use Rattle.candidate_tables.specs.Accepted.{AreCandidates};
 ghost use Rattle.candidate_tables.specs.CandidateTable.{candidate_of, candidates_fault, candidates_of, column_rules, names_of, rules_after};
-ghost use Rattle.candidate_tables.specs.Read.{Adds, AreColumns, IsNewName};
+ghost use Rattle.candidate_tables.specs.Read.{AreColumns};
 
 use crate::candidates::Candidates;
 use crate::ends::{Ends, read_ends};
@@ -64,7 +65,7 @@ fn add_record(
     points: &Points,
     candidates: &mut Candidates,
 ) -> Result<(), TableAnswer>
-    ensures { Adds (length candidates.old + 2) (rules_after points.now (length candidates.old + 2) row.now (names_of candidates.old)) (candidate_of points.now row.now) candidates.old candidates.new result }
+    ensures { Adds table.Candidates (length candidates.old + 2) (rules_after points.now (length candidates.old + 2) row.now (names_of candidates.old)) (candidate_of points.now row.now) candidates.old candidates.new result }
 {
     let number = candidates.len() + 2;
     if let Some(kind) = broken_record(MOST_RECORDS, 8, number, row) {

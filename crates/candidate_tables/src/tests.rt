@@ -9,8 +9,13 @@ const POINTS: &str =
     "name,x,y,z,plane,height\nA,0.000,0.000,100.000,fixed,fixed\nH,,,101.000,,1.0\nP,30.000,40.000,10.000,4.0,7.0\nN,0.999,0,,fixed,\nO,1.000,0,,fixed,\nQ,0,9.999,,fixed,\nR,0,10.000,,1.0,\nF,100000.000,0,,fixed,\nG,100000.001,0,,fixed,\n";
 
 // Whole tables, and what they are read as. The expected texts come from another program.
-const FILES: [(&[u8], &str); 4] = [
+const FILES: [(&[u8], &str); 6] = [
     (b"", "1 Header"),
+    (b"\xEF\xBB\xBF", "1 Header"),
+    (
+        b"\xEF\xBB\xBF\xEF\xBB\xBFname,kind,from,to,to2,sd,sdh,price\n",
+        "1 Header",
+    ),
     (
         b"name,kind,from,to,to2,sd,sdh,price\nl1,level,A,H,,1.00,,5\nl2,level,A,H,,1.00,,\xFF\n",
         "3 Utf8",
@@ -76,6 +81,45 @@ const REFUSED: [(&str, &str); 17] = [
     ("l1,level,A,H,,1.00,,1.5\n", "2 Number"),
     ("l1,level,A,H,,1.00,,1000000001\n", "2 Range"),
     ("l1,level,A,H,,1.00,,-1\n", "2 Range"),
+];
+
+// Records with a name, a number of fields or a standard deviation at or past its bounds, and what the table is read as.
+// The expected texts come from another program.
+const BOUNDS: [(&str, &str); 16] = [
+    (",level,A,H,,1.00,,5\n", "2 Name"),
+    (
+        "aaaaaaaaaaaaaaaaaaaaaaaaaaaaaaaa,level,A,H,,1.00,,5\n",
+        "aaaaaaaaaaaaaaaaaaaaaaaaaaaaaaaa Level 0 1 None 100 None 5;",
+    ),
+    (
+        "aaaaaaaaaaaaaaaaaaaaaaaaaaaaaaaaa,level,A,H,,1.00,,5\n",
+        "2 Name",
+    ),
+    ("\"a,b\",level,A,H,,1.00,,5\n", "2 Name"),
+    ("l1,level,A,H,,1.00,,5,\n", "2 Fields"),
+    ("l1,level,none,H,,1.00,,5\n", "2 NoPoint"),
+    ("l1,level,A,H,A,1.00,,5\n", "2 Extra"),
+    (
+        "r1,direction,A,F,,1.00,,5\n",
+        "r1 Direction 0 7 None 100 None 5;",
+    ),
+    ("r1,direction,A,G,,1.00,,5\n", "2 Far"),
+    (
+        "a1,angle,A,R,F,1.00,,5\n",
+        "a1 Angle 0 6 Some(7) 100 None 5;",
+    ),
+    ("a1,angle,A,R,G,1.00,,5\n", "2 Far"),
+    ("g1,vector,A,P,,1.00,0.09,5\n", "2 Range"),
+    (
+        "g1,vector,A,P,,1.00,0.10,5\n",
+        "g1 Vector 0 2 None 100 Some(10) 5;",
+    ),
+    (
+        "g1,vector,A,P,,1.00,100.00,5\n",
+        "g1 Vector 0 2 None 100 Some(10000) 5;",
+    ),
+    ("g1,vector,A,P,,1.00,100.01,5\n", "2 Range"),
+    ("l1,level,A,H,,100.01,,5\n", "2 Range"),
 ];
 
 // Points 100 km apart, and points that are a millimetre further apart, with what a distance between them is read as.
@@ -167,6 +211,11 @@ fn tables_read_as_candidates_or_as_their_first_fault(rt: HostRuntime) -> Result<
 #[test]
 fn points_lines_and_numbers_are_judged_in_order(rt: HostRuntime) -> Result<(), Fail> {
     expect_shown(&rt, rt.alloc(), &REFUSED)
+}
+
+#[test]
+fn names_lines_and_deviations_are_judged_at_their_bounds(rt: HostRuntime) -> Result<(), Fail> {
+    expect_shown(&rt, rt.alloc(), &BOUNDS)
 }
 
 #[test]

@@ -1,13 +1,13 @@
 -- The nearest number lies between whole bounds of the quotient; the parts of a line are at most as long as it.
-use Rattle.std.proofs.Common.{◌≡◌, ℕ, ◌*◌, ◌^◌, ◌<◌, ◌≤◌, arith, inl, inr, ◌⊎◌}
+use Rattle.std.proofs.Common.{◌≡◌, ℕ, zero, suc, ◌+◌, ◌-◌, ◌*◌, ◌^◌, ◌<◌, ◌≤◌, cond, ap, sym, subst, arith, inl, inr, ◌⊎◌}
 use Rattle.std.specs.Prelude.{ℤ, pos, negsuc, ◌+ℤ◌, ◌*ℤ◌, ◌≤ℤ◌, ◌<ℤ◌, unsigned_abs}
-use Rattle.std.proofs.lemmas.Bool.{cases_lt}
+use Rattle.std.proofs.lemmas.Bool.{cases_lt, le-leb, lt-leb}
 use Rattle.std.proofs.lemmas.Int.{ints, by_lt_z}
 use Rattle.std.proofs.lemmas.Nat.{mul-le}
-use Rattle.geo_base.specs.Division.{IsNearest}
-use Rattle.geo_base.proofs.Rounding.{mul_keeps_order, add-*ℤ, nearest_of-IsNearest}
-use Rattle.std.proofs.Math.Nat.{mul-pos}
-use Rattle.coefficient_round.specs.Coefficient.{square, square_length, direction_coefficient, weight_for}
+use Rattle.geo_base.specs.Division.{IsFloor, IsNearest}
+use Rattle.geo_base.proofs.Rounding.{mul_keeps_order, add-*ℤ, half_up_IsNearest, IsNearest-neg}
+use Rattle.std.proofs.Math.Nat.{add-mul, mul-add, mul_assoc}
+use Rattle.coefficient_round.specs.Coefficient.{radian, scale, square, square_length, nearest_size, direction_coefficient, weight_for}
 
 -- a number less than z is at least one step of d below it
 step_below : (d q z : ℤ) → pos 0 <ℤ d → q <ℤ z → (q *ℤ d +ℤ d) ≤ℤ (z *ℤ d)
@@ -39,13 +39,13 @@ part_room a d within long = elim (cases_lt a 10000) [
 ]
 
 -- the coefficient of a direction is at most a radian's
-pub direction-size : (part : ℤ) (d : ℕ) (q : ℤ) → square (unsigned_abs part) ≤ d → 10 ^ 8 ≤ d → IsNearest (pos 6366200000 *ℤ part) (pos d) q → unsigned_abs q ≤ 636620
+pub direction-size : (part : ℤ) (d : ℕ) (q : ℤ) → square (unsigned_abs part) ≤ d → 10 ^ 8 ≤ d → IsNearest (pos (radian * scale) *ℤ part) (pos d) q → unsigned_abs q ≤ radian
 direction-size part d q within long near =
     let room : unsigned_abs part * 10000 ≤ d = part_room (unsigned_abs part) d within long in
     let some : pos 0 <ℤ pos d = omega (arith, ints) in
-    let below : (negsuc 636619 *ℤ pos d) ≤ℤ (pos 6366200000 *ℤ part) = omega (arith, ints) in
-    let above : (pos 6366200000 *ℤ part) ≤ℤ (pos 636620 *ℤ pos d) = omega (arith, ints) in
-    omega (arith, ints, nearest-at_least (pos 6366200000 *ℤ part) (pos d) q (negsuc 636619) some near below, nearest-at_most (pos 6366200000 *ℤ part) (pos d) q (pos 636620) some near above)
+    let below : (negsuc 636619 *ℤ pos d) ≤ℤ (pos (radian * scale) *ℤ part) = omega (arith, ints) in
+    let above : (pos (radian * scale) *ℤ part) ≤ℤ (pos 636620 *ℤ pos d) = omega (arith, ints) in
+    omega (arith, ints, nearest-at_least (pos (radian * scale) *ℤ part) (pos d) q (negsuc 636619) some near below, nearest-at_most (pos (radian * scale) *ℤ part) (pos d) q (pos 636620) some near above)
 
 pub record IsWeightSize (w : ℤ) : Type 0 where
   pub least : pos 1 ≤ℤ w
@@ -61,16 +61,75 @@ weight-size u q least most near =
     let above : pos (10 ^ 8) ≤ℤ (pos 1000000 *ℤ pos (square u)) = omega (arith, ints) in
     record { least = nearest-at_least (pos (10 ^ 8)) (pos (square u)) q (pos 1) some near below; most = nearest-at_most (pos (10 ^ 8)) (pos (square u)) q (pos 1000000) some near above }
 
-pub direction_coefficient-IsNearest : (part dx dy : ℤ) → 0 < square_length dx dy → IsNearest (pos 6366200000 *ℤ part) (pos (square_length dx dy)) (direction_coefficient part dx dy)
+-- ---- the nearest size
+
+-- where the number past the last is too large, n / d plus a half, rounded down, is the nearest size
+pub record IsHalfUp (n d c : ℕ) : Type 0 where
+  pub reached : 0 < c → (2 * c - 1) * d ≤ 2 * n
+  pub next_above : 2 * n < (2 * c + 1) * d
+
+nearest_size-IsHalfUp : (n d most : ℕ) → 2 * n < (2 * most + 1) * d → IsHalfUp n d (nearest_size n d most)
+unfolding nearest_size
+nearest_size-IsHalfUp n d zero large = record { reached = λ some. absurd (omega arith); next_above = large }
+nearest_size-IsHalfUp n d (suc most) large = elim (cases_lt (2 * n) ((2 * suc most - 1) * d)) [
+  | inl more ↦
+      let same : nearest_size n d (suc most) ≡ nearest_size n d most = ap (λ b. cond b (suc most) (nearest_size n d most)) (lt-leb ((2 * suc most - 1) * d) (2 * n) more) in
+      let odd : 2 * suc most - 1 ≡ 2 * most + 1 = omega arith in
+      let less : 2 * n < (2 * most + 1) * d = subst (λ k. 2 * n < k * d) odd more in
+      subst (IsHalfUp n d) (sym same) (nearest_size-IsHalfUp n d most less)
+  | inr here ↦
+      let same : nearest_size n d (suc most) ≡ suc most = ap (λ b. cond b (suc most) (nearest_size n d most)) (le-leb ((2 * suc most - 1) * d) (2 * n) here) in
+      subst (IsHalfUp n d) (sym same) (record { reached = λ some. here; next_above = large })
+]
+
+odd_times : (c d : ℕ) → (2 * c + 1) * d ≡ 2 * (c * d) + d
+odd_times c d = omega (arith, add-mul (2 * c) 1 d, mul_assoc 2 c d)
+
+even_times : (c d : ℕ) → c * (2 * d) ≡ 2 * (c * d)
+even_times c d = omega (arith, mul-add c d d)
+
+half_up-reached : (n d c : ℕ) → IsHalfUp n d c → c * (2 * d) ≤ 2 * n + d
+half_up-reached n d zero half = omega arith
+half_up-reached n d (suc c) half =
+    let odd : 2 * suc c - 1 ≡ 2 * c + 1 = omega arith in
+    let reached : (2 * c + 1) * d ≤ 2 * n = subst (λ k. k * d ≤ 2 * n) odd (half.reached (omega arith)) in
+    omega (arith, odd_times c d, even_times (suc c) d, add-mul c 1 d)
+
+half_up-next : (n d c : ℕ) → IsHalfUp n d c → 2 * n + d < (c + 1) * (2 * d)
+half_up-next n d c half = omega (arith, half.next_above, odd_times c d, even_times (c + 1) d, add-mul c 1 d)
+
+half_up-IsFloor : (n d c : ℕ) → IsHalfUp n d c → IsFloor (pos 2 *ℤ pos n +ℤ pos d) (pos 2 *ℤ pos d) (pos c)
+half_up-IsFloor n d c half = record { reached = omega (arith, ints, half_up-reached n d c half); next_above = omega (arith, ints, half_up-next n d c half) }
+
+pub nearest_size-IsNearest : (n d most : ℕ) → 0 < d → 2 * n < (2 * most + 1) * d → IsNearest (pos n) (pos d) (pos (nearest_size n d most))
+nearest_size-IsNearest n d most some large =
+    half_up_IsNearest (pos n) (pos d) (pos (nearest_size n d most)) (omega (arith, ints)) (omega (arith, ints))
+    (half_up-IsFloor n d (nearest_size n d most) (nearest_size-IsHalfUp n d most large)) (omega (arith, ints))
+
+-- of a part that is short over the square of its line, the greatest size is large enough
+direction_room : (a d : ℕ) → square a ≤ d → 10 ^ 8 ≤ d → 2 * (radian * scale * a) < (2 * radian + 1) * d
+direction_room a d within long = omega (arith, part_room a d within long)
+
+pub direction_coefficient-IsNearest : (part dx dy : ℤ) → (part ≡ dx) ⊎ (part ≡ dy) → 10 ^ 8 ≤ square_length dx dy → IsNearest (pos (radian * scale) *ℤ part) (pos (square_length dx dy)) (direction_coefficient part dx dy)
 unfolding direction_coefficient
-direction_coefficient-IsNearest part dx dy some = nearest_of-IsNearest (pos 6366200000 *ℤ part) (pos (square_length dx dy)) (omega (arith, ints))
+direction_coefficient-IsNearest (pos a) dx dy of_line long =
+    let room = direction_room a (square_length dx dy) (part-within (pos a) dx dy of_line) long in
+    nearest_size-IsNearest (radian * scale * a) (square_length dx dy) radian (omega arith) room
+direction_coefficient-IsNearest (negsuc a) dx dy of_line long =
+    let room = direction_room (suc a) (square_length dx dy) (part-within (negsuc a) dx dy of_line) long in
+    IsNearest-neg (pos (radian * scale * suc a)) (pos (square_length dx dy)) (pos (nearest_size (radian * scale * suc a) (square_length dx dy) radian))
+    (nearest_size-IsNearest (radian * scale * suc a) (square_length dx dy) radian (omega arith) room)
 
-pub direction_coefficient-size : (part dx dy : ℤ) → (part ≡ dx) ⊎ (part ≡ dy) → 10 ^ 8 ≤ square_length dx dy → unsigned_abs (direction_coefficient part dx dy) ≤ 636620
+pub direction_coefficient-size : (part dx dy : ℤ) → (part ≡ dx) ⊎ (part ≡ dy) → 10 ^ 8 ≤ square_length dx dy → unsigned_abs (direction_coefficient part dx dy) ≤ radian
 direction_coefficient-size part dx dy of_line long =
-    direction-size part (square_length dx dy) (direction_coefficient part dx dy) (part-within part dx dy of_line) long (direction_coefficient-IsNearest part dx dy (omega arith))
+    direction-size part (square_length dx dy) (direction_coefficient part dx dy) (part-within part dx dy of_line) long (direction_coefficient-IsNearest part dx dy of_line long)
 
-pub weight_for-IsNearest : (u : ℕ) → 0 < u → IsNearest (pos (10 ^ 8)) (pos (square u)) (weight_for u)
+pub weight_for-IsNearest : (u : ℕ) → 10 ≤ u → IsNearest (pos (10 ^ 8)) (pos (square u)) (weight_for u)
 unfolding weight_for
-weight_for-IsNearest u some =
-    let more : 0 < square u = mul-pos some some in
-    nearest_of-IsNearest (pos (10 ^ 8)) (pos (square u)) (omega (arith, ints))
+weight_for-IsNearest u least =
+    let low : 100 ≤ square u = mul-le 10 10 u u least least in
+    let room : 2 * 10 ^ 8 < (2 * 1000000 + 1) * square u = omega arith in
+    nearest_size-IsNearest (10 ^ 8) (square u) 1000000 (omega arith) room
+
+pub weight_for-size : (u : ℕ) → 10 ≤ u → u ≤ 10000 → IsWeightSize (weight_for u)
+weight_for-size u least most = weight-size u (weight_for u) least most (weight_for-IsNearest u least)

@@ -7,9 +7,11 @@ mod laws;
 mod line;
 #[cfg(test)]
 mod tests;
+mod units;
 mod weight;
 
 pub use direction::dir_coef;
 pub use distance::dist_coef;
 pub use laws::{directions_and_weights_are_nearest, distance_coefficients_are_rounded};
+pub use line::length_squared;
 pub use weight::weight_of;

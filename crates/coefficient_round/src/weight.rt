@@ -5,7 +5,9 @@ ghost use Rattle.std.specs.Prelude.{◌≡◌, ◌^◌, ◌≤◌, ◌≤ℤ◌,
 use geo_base::nearest;
 
 /// The weight of an observation with a standard deviation of `u` hundredths of a millimetre
-/// or cc: 10^8 over the square of `u`, rounded to the nearest.
+/// or cc, from 0.10 to 100.00 of them: 10^8 over the square of `u`, rounded to the nearest; no tie
+/// can occur. So a deviation of 1.00 has the weight 10000. Weights as inverse squares of deviations
+/// are those of any textbook of adjustment; the scale and the rounding are this project's own.
 pub fn weight_of(u: u32) -> i64
     requires least { 10 ≤ u }
     requires most { u ≤ 10000 }

@@ -2,7 +2,7 @@
 use Rattle.std.proofs.Common.{◌≡◌, ◌<◌, ◌^◌, List, [], ◌∷◌, length, map, arith}
 use Rattle.std.specs.Prelude.{All, unsigned_abs}
 use Rattle.std.specs.List.{AllByRecursion, IsDistinct}
-use Rattle.coefficient_round.proofs.Bounds.{weight-size, weight_for-IsNearest}
+use Rattle.coefficient_round.proofs.Bounds.{weight_for-size}
 use Rattle.geo_model.specs.declared.network.Unknown.{Unknown}
 use Rattle.geo_model.specs.Row.{IsRow, RowOf}
 use Rattle.point_tables.specs.declared.record.PointRecord.{PointRecord}
@@ -20,7 +20,7 @@ use Rattle.design_rows.proofs.UnknownFacts.{every-weaker, unknowns-differ}
 -- the row of an equation
 pub row-bounded : (unknowns : List Unknown) (equation : Equation) → IsDistinct is_same unknowns → IsEquation equation → IsRow (row_of unknowns equation)
 row-bounded unknowns equation apart is =
-    let weight = weight-size equation.deviation _ is.deviation.0 is.deviation.1 (weight_for-IsNearest equation.deviation (omega (arith, is.deviation.0))) in
+    let weight = weight_for-size equation.deviation is.deviation.0 is.deviation.1 in
     let short = is.terms.short in
     let total = is.terms.total in
     record {

@@ -135,7 +135,7 @@ pub at_term-no : (term : Term) (u : Unknown) → is_same u term.unknown ≡ fals
 unfolding at_term
 at_term-no term u e = rw e refl
 
-bool-cases : (P : Type 0) (t : Bool) → (t ≡ true → P) → (t ≡ false → P) → P
+pub bool-cases : (P : Type 0) (t : Bool) → (t ≡ true → P) → (t ≡ false → P) → P
 bool-cases P true if_true if_false = if_true refl
 bool-cases P false if_true if_false = if_false refl
 

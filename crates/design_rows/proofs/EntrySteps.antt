@@ -1,9 +1,9 @@
 -- The coefficient of an unknown by one more term, and the entries of a row by one more unknown.
-use Rattle.std.proofs.Common.{◌≡◌, ◌∙◌, ◌+◌, ◌<◌, ◌≤◌, ◌^◌, ℕ, ℤ, pos, ◌+ℤ◌, Bool, true, false, List, [], ◌∷◌, ◌++◌, length, take, get_or, map, refl, sym, ap, arith, FitsSigned, w64}
+use Rattle.std.proofs.Common.{◌≡◌, ◌∙◌, ◌+◌, ◌<◌, ◌≤◌, ◌^◌, ℕ, ℤ, pos, ◌+ℤ◌, true, false, List, [], ◌∷◌, ◌++◌, length, take, get_or, map, refl, sym, ap, arith, FitsSigned, w64}
 use Rattle.std.specs.Prelude.{if◌then◌else◌, unsigned_abs}
 use Rattle.std.specs.List.{enumerate_from, filter}
 use Rattle.std.proofs.lemmas.Int.{ints, fits_signed_from_abs}
-use Rattle.std.proofs.lemmas.List.{map-append, take_more}
+use Rattle.std.proofs.lemmas.List.{map-append, take_more, length-take-le}
 use Rattle.std.proofs.lemmas.List.Elements.{filter-append}
 use Rattle.std.proofs.lemmas.List.Sums.{get_or-le-sum_by, sum_by-cons, sum_by-take-le}
 use Rattle.whole_algebra.proofs.SumLaws.{int_sum_by-append}
@@ -12,17 +12,13 @@ use Rattle.design_rows.specs.declared.term.Term.{Term}
 use Rattle.design_rows.specs.Bounds.{total_of}
 use Rattle.design_rows.specs.Rows.{coefficient_at, entries_of, is_entry}
 use Rattle.design_rows.specs.Unknowns.{is_same}
-use Rattle.design_rows.proofs.EntryFacts.{at_term, at_term-no, at_term-yes, coefficient-more, coefficient-none}
-use Rattle.design_rows.proofs.NumberingFacts.{enumerate-push, length-take}
+use Rattle.design_rows.proofs.EntryFacts.{at_term, at_term-no, at_term-yes, bool-cases, coefficient-more, coefficient-none}
+use Rattle.design_rows.proofs.NumberingFacts.{enumerate-push}
 
 -- ---- the coefficient of an unknown
 
-by_sameness : (P : Type 0) (t : Bool) → (t ≡ true → P) → (t ≡ false → P) → P
-by_sameness P true here there = here refl
-by_sameness P false here there = there refl
-
 at_term-size : (term : Term) (u : Unknown) → unsigned_abs (at_term term u) ≤ unsigned_abs term.coefficient
-at_term-size term u = by_sameness _ (is_same u term.unknown) (λ here. rw (at_term-yes term u here) (omega arith)) (λ there. rw (at_term-no term u there) (omega arith))
+at_term-size term u = bool-cases _ (is_same u term.unknown) (λ here. rw (at_term-yes term u here) (omega arith)) (λ there. rw (at_term-no term u there) (omega arith))
 
 coefficient-total : (terms : List Term) (u : Unknown) → unsigned_abs (coefficient_at terms u) ≤ total_of terms
 coefficient-total [] u = rw (coefficient-none u) (omega arith)
@@ -102,7 +98,7 @@ pub entries-more : (unknowns : List Unknown) (terms : List Term) (q : ℕ) (d : 
     → after ≡ entries_of (take (q + 1) unknowns) terms
 entries-more unknowns terms q d size before after inside value is next =
     let u = get_or unknowns q d in
-    let long : length (take q unknowns) ≡ q = length-take unknowns q (omega arith) in
+    let long : length (take q unknowns) ≡ q = length-take-le q unknowns (omega arith) in
     next
     ∙ ap (λ (es : List (ℕ × ℤ)). es ++ (if is_entry (q, size) then (q, size) ∷ [] else [])) is
     ∙ ap (λ (z : ℤ). entries_of (take q unknowns) terms ++ (if is_entry (q, z) then (q, z) ∷ [] else [])) value

@@ -4,6 +4,7 @@ use Rattle.std.specs.Prelude.{◌-ℤ◌, ◌⊎◌, neg_ℤ, is_some, unsigned_
 use Rattle.std.specs.List.{AllByRecursion, IsDistinct}
 use Rattle.std.proofs.lemmas.Bool.Decides.{nat_tests}
 use Rattle.std.proofs.lemmas.Int.{ints}
+use Rattle.coefficient_round.specs.Coefficient.{radian, scale}
 use Rattle.coefficient_round.proofs.Bounds.{direction_coefficient-size}
 use Rattle.coefficient_round.proofs.Ratio.{distance_coefficient-size}
 use Rattle.geo_model.specs.declared.network.Component.{Component}
@@ -17,7 +18,7 @@ use Rattle.candidate_tables.specs.Kinds.{is_angle, is_vector}
 use Rattle.candidate_tables.specs.Lines.{length_squared}
 use Rattle.candidate_tables.proofs.PlaceFacts.{squared-is}
 use Rattle.design_rows.specs.Bounds.{AreTerms}
-use Rattle.design_rows.specs.Equations.{Equation, angle_terms, by_x, by_y, cosine, difference_terms, direction_terms, distance_terms, equations_by, equations_of, sine, x_part, y_part}
+use Rattle.design_rows.specs.Equations.{Equation, angle_terms, q_coefficient, p_coefficient, cosine, difference_terms, direction_terms, distance_terms, equations_by, equations_of, sine, x_part, y_part}
 use Rattle.design_rows.specs.Unknowns.{is_same_component}
 use Rattle.design_rows.proofs.UnknownFacts.{and-right}
 
@@ -28,18 +29,18 @@ pub record IsEquation (equation : Equation) : Type 0 where
 
 -- ---- sizes
 
-pub cosine-size : (points : List PointRecord) (a b : ℕ) → unsigned_abs (cosine points a b) ≤ 10000
+pub cosine-size : (points : List PointRecord) (a b : ℕ) → unsigned_abs (cosine points a b) ≤ scale
 cosine-size points a b = distance_coefficient-size (x_part points a b) (x_part points a b) (y_part points a b)
 
-pub sine-size : (points : List PointRecord) (a b : ℕ) → unsigned_abs (sine points a b) ≤ 10000
+pub sine-size : (points : List PointRecord) (a b : ℕ) → unsigned_abs (sine points a b) ≤ scale
 sine-size points a b = distance_coefficient-size (y_part points a b) (x_part points a b) (y_part points a b)
 
-pub by_x-size : (points : List PointRecord) (a b : ℕ) → 10 ^ 8 ≤ length_squared points a b → unsigned_abs (by_x points a b) ≤ 636620
-by_x-size points a b least =
+pub q_coefficient-size : (points : List PointRecord) (a b : ℕ) → 10 ^ 8 ≤ length_squared points a b → unsigned_abs (q_coefficient points a b) ≤ radian
+q_coefficient-size points a b least =
     direction_coefficient-size (x_part points a b) (x_part points a b) (y_part points a b) (inl refl) (rw (squared-is points a b) least)
 
-pub by_y-size : (points : List PointRecord) (a b : ℕ) → 10 ^ 8 ≤ length_squared points a b → unsigned_abs (by_y points a b) ≤ 636620
-by_y-size points a b least =
+pub p_coefficient-size : (points : List PointRecord) (a b : ℕ) → 10 ^ 8 ≤ length_squared points a b → unsigned_abs (p_coefficient points a b) ≤ radian
+p_coefficient-size points a b least =
     direction_coefficient-size (y_part points a b) (x_part points a b) (y_part points a b) (inr refl) (rw (squared-is points a b) least)
 
 -- ---- terms that differ
@@ -68,8 +69,8 @@ distance-terms points a b differ =
     let ab = other a b differ in
     let c = cosine-size points a b in
     let s = sine-size points a b in
-    let d = negated (cosine points a b) 10000 c in
-    let t = negated (sine points a b) 10000 s in
+    let d = negated (cosine points a b) scale c in
+    let t = negated (sine points a b) scale s in
     record {
       apart = ((refl, (ab, (refl, tt))), ((refl, (ab, tt)), ((refl, tt), (tt, tt))));
       short = omega arith;
@@ -81,10 +82,10 @@ pub direction-terms : (points : List PointRecord) (a b : ℕ) → a ≢ b → 10
 unfolding IsDistinct
 direction-terms points a b differ least =
     let ab = other a b differ in
-    let p = by_y-size points a b least in
-    let q = by_x-size points a b least in
-    let r = negated (by_y points a b) 636620 p in
-    let s = negated (by_x points a b) 636620 q in
+    let p = p_coefficient-size points a b least in
+    let q = q_coefficient-size points a b least in
+    let r = negated (p_coefficient points a b) radian p in
+    let s = negated (q_coefficient points a b) radian q in
     record {
       apart = ((refl, (ab, (refl, (refl, tt)))), ((refl, (ab, (refl, tt))), ((refl, (refl, tt)), ((refl, tt), (tt, tt)))));
       short = omega arith;
@@ -99,14 +100,14 @@ angle-terms points a b c differ differ_too differ_three least least_too =
     let ab = other a b differ in
     let ac = other a c differ_too in
     let bc = other b c differ_three in
-    let p = by_y-size points a b least in
-    let q = by_x-size points a b least in
-    let r = by_y-size points a c least_too in
-    let s = by_x-size points a c least_too in
-    let u = difference-size (by_y points a c) (by_y points a b) 636620 r p in
-    let v = difference-size (by_x points a b) (by_x points a c) 636620 q s in
-    let w = negated (by_x points a b) 636620 q in
-    let z = negated (by_y points a c) 636620 r in
+    let p = p_coefficient-size points a b least in
+    let q = q_coefficient-size points a b least in
+    let r = p_coefficient-size points a c least_too in
+    let s = q_coefficient-size points a c least_too in
+    let u = difference-size (p_coefficient points a c) (p_coefficient points a b) radian r p in
+    let v = difference-size (q_coefficient points a b) (q_coefficient points a c) radian q s in
+    let w = negated (q_coefficient points a b) radian q in
+    let z = negated (p_coefficient points a c) radian r in
     record {
       apart = (
         (refl, (ab, (refl, (ac, (refl, tt))))),

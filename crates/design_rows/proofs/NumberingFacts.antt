@@ -1,8 +1,8 @@
 -- The unknowns of one more point, and one more candidate.
-use Rattle.std.proofs.Common.{◌≡◌, ◌∙◌, ◌+◌, ◌≤◌, ℕ, zero, suc, Bool, true, false, List, [], ◌∷◌, ◌++◌, length, take, refl, sym, ap, arith, slice_get, Some}
+use Rattle.std.proofs.Common.{◌≡◌, ◌∙◌, ◌+◌, ◌<◌, ℕ, zero, suc, Bool, true, false, List, [], ◌∷◌, ◌++◌, length, take, refl, sym, ap, arith, slice_get, Some}
 use Rattle.std.specs.Prelude.{◌||◌}
 use Rattle.std.specs.List.{enumerate_from, flat_map, list_any}
-use Rattle.std.proofs.lemmas.List.{flat_map_more, take_more}
+use Rattle.std.proofs.lemmas.List.{flat_map_more, length-take-le, take_more}
 use Rattle.std.proofs.lemmas.List.Folds.{list_any-append}
 use Rattle.std.proofs.lemmas.Option.{slice_get_within, get_or_from_slice_get}
 
@@ -10,10 +10,11 @@ use Rattle.std.proofs.lemmas.Option.{slice_get_within, get_or_from_slice_get}
 pub take-one : {A : Type 0} (xs : List A) (k : ℕ) (x : A) → slice_get xs k ≡ Some x → take (k + 1) xs ≡ take k xs ++ x ∷ []
 take-one xs k x at = take_more xs k x (slice_get_within xs k x at) ∙ ap (λ y. take k xs ++ y ∷ []) (get_or_from_slice_get xs k x x at)
 
-pub length-take : {A : Type 0} (xs : List A) (k : ℕ) → k ≤ length xs → length (take k xs) ≡ k
-length-take xs zero le = refl
-length-take [] (suc k) le = absurd (omega arith)
-length-take (x ∷ xs) (suc k) le = ap suc (length-take xs k (omega arith))
+-- the element at a place within a list
+pub element-at : {A : Type 0} (xs : List A) (k : ℕ) → k < length xs → (x : A) × (slice_get xs k ≡ Some x)
+element-at [] k less = absurd (omega arith)
+element-at (x ∷ xs) zero less = (x, refl)
+element-at (x ∷ xs) (suc k) less = element-at xs k (omega arith)
 
 pub enumerate-push : {A : Type 0} (n : ℕ) (xs : List A) (x : A) → enumerate_from n (xs ++ x ∷ []) ≡ enumerate_from n xs ++ (n + length xs, x) ∷ []
 enumerate-push n [] x = ap (λ (k : ℕ). (k, x) ∷ []) (omega arith)
@@ -28,7 +29,7 @@ numbered-more xs k x at =
     let within = slice_get_within xs k x at in
     ap (λ ys. enumerate_from 0 ys) (take-one xs k x at)
     ∙ enumerate-push 0 (take k xs) x
-    ∙ ap (λ (n : ℕ). enumerate_from 0 (take k xs) ++ (n, x) ∷ []) (let same = length-take xs k (omega arith) in omega arith)
+    ∙ ap (λ (n : ℕ). enumerate_from 0 (take k xs) ++ (n, x) ∷ []) (let same = length-take-le k xs (omega arith) in omega arith)
 
 pub mapped-more : {A B : Type 0} (f : ℕ × A → List B) (start before after : List B) (xs : List A) (k : ℕ) (x : A) → slice_get xs k ≡ Some x
     → before ≡ start ++ flat_map f (enumerate_from 0 (take k xs)) → after ≡ before ++ f (k, x)
@@ -50,14 +51,3 @@ pub any-more : {A : Type 0} (test : A → Bool) (xs : List A) (k : ℕ) (x : A) 
 any-more test xs k x at none fails =
     ap (list_any test) (take-one xs k x at) ∙ list_any-append test (take k xs) (x ∷ [])
     ∙ or-false (list_any test (take k xs)) (test x || false) none (or-false (test x) false fails refl)
-
-or-right : (a b : Bool) → b ≡ true → (a || b) ≡ true
-or-right true b e = refl
-or-right false b e = e
-
-pub any-at : {A : Type 0} (test : A → Bool) (xs : List A) (k : ℕ) (x : A) → slice_get xs k ≡ Some x → test x ≡ true → list_any test xs ≡ true
-any-at test [] k x at passes = cc at
-any-at test (y ∷ xs) zero x at passes =
-    let same : y ≡ x = cc at in
-    rw (same, passes) refl
-any-at test (y ∷ xs) (suc k) x at passes = or-right (test y) (list_any test xs) (any-at test xs k x at passes)

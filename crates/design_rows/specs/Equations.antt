@@ -2,14 +2,14 @@
 -- plane networks (distance, direction with the station's orientation, angle), of levelling and of baseline vectors; the
 -- units and the rounding of coefficients and weights are this project's own.
 use Rattle.std.specs.Prelude.{ℕ, ℤ, pos, neg_ℤ, ◌-ℤ◌, List, [], ◌∷◌, unwrap_or}
-use Rattle.coefficient_round.specs.Coefficient.{direction_coefficient, distance_coefficient}
+use Rattle.coefficient_round.specs.Coefficient.{direction_coefficient, distance_coefficient, scale}
 use Rattle.geo_model.specs.declared.network.Component.{Component}
 use Rattle.geo_model.specs.declared.network.Component.TheVariants as component
 use Rattle.point_tables.specs.declared.record.PointRecord.{PointRecord}
 use Rattle.candidate_tables.specs.declared.kind.Kind.{Kind}
 use Rattle.candidate_tables.specs.declared.kind.Kind.TheVariants as kind
 use Rattle.candidate_tables.specs.declared.record.CandidateRecord.{CandidateRecord}
-use Rattle.candidate_tables.specs.Lines.{x_at, y_at}
+use Rattle.point_tables.specs.Coordinates.{x_at, y_at}
 use Rattle.design_rows.specs.declared.term.Term.{Term}
 use Rattle.design_rows.specs.Unknowns.{unknown}
 
@@ -36,12 +36,13 @@ cosine points from to = distance_coefficient (x_part points from to) (x_part poi
 abbrev pub sine : List PointRecord → ℕ → ℕ → ℤ
 sine points from to = distance_coefficient (y_part points from to) (x_part points from to) (y_part points from to)
 
--- the coefficients of a direction: 10000 times the change of the bearing in cc by a mm of y and of x, up to signs
-abbrev pub by_y : List PointRecord → ℕ → ℕ → ℤ
-by_y points from to = direction_coefficient (y_part points from to) (x_part points from to) (y_part points from to)
+-- the coefficients of a direction: 10000 times the change of the bearing in cc by a mm of x at the station, and, with the
+-- other sign, by a mm of y
+abbrev pub p_coefficient : List PointRecord → ℕ → ℕ → ℤ
+p_coefficient points from to = direction_coefficient (y_part points from to) (x_part points from to) (y_part points from to)
 
-abbrev pub by_x : List PointRecord → ℕ → ℕ → ℤ
-by_x points from to = direction_coefficient (x_part points from to) (x_part points from to) (y_part points from to)
+abbrev pub q_coefficient : List PointRecord → ℕ → ℕ → ℤ
+q_coefficient points from to = direction_coefficient (x_part points from to) (x_part points from to) (y_part points from to)
 
 -- a distance: - c xA - s yA + c xB + s yB
 abbrev pub distance_terms : List PointRecord → ℕ → ℕ → List Term
@@ -55,27 +56,27 @@ distance_terms points a b =
 -- a direction: P xA - Q yA - P xB + Q yB - 10000 oA, with the orientation o of the station
 abbrev pub direction_terms : List PointRecord → ℕ → ℕ → List Term
 direction_terms points a b =
-    term (by_y points a b) component.X a
-    ∷ term (neg_ℤ (by_x points a b)) component.Y a
-    ∷ term (neg_ℤ (by_y points a b)) component.X b
-    ∷ term (by_x points a b) component.Y b
-    ∷ term (neg_ℤ (pos 10000)) component.Turn a
+    term (p_coefficient points a b) component.X a
+    ∷ term (neg_ℤ (q_coefficient points a b)) component.Y a
+    ∷ term (neg_ℤ (p_coefficient points a b)) component.X b
+    ∷ term (q_coefficient points a b) component.Y b
+    ∷ term (neg_ℤ (pos scale)) component.Turn a
     ∷ []
 
 -- an angle at A from B to C: (P_C - P_B) xA + (Q_B - Q_C) yA + P_B xB - Q_B yB - P_C xC + Q_C yC
 abbrev pub angle_terms : List PointRecord → ℕ → ℕ → ℕ → List Term
 angle_terms points a b c =
-    term (by_y points a c -ℤ by_y points a b) component.X a
-    ∷ term (by_x points a b -ℤ by_x points a c) component.Y a
-    ∷ term (by_y points a b) component.X b
-    ∷ term (neg_ℤ (by_x points a b)) component.Y b
-    ∷ term (neg_ℤ (by_y points a c)) component.X c
-    ∷ term (by_x points a c) component.Y c
+    term (p_coefficient points a c -ℤ p_coefficient points a b) component.X a
+    ∷ term (q_coefficient points a b -ℤ q_coefficient points a c) component.Y a
+    ∷ term (p_coefficient points a b) component.X b
+    ∷ term (neg_ℤ (q_coefficient points a b)) component.Y b
+    ∷ term (neg_ℤ (p_coefficient points a c)) component.X c
+    ∷ term (q_coefficient points a c) component.Y c
     ∷ []
 
 -- the difference of two points in one component: 10000 of B - 10000 of A
 abbrev pub difference_terms : Component → ℕ → ℕ → List Term
-difference_terms part a b = term (neg_ℤ (pos 10000)) part a ∷ term (pos 10000) part b ∷ []
+difference_terms part a b = term (neg_ℤ (pos scale)) part a ∷ term (pos scale) part b ∷ []
 
 -- an equation of these terms, observed with this standard deviation
 abbrev pub observed : List Term → ℕ → Equation

@@ -15,8 +15,9 @@ use geo_model::{Component, Row};
 use point_tables::Points;
 use std::alloc::Global;
 
-// The coefficient of an orientation, and of a height or of a coordinate of a vector.
-const UNIT: i64 = 10_000;
+// A coefficient of 1, as of an orientation and of each end of a level or a vector, times the scale of
+// all coefficients.
+const SCALED_ONE: i64 = 10_000;
 
 // The row of a distance.
 pub(crate) fn distance_row(
@@ -58,7 +59,7 @@ pub(crate) fn direction_row(
         term_of(minus(parts.x), Component::Y, a),
         term_of(minus(parts.y), Component::X, b),
         term_of(parts.x, Component::Y, b),
-        term_of(minus(UNIT), Component::Turn, a),
+        term_of(minus(SCALED_ONE), Component::Turn, a),
     ];
     row_of(alloc, columns, &terms, candidate.sd)
 }
@@ -104,8 +105,8 @@ pub(crate) fn difference_row(
     ensures { IfOk result (λ row. row ≡ row_of columns.now (observed (difference_terms component a b) deviation)) }
 {
     let terms = [
-        term_of(minus(UNIT), component, a),
-        term_of(UNIT, component, b),
+        term_of(minus(SCALED_ONE), component, a),
+        term_of(SCALED_ONE, component, b),
     ];
     row_of(alloc, columns, &terms, deviation)
 }

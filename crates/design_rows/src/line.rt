@@ -1,7 +1,8 @@
 //! The line between two points, and the coefficients that its parts give.
 ghost use Rattle.std.specs.Prelude.{◌≡◌, ◌<◌, ◌≤◌, ◌^◌, length, unsigned_abs};
-ghost use Rattle.candidate_tables.specs.Lines.{length_squared, x_at, y_at};
-ghost use Rattle.design_rows.specs.Equations.{by_x, by_y, cosine, sine, x_part, y_part};
+ghost use Rattle.candidate_tables.specs.Lines.{length_squared};
+ghost use Rattle.coefficient_round.specs.Coefficient.{radian, scale};
+ghost use Rattle.design_rows.specs.Equations.{cosine, p_coefficient, q_coefficient, sine, x_part, y_part};
 
 use coefficient_round::{dir_coef, dist_coef};
 use point_tables::Points;
@@ -11,24 +12,6 @@ use point_tables::Points;
 pub(crate) struct LineParts {
     pub(crate) x: i64,
     pub(crate) y: i64,
-}
-
-// The coordinate x of a point in millimetres, and 0 where it has none.
-fn x_of(points: &Points, place: u32) -> i64
-    requires { place < length points.now }
-    ensures value { result ≡ x_at points.now place }
-    ensures size { unsigned_abs result ≤ 10 ^ 11 }
-{
-    points.get(place).x.unwrap_or(0)
-}
-
-// The coordinate y of a point in millimetres, and 0 where it has none.
-fn y_of(points: &Points, place: u32) -> i64
-    requires { place < length points.now }
-    ensures value { result ≡ y_at points.now place }
-    ensures size { unsigned_abs result ≤ 10 ^ 11 }
-{
-    points.get(place).y.unwrap_or(0)
 }
 
 // The parts of the line between two points, in millimetres.
@@ -41,8 +24,8 @@ fn line_between(points: &Points, from: u32, to: u32) -> LineParts
     ensures y_size { unsigned_abs result.y < 2 ^ 62 }
 {
     LineParts {
-        x: x_of(points, to) - x_of(points, from),
-        y: y_of(points, to) - y_of(points, from),
+        x: points.x(to) - points.x(from),
+        y: points.y(to) - points.y(from),
     }
 }
 
@@ -54,8 +37,8 @@ pub(crate) fn distance_parts(points: &Points, from: u32, to: u32) -> LineParts
     requires most { length_squared points.now from to ≤ 10 ^ 16 }
     ensures x { result.x ≡ cosine points.now from to }
     ensures y { result.y ≡ sine points.now from to }
-    ensures x_size { unsigned_abs result.x ≤ 10000 }
-    ensures y_size { unsigned_abs result.y ≤ 10000 }
+    ensures x_size { unsigned_abs result.x ≤ scale }
+    ensures y_size { unsigned_abs result.y ≤ scale }
 {
     let line = line_between(points, from, to);
     LineParts {
@@ -64,16 +47,17 @@ pub(crate) fn distance_parts(points: &Points, from: u32, to: u32) -> LineParts
     }
 }
 
-// 10000 times the change of the bearing in cc by a millimetre, from each part of the line.
+// 10000 times the change of the bearing in cc by a millimetre: that by y, from the part along x,
+// and that by x, from the part along y.
 pub(crate) fn direction_parts(points: &Points, from: u32, to: u32) -> LineParts
     requires from { from < length points.now }
     requires to { to < length points.now }
     requires least { 10 ^ 8 ≤ length_squared points.now from to }
     requires most { length_squared points.now from to ≤ 10 ^ 16 }
-    ensures x { result.x ≡ by_x points.now from to }
-    ensures y { result.y ≡ by_y points.now from to }
-    ensures x_size { unsigned_abs result.x ≤ 636620 }
-    ensures y_size { unsigned_abs result.y ≤ 636620 }
+    ensures x { result.x ≡ q_coefficient points.now from to }
+    ensures y { result.y ≡ p_coefficient points.now from to }
+    ensures x_size { unsigned_abs result.x ≤ radian }
+    ensures y_size { unsigned_abs result.y ≤ radian }
 {
     let line = line_between(points, from, to);
     LineParts {

@@ -1,6 +1,7 @@
 //! The unknowns in the order of their numbers.
 ghost use Rattle.std.specs.Prelude.{◌≡◌, ◌≤◌, ◌++◌, length, IfOk, OnOk};
 ghost use Rattle.std.specs.List.{enumerate_from, flat_map};
+ghost use Rattle.point_tables.specs.declared.record.PointRecord.{PointRecord};
 ghost use Rattle.design_rows.specs.Unknowns.{coordinates, height_coordinates, is_direction_from, is_station, orientation, plane_coordinates};
 
 use candidate_tables::{CandidateRecord, Candidates, Kind};
@@ -91,11 +92,9 @@ fn push_orientation(
     unknowns: &mut Vec<Unknown>,
     candidates: &Candidates,
     place: u32,
-    point: &PointRecord,
 ) -> Result<(), NoMemory>
-    ensures { OnOk result (unknowns.new.items ≡ unknowns.old.items ++ orientation candidates.now (place, point.now)) }
+    ensures { OnOk result ((point : PointRecord) → unknowns.new.items ≡ unknowns.old.items ++ orientation candidates.now (place, point)) }
 {
-    let _point = point;
     if is_station(candidates, place) {
         unknowns.push(Unknown {
             point: place,
@@ -114,7 +113,7 @@ pub(crate) fn push_orientations(
     ensures { OnOk result (unknowns.new.items ≡ unknowns.old.items ++ flat_map (orientation candidates.now) (enumerate_from 0 points.now)) }
 {
     for place in 0..points.len() {
-        push_orientation(unknowns, candidates, place, points.get(place))?;
+        push_orientation(unknowns, candidates, place)?;
     }
     Ok(())
 }

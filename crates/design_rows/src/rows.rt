@@ -1,4 +1,5 @@
-ghost use Rattle.std.specs.Prelude.{◌≡◌, [], ◌∷◌, IfOk};
+ghost use Rattle.std.specs.Prelude.{◌≡◌, List, [], ◌∷◌, IfOk};
+ghost use Rattle.point_tables.specs.declared.record.PointRecord.{PointRecord};
 ghost use Rattle.candidate_tables.specs.declared.kind.Kind.TheVariants as kind;
 ghost use Rattle.candidate_tables.specs.Accepted.{IsCandidateRecord};
 ghost use Rattle.design_rows.specs.Rows.{IsNumbered, rows_of};
@@ -38,18 +39,16 @@ fn angle_rows(
     one_row(alloc, row)
 }
 
-// The rows of a vector.
+// The rows of a vector, wherever its points lie.
 fn vector_rows(
     alloc: Global,
     candidate: &CandidateRecord,
-    points: &Points,
     columns: &Columns,
 ) -> Result<Vec<Row>, NoMemory>
-    requires accepted { IsCandidateRecord points.now candidate.now }
+    requires accepted { (points : List PointRecord) × IsCandidateRecord points candidate.now }
     requires kind { candidate.now.kind ≡ kind.Vector }
-    ensures { IfOk result (λ rows. rows.items ≡ rows_of points.now columns.now candidate.now) }
+    ensures { IfOk result (λ rows. (points : List PointRecord) → rows.items ≡ rows_of points columns.now candidate.now) }
 {
-    let _points = points;
     let Some(height) = candidate.sdh else {
         unreachable!()
     };
@@ -62,8 +61,13 @@ fn vector_rows(
 }
 
 /// The weighted rows of a candidate: one of a distance, a direction, an angle or a level, and three
-/// of a vector. The columns are those of these points and of the candidates table that the
-/// candidate is one of. Refused for want of memory alone.
+/// of a vector. They are the linearised observation equations of any textbook of plane networks and
+/// of levelling. An entry is a column with 10000 times the change of the observation, in millimetres
+/// or cc, by a millimetre of a coordinate or a cc of an orientation; a weight is 10^8 over the
+/// square of the standard deviation in hundredths; both are rounded to the nearest whole number,
+/// which is this project's own. Fixed components and entries of 0 are left out. The columns are
+/// those of these points and of the candidates table that the candidate is one of. Refused for
+/// want of memory alone.
 pub fn rows_of(
     alloc: Global,
     candidate: &CandidateRecord,
@@ -81,7 +85,7 @@ pub fn rows_of(
             difference_row(alloc, Component::Z, a, b, candidate.sd, columns)?
         }
         Kind::Angle => return angle_rows(alloc, candidate, points, columns),
-        Kind::Vector => return vector_rows(alloc, candidate, points, columns),
+        Kind::Vector => return vector_rows(alloc, candidate, columns),
     };
     one_row(alloc, row)
 }

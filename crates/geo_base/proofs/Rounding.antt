@@ -166,7 +166,7 @@ nearest_of-pos a d some =
 distance-neg : (n d z : ℤ) → distance (neg_ℤ n) d z ≡ distance n d (neg_ℤ z)
 distance-neg n d z = omega (arith, ints, neg-*ℤ z d)
 
-IsNearest-neg : (n d q : ℤ) → IsNearest n d q → IsNearest (neg_ℤ n) d (neg_ℤ q)
+pub IsNearest-neg : (n d q : ℤ) → IsNearest n d q → IsNearest (neg_ℤ n) d (neg_ℤ q)
 IsNearest-neg n d q near =
     let back : neg_ℤ (neg_ℤ q) ≡ q = omega (arith, ints) in
     let here : distance (neg_ℤ n) d (neg_ℤ q) ≡ distance n d q = distance-neg n d (neg_ℤ q) ∙ ap (distance n d) back in

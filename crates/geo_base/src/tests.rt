@@ -1,4 +1,7 @@
-use crate::{ceil_div, floor_div, grid_exponent, nearest, root_floor, shift_floor};
+use crate::{
+    ceil_div, floor_div, grid_exponent, nearest, root_floor, rounded_quotients_are_unique,
+    shift_floor, shifts_exponents_and_roots_are_unique,
+};
 
 #[test]
 fn known_answers(rt: HostRuntime) {
@@ -17,4 +20,6 @@ fn known_answers(rt: HostRuntime) {
     assert_eq!(rt; grid_exponent(0x1000_0000_0000_0000), 1);
     assert_eq!(rt; root_floor(99), 9);
     assert_eq!(rt; root_floor(100), 10);
+    rounded_quotients_are_unique();
+    shifts_exponents_and_roots_are_unique();
 }

@@ -1,2 +1,3 @@
 pub mod EnergyLemmas
 pub mod PlanLemmas
+pub mod SizeLemmas

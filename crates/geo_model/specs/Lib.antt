@@ -5,3 +5,4 @@ pub mod Limit
 pub mod Network
 pub mod Meeting
 pub mod Verdicts
+pub mod Nodes

@@ -12,6 +12,10 @@ Displaced = ℕ → ℤ
 abbrev pub unit_at : ℕ → Displaced
 unit_at unknown = λ i. if i == unknown then pos 1 else pos 0
 
+-- a displacement as a log may have it: no entry above 2 ^ 15 in size (this project's own)
+abbrev pub IsNarrow : Displaced → Type 0
+IsNarrow x = (i : ℕ) → unsigned_abs (x i) ≤ 2 ^ 15
+
 -- entries of a linear form: each is a column, that is the number of an unknown, and its coefficient
 abbrev pub Entries : Type 0
 Entries = List (ℕ × ℤ)

@@ -1,3 +1,5 @@
+ghost use Rattle.std.specs.Prelude.{◌≡◌};
+
 use crate::plan::Plan;
 
 /// How many lines of each kind a log has.
@@ -8,6 +10,21 @@ pub struct Counts {
     pub pivots: u64,
     pub cuts: u64,
     pub duals: u64,
+}
+
+impl Counts {
+    /// The counts of a log with no line.
+    pub fn none() -> Counts
+        ensures { result ≡ record { splits = 0; costs = 0; pivots = 0; cuts = 0; duals = 0 } }
+    {
+        Counts {
+            splits: 0,
+            costs: 0,
+            pivots: 0,
+            cuts: 0,
+            duals: 0,
+        }
+    }
 }
 
 /// What a search found.

@@ -12,7 +12,7 @@ mod verdict;
 
 pub use answer::{Answer, Counts, SearchDone};
 pub use candidate::Candidate;
-pub use laws::{larger_plans_cost_more, larger_plans_keep_limits};
+pub use laws::{larger_plans_cost_more, larger_plans_keep_limits, sums_stay_within_128_bits};
 pub use limit::{Limit, LimitKind, Square};
 pub use network::{Component, Network, Unknown, cost};
 pub use plan::{Node, Plan};

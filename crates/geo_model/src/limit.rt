@@ -1,3 +1,8 @@
+ghost use Rattle.std.specs.Prelude.{◌↔◌, ◌<◌, length, IsTrue};
+ghost use Rattle.std.specs.Option.{ForSome};
+ghost use Rattle.geo_model.specs.Limit.{IsInForce};
+
+use crate::plan::Plan;
 use std::marker::Model;
 
 /// What a limit bounds. A redundancy limit names its candidate and, from 0, the row of it; an added
@@ -41,4 +46,18 @@ impl Model for Limit {
     ghost Value = { LimitOf };
 
     ghost view = { λ limit. record { kind = limit.kind; owner = limit.owner; alpha = limit.alpha; squares = limit.squares.items } };
+}
+
+impl Limit {
+    /// Whether the limit is in force for a plan: it has no owner, or its owner is chosen. The plan has an
+    /// entry for the owner.
+    pub fn is_in_force(&self, plan: &Plan) -> bool
+        requires { ForSome self.now.owner (λ owner. owner < length plan.now) }
+        ensures { IsTrue result ↔ IsInForce self.now plan.now }
+    {
+        match self.owner {
+            None => true,
+            Some(owner) => plan.has(owner),
+        }
+    }
 }

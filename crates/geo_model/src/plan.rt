@@ -1,4 +1,4 @@
-ghost use Rattle.std.specs.Prelude.{◌≡◌, ◌<◌, List, Bool, Some, true, false, length, replicate, slice_get, slice_set, IfOk};
+ghost use Rattle.std.specs.Prelude.{◌≡◌, ◌<◌, Some, true, false, length, replicate, slice_get, slice_set, IfOk};
 
 use geo_base::NoMemory;
 use std::alloc::Global;
@@ -12,6 +12,8 @@ pub struct Plan {
 }
 
 impl Model for Plan {
+    ghost use Rattle.std.specs.Prelude.{List, Bool};
+
     ghost Value = { List Bool };
 
     ghost view = { λ plan. plan.chosen.items };
@@ -64,4 +66,18 @@ impl Plan {
 pub struct Node {
     pub inside: Plan,
     pub upper: Plan,
+}
+
+impl Node {
+    ghost use Rattle.std.specs.Prelude.{◌≡◌, IfOk};
+    ghost use Rattle.geo_model.specs.Nodes.{all_plans};
+
+    /// The node of all plans of `count` candidates. Refused for want of memory alone.
+    pub fn whole(alloc: Global, count: u32) -> Result<Node, NoMemory>
+        ensures { IfOk result (λ node. node ≡ all_plans count) }
+    {
+        let inside = Plan::empty(alloc, count)?;
+        let upper = Plan::full(alloc, count)?;
+        Ok(Node { inside, upper })
+    }
 }

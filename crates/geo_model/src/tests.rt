@@ -46,3 +46,39 @@ fn a_row_keeps_its_parts(rt: HostRuntime) -> Result<(), Fail> {
     assert_eq!(rt; row.weight(), 100);
     Ok(())
 }
+
+#[test]
+fn a_limit_is_in_force_where_its_owner_is_chosen(rt: HostRuntime) -> Result<(), Fail> {
+    let mut node = Node::whole(rt.alloc(), 2)?;
+    let owned = Limit {
+        kind: LimitKind::Redundancy(1, 0),
+        owner: Some(1),
+        alpha: 500,
+        squares: Vec::new(rt.alloc()),
+    };
+    assert_eq!(rt;
+        (
+            owned.is_in_force(&node.inside),
+            owned.is_in_force(&node.upper)
+        ),
+        (false, true)
+    );
+    node.upper.set(1, false);
+    assert_eq!(rt; owned.is_in_force(&node.upper), false);
+    let free = Limit {
+        kind: LimitKind::Height(0),
+        owner: None,
+        alpha: 100,
+        squares: Vec::new(rt.alloc()),
+    };
+    assert_eq!(rt; free.is_in_force(&node.inside), true);
+    Ok(())
+}
+
+#[test]
+fn no_lines_are_counted_as_none(rt: HostRuntime) -> Result<(), Fail> {
+    let counts = Counts::none();
+    assert_eq!(rt; (counts.splits, counts.costs, counts.pivots), (0, 0, 0));
+    assert_eq!(rt; (counts.cuts, counts.duals), (0, 0));
+    Ok(())
+}

@@ -5,24 +5,19 @@ use Rattle.std.specs.Prelude.{sum_by, unsigned_abs}
 use Rattle.std.proofs.lemmas.Bool.{cases_lt}
 use Rattle.std.proofs.lemmas.Int.{ints, fits_signed_from_abs}
 use Rattle.std.proofs.lemmas.List.Sums.{sum_by_more}
-use Rattle.std.proofs.Math.Nat.{mul-le-mul, pow-suc, pow-zero}
+use Rattle.std.proofs.Math.Nat.{mul-le-mul}
 use Rattle.whole_algebra.specs.Sums.{int_sum_by}
 use Rattle.whole_algebra.proofs.Normal.{ring, x0, lit, ◌⊕◌}
 use Rattle.geo_model.specs.Row.{total_size}
 use Rattle.geo_model.specs.Limit.{SquareOf, IsLoad}
 use Rattle.geo_model.specs.Network.{NetworkOf, IsNetwork}
 use Rattle.normal_matrix.specs.Entries.{coefficient, normal_entry}
-use Rattle.normal_matrix.proofs.SumSteps.{size-add, size-mul, int_sum_by-more}
+use Rattle.whole_algebra.proofs.Order.{size-add, size-mul, square_is}
+use Rattle.normal_matrix.proofs.SumSteps.{int_sum_by-more}
 use Rattle.normal_matrix.proofs.PlanSteps.{normal_entry-size}
 use Rattle.limit_forms.specs.Form.{load_entry}
 
 -- ---- one weighted product of two coefficients
-square_is : (t : ℕ) → t ^ 2 ≡ t * t
-square_is t = pow-suc t 1 ∙ ap (λ q. q * t) (pow-one t)
-  where
-    pow-one : (t : ℕ) → t ^ 1 ≡ t
-    pow-one t = pow-suc t 0 ∙ ap (λ q. q * t) (pow-zero t) ∙ one-mul t
-
 at_least_one : (b : ℤ) → pos 1 ≤ℤ b → 1 ≤ unsigned_abs b
 at_least_one b h = omega (arith, ints)
 

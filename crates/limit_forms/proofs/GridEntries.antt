@@ -1,24 +1,23 @@
 -- The grid matrices entry by entry: their shape, sizes and heads.
-use Rattle.std.proofs.Common.{◌≡◌, ℕ, zero, suc, ◌+◌, ◌-◌, ◌^◌, ◌<◌, ◌≤◌, inl, inr, Bool, List, [], ◌∷◌, length, map, get_or, refl, ◌∙◌, ap, subst, arith, ℤ, pos, ◌+ℤ◌, ◌-ℤ◌, ◌*ℤ◌, neg_ℤ, ◌≤ℤ◌, ◌<ℤ◌}
+use Rattle.std.proofs.Common.{◌≡◌, ℕ, zero, suc, ◌+◌, ◌^◌, ◌<◌, ◌≤◌, inl, inr, Bool, List, [], ◌∷◌, length, map, get_or, refl, ◌∙◌, ap, subst, arith, ℤ, pos, ◌+ℤ◌, ◌-ℤ◌, ◌*ℤ◌, neg_ℤ, ◌≤ℤ◌, ◌<ℤ◌}
 use Rattle.std.specs.Prelude.{unsigned_abs}
 use Rattle.std.proofs.lemmas.Bool.{cases_lt}
 use Rattle.std.proofs.lemmas.Int.{ints}
-use Rattle.whole_algebra.specs.Sums.{int_sum}
+use Rattle.std.proofs.lemmas.List.{length-map}
 use Rattle.whole_algebra.specs.Rounding.{floor_over, gap_over, ceil_over}
-use Rattle.whole_algebra.specs.Matrices.{at, scale, entries, diagonal, slacks, upper_over, IsTriangle}
-use Rattle.whole_algebra.specs.Chains.{beside}
-use Rattle.whole_algebra.specs.Grid.{times_lists, scaled, packed, row_at, entry, above}
-use Rattle.whole_algebra.proofs.Order.{le_refl, add_nonneg}
-use Rattle.whole_algebra.proofs.Rounding.{floor_at_least, floor_at_most, ceil_at_most, gap_range, gap_of_zero}
+use Rattle.whole_algebra.specs.Matrices.{at, scale, diagonal, slacks, lower_over, upper_over, IsTriangle}
+use Rattle.whole_algebra.specs.Grid.{times_lists, scaled, packed, row_at}
+use Rattle.whole_algebra.proofs.Rounding.{floor_at_least, floor_at_most, ceil_at_most, gap_range}
 use Rattle.whole_algebra.proofs.Shapes.{at-off_sums_at_most, triangle-lower_over, triangle-upper_over}
-use Rattle.whole_algebra.proofs.Places.{at-diagonal, row_at-entries, at-row_at-entries, lower_over-right, upper_over-right, lower_over-diagonal, upper_over-diagonal, at-off_sums}
+use Rattle.whole_algebra.proofs.Places.{at-diagonal, lower_over-right, upper_over-right, lower_over-diagonal, upper_over-diagonal}
+use Rattle.whole_algebra.proofs.DiagonalLaws.{slack_nonneg}
 use Rattle.whole_algebra.proofs.GridLaws.{triangle-packed, triangle-scaled}
 use Rattle.geo_model.specs.Limit.{SquareOf, IsLoad}
 use Rattle.geo_model.specs.Network.{NetworkOf, IsNetwork}
 use Rattle.limit_forms.specs.Form.{form_of}
 use Rattle.limit_forms.specs.Grid.{order_of, scale_of, scales_of, form_matrix, on_grid, grid_step, lower_grid, upper_grid}
 use Rattle.limit_forms.proofs.Orders.{length-order_of, order_of-below}
-use Rattle.limit_forms.proofs.Sizes.{grid_number, number_within, number_on_diagonal, energy_limit}
+use Rattle.limit_forms.proofs.Sizes.{grid_number, IsWithin, form_limit, energy_limit, number_within, number_on_diagonal}
 
 -- ---- a scaled matrix of numbered unknowns
 -- the unknown at a place
@@ -51,7 +50,7 @@ at-scaled_packed sc f (u ∷ us) (suc i) k lt =
     one_more : (i k : ℕ) → suc (i + k) ≡ suc i + k
     one_more i k = omega arith
 
-past-scaled_packed : (sc : ℕ → ℤ) (f : ℕ → ℕ → ℤ) (us : List ℕ) (i k : ℕ) → length us ≤ i + k → at (row_at (scaled (map sc us) (packed f us)) i) k ≡ pos 0
+pub past-scaled_packed : (sc : ℕ → ℤ) (f : ℕ → ℕ → ℤ) (us : List ℕ) (i k : ℕ) → length us ≤ i + k → at (row_at (scaled (map sc us) (packed f us)) i) k ≡ pos 0
 past-scaled_packed sc f [] i k le = refl
 past-scaled_packed sc f (u ∷ us) zero k le = row_past (sc u) sc (f u) (u ∷ us) k (omega arith)
 past-scaled_packed sc f (u ∷ us) (suc i) k le = past-scaled_packed sc f us i k (omega arith)
@@ -68,19 +67,10 @@ pub on_grid-triangle : (network : NetworkOf) (plan : List Bool) (alpha : ℤ) (s
 on_grid-triangle network plan alpha squares =
     let order = order_of (length network.unknowns) squares in
     subst (λ n. IsTriangle n (on_grid network plan alpha squares)) (length-order_of (length network.unknowns) squares)
-    (triangle-scaled (length order) (scales_of network alpha squares) (form_matrix network plan alpha squares) (length-map (scale_of network.candidates alpha) order) (triangle-packed (form_of network.candidates plan alpha squares) order))
-  where
-    length-map : (g : ℕ → ℤ) (vs : List ℕ) → length (map g vs) ≡ length vs
-    length-map g [] = refl
-    length-map g (v ∷ vs) = ap suc (length-map g vs)
-
--- a number of at most 2 ^ 229 in size
-pub record IsWithin (z : ℤ) : Type 0 where
-  pub low : neg_ℤ (pos (2 ^ 229)) ≤ℤ z
-  pub high : z ≤ℤ pos (2 ^ 229)
+    (triangle-scaled (length order) (scales_of network alpha squares) (form_matrix network plan alpha squares) (length-map order (scale_of network.candidates alpha)) (triangle-packed (form_of network.candidates plan alpha squares) order))
 
 pub on_grid-within : (network : NetworkOf) (plan : List Bool) (alpha : ℤ) (squares : List SquareOf) (i k : ℕ) → IsNetwork network → IsLoad (length network.unknowns) network.candidates alpha squares
-    → IsWithin (at (row_at (on_grid network plan alpha squares) i) k)
+    → IsWithin form_limit (at (row_at (on_grid network plan alpha squares) i) k)
 on_grid-within network plan alpha squares i k bounds limit =
     let n = length network.unknowns in
     let order = order_of n squares in
@@ -88,8 +78,8 @@ on_grid-within network plan alpha squares i k bounds limit =
     let below = order_of-below n squares in
     elim (cases_lt (i + k) n) [
       | inl lt ↦
-          let p = number_within network plan alpha squares (unknown_at order i) (unknown_at order (i + k)) bounds limit (below i 0 (omega arith)) (below (i + k) 0 (omega arith)) in
-          rw (at-on_grid network plan alpha squares i k lt) (record { low = p.0; high = p.1 })
+          rw (at-on_grid network plan alpha squares i k lt)
+          (number_within network plan alpha squares (unknown_at order i) (unknown_at order (i + k)) bounds limit (below i 0 (omega arith)) (below (i + k) 0 (omega arith)))
       | inr le ↦
           rw (past-scaled_packed (scale_of network.candidates alpha) (form_of network.candidates plan alpha squares) order i k (omega arith)) (record { low = omega (arith, ints); high = omega (arith, ints) })
     ]
@@ -117,77 +107,65 @@ on_grid-head network plan alpha squares i bounds limit =
 pub step_above : pos 0 <ℤ grid_step
 step_above = omega (arith, ints)
 
-pub floor_within : (z : ℤ) → IsWithin z → (neg_ℤ (pos (2 ^ 109)) ≤ℤ floor_over grid_step z) × (floor_over grid_step z ≤ℤ pos (2 ^ 109))
+-- the largest entries on the grid
+abbrev pub entry_limit : ℤ
+entry_limit = pos (2 ^ 108 + 2 ^ 60)
+
+pub floor_within : (z : ℤ) → IsWithin form_limit z → IsWithin entry_limit (floor_over grid_step z)
 floor_within z w =
     let low = w.low in
-    let high = w.high in
-    (floor_at_least grid_step z (neg_ℤ (pos (2 ^ 109))) step_above (omega (arith, ints)), floor_at_most grid_step z (pos (2 ^ 109)) step_above (omega (arith, ints)))
-
-int_sum-gaps : (row : List ℤ) → pos 0 ≤ℤ int_sum (map (gap_over grid_step) row)
-int_sum-gaps [] = le_refl (pos 0)
-int_sum-gaps (z ∷ row) = add_nonneg (gap_over grid_step z) (int_sum (map (gap_over grid_step) row)) (gap_range grid_step z).0 (int_sum-gaps row)
-
-beside-gaps : (row : List ℤ) → pos 0 ≤ℤ int_sum (beside (map (gap_over grid_step) row))
-beside-gaps [] = le_refl (pos 0)
-beside-gaps (z ∷ row) = int_sum-gaps row
-
-above-gaps : (m : List (List ℤ)) (j k : ℕ) → pos 0 ≤ℤ above (entries (gap_over grid_step) m) j k
-above-gaps m j zero = le_refl (pos 0)
-above-gaps m j (suc k) =
-    let e = at-row_at-entries (gap_over grid_step) (gap_of_zero grid_step step_above) m k (j - k) in
-    let g = (gap_range grid_step (at (row_at m k) (j - k))).0 in
-    add_nonneg (above (entries (gap_over grid_step) m) j k) (entry (entries (gap_over grid_step) m) k j) (above-gaps m j k) (rw e g)
+    let high = w.high in record {
+      low = floor_at_least grid_step z (neg_ℤ entry_limit) step_above (omega (arith, ints));
+      high = floor_at_most grid_step z entry_limit step_above (omega (arith, ints));
+    }
 
 -- a row's slack
 pub slack_range : (n : ℕ) (m : List (List ℤ)) (i : ℕ) → IsTriangle n m → n ≤ 64 → (pos 0 ≤ℤ at (slacks grid_step m) i) × (at (slacks grid_step m) i ≤ℤ pos 64)
 slack_range n m i t le =
-    let e = at-off_sums (entries (gap_over grid_step) m) i in
-    let right : pos 0 ≤ℤ int_sum (beside (row_at (entries (gap_over grid_step) m) i)) = rw (row_at-entries (gap_over grid_step) m i) (beside-gaps (row_at m i)) in
-    let left = above-gaps m i i in
     let most = at-off_sums_at_most (gap_over grid_step) (λ z. (gap_range grid_step z).1) n m i t in
-    (omega (arith, ints), omega (arith, ints))
+    (slack_nonneg grid_step m i step_above, omega (arith, ints))
 
--- numbers of at most 2 ^ 109 + 64 in size are small
-small : (z : ℤ) → neg_ℤ (pos (2 ^ 109 + 64)) ≤ℤ z → z ≤ℤ pos (2 ^ 109 + 65) → unsigned_abs z < 2 ^ 110
+-- numbers of at most that size and a slack are small
+small : (z : ℤ) → neg_ℤ (pos (2 ^ 108 + 2 ^ 60 + 64)) ≤ℤ z → z ≤ℤ pos (2 ^ 108 + 2 ^ 60 + 65) → unsigned_abs z < 2 ^ 109
 small z low high = omega (arith, ints)
 
 pub lower_small : (network : NetworkOf) (plan : List Bool) (alpha : ℤ) (squares : List SquareOf) (i k : ℕ) → IsNetwork network → IsLoad (length network.unknowns) network.candidates alpha squares
-    → unsigned_abs (at (row_at (lower_grid network plan alpha squares) i) k) < 2 ^ 110
+    → unsigned_abs (at (row_at (lower_grid network plan alpha squares) i) k) < 2 ^ 109
 unfolding lower_grid
 lower_small network plan alpha squares i zero bounds limit =
     let m = on_grid network plan alpha squares in
     let f = floor_within (at (row_at m i) 0) (on_grid-within network plan alpha squares i 0 bounds limit) in
     let s = slack_range (length network.unknowns) m i (on_grid-triangle network plan alpha squares) bounds.unknowns in
-    rw (lower_over-diagonal grid_step m i step_above) (by (floor_over grid_step (at (row_at m i) 0)) (at (slacks grid_step m) i) f.0 f.1 s.0 s.1)
+    rw (lower_over-diagonal grid_step m i step_above) (by (floor_over grid_step (at (row_at m i) 0)) (at (slacks grid_step m) i) f.low f.high s.0 s.1)
   where
-    by : (f s : ℤ) → neg_ℤ (pos (2 ^ 109)) ≤ℤ f → f ≤ℤ pos (2 ^ 109) → pos 0 ≤ℤ s → s ≤ℤ pos 64 → unsigned_abs (f -ℤ s) < 2 ^ 110
+    by : (f s : ℤ) → neg_ℤ entry_limit ≤ℤ f → f ≤ℤ entry_limit → pos 0 ≤ℤ s → s ≤ℤ pos 64 → unsigned_abs (f -ℤ s) < 2 ^ 109
     by f s a b c d = small (f -ℤ s) (omega (arith, ints)) (omega (arith, ints))
 lower_small network plan alpha squares i (suc k) bounds limit =
     let m = on_grid network plan alpha squares in
     let f = floor_within (at (row_at m i) (suc k)) (on_grid-within network plan alpha squares i (suc k) bounds limit) in
-    rw (lower_over-right grid_step m i k step_above) (by (floor_over grid_step (at (row_at m i) (suc k))) f.0 f.1)
+    rw (lower_over-right grid_step m i k step_above) (by (floor_over grid_step (at (row_at m i) (suc k))) f.low f.high)
   where
-    by : (f : ℤ) → neg_ℤ (pos (2 ^ 109)) ≤ℤ f → f ≤ℤ pos (2 ^ 109) → unsigned_abs f < 2 ^ 110
+    by : (f : ℤ) → neg_ℤ entry_limit ≤ℤ f → f ≤ℤ entry_limit → unsigned_abs f < 2 ^ 109
     by f a b = small f (omega (arith, ints)) (omega (arith, ints))
 
 pub upper_small : (network : NetworkOf) (plan : List Bool) (alpha : ℤ) (squares : List SquareOf) (i k : ℕ) → IsNetwork network → IsLoad (length network.unknowns) network.candidates alpha squares
-    → unsigned_abs (at (row_at (upper_grid network plan alpha squares) i) k) < 2 ^ 110
+    → unsigned_abs (at (row_at (upper_grid network plan alpha squares) i) k) < 2 ^ 109
 unfolding upper_grid
 upper_small network plan alpha squares i zero bounds limit =
     let m = on_grid network plan alpha squares in
     let f = floor_within (at (row_at m i) 0) (on_grid-within network plan alpha squares i 0 bounds limit) in
     let g = gap_range grid_step (at (row_at m i) 0) in
     let s = slack_range (length network.unknowns) m i (on_grid-triangle network plan alpha squares) bounds.unknowns in
-    rw (upper_over-diagonal grid_step m i step_above) (by (floor_over grid_step (at (row_at m i) 0)) (gap_over grid_step (at (row_at m i) 0)) (at (slacks grid_step m) i) f.0 f.1 g.0 g.1 s.0 s.1)
+    rw (upper_over-diagonal grid_step m i step_above) (by (floor_over grid_step (at (row_at m i) 0)) (gap_over grid_step (at (row_at m i) 0)) (at (slacks grid_step m) i) f.low f.high g.0 g.1 s.0 s.1)
   where
-    by : (f g s : ℤ) → neg_ℤ (pos (2 ^ 109)) ≤ℤ f → f ≤ℤ pos (2 ^ 109) → pos 0 ≤ℤ g → g ≤ℤ pos 1 → pos 0 ≤ℤ s → s ≤ℤ pos 64 → unsigned_abs ((f +ℤ g) +ℤ s) < 2 ^ 110
+    by : (f g s : ℤ) → neg_ℤ entry_limit ≤ℤ f → f ≤ℤ entry_limit → pos 0 ≤ℤ g → g ≤ℤ pos 1 → pos 0 ≤ℤ s → s ≤ℤ pos 64 → unsigned_abs ((f +ℤ g) +ℤ s) < 2 ^ 109
     by f g s a b p q c d = small ((f +ℤ g) +ℤ s) (omega (arith, ints)) (omega (arith, ints))
 upper_small network plan alpha squares i (suc k) bounds limit =
     let m = on_grid network plan alpha squares in
     let f = floor_within (at (row_at m i) (suc k)) (on_grid-within network plan alpha squares i (suc k) bounds limit) in
-    rw (upper_over-right grid_step m i k step_above) (by (floor_over grid_step (at (row_at m i) (suc k))) f.0 f.1)
+    rw (upper_over-right grid_step m i k step_above) (by (floor_over grid_step (at (row_at m i) (suc k))) f.low f.high)
   where
-    by : (f : ℤ) → neg_ℤ (pos (2 ^ 109)) ≤ℤ f → f ≤ℤ pos (2 ^ 109) → unsigned_abs f < 2 ^ 110
+    by : (f : ℤ) → neg_ℤ entry_limit ≤ℤ f → f ≤ℤ entry_limit → unsigned_abs f < 2 ^ 109
     by f a b = small f (omega (arith, ints)) (omega (arith, ints))
 
 pub upper_heads : (network : NetworkOf) (plan : List Bool) (alpha : ℤ) (squares : List SquareOf) (i : ℕ) → IsNetwork network → IsLoad (length network.unknowns) network.candidates alpha squares
@@ -202,6 +180,19 @@ upper_heads network plan alpha squares i bounds limit =
   where
     by : (c s : ℤ) → c ≤ℤ pos (2 ^ 60) → s ≤ℤ pos 64 → (c +ℤ s) ≤ℤ pos (2 ^ 60 + 64)
     by c s h k = omega (arith, ints)
+
+pub lower_heads : (network : NetworkOf) (plan : List Bool) (alpha : ℤ) (squares : List SquareOf) (i : ℕ) → IsNetwork network → IsLoad (length network.unknowns) network.candidates alpha squares
+    → at (diagonal (lower_grid network plan alpha squares)) i ≤ℤ pos (2 ^ 60 + 64)
+unfolding lower_grid
+lower_heads network plan alpha squares i bounds limit =
+    let m = on_grid network plan alpha squares in
+    let h = on_grid-head network plan alpha squares i bounds limit in
+    let f = floor_at_most grid_step (at (row_at m i) 0) (pos (2 ^ 60)) step_above (omega (arith, ints)) in
+    let s = slack_range (length network.unknowns) m i (on_grid-triangle network plan alpha squares) bounds.unknowns in
+    rw (at-diagonal (lower_over grid_step m) i ∙ lower_over-diagonal grid_step m i step_above) (by (floor_over grid_step (at (row_at m i) 0)) (at (slacks grid_step m) i) f s.0)
+  where
+    by : (f s : ℤ) → f ≤ℤ pos (2 ^ 60) → pos 0 ≤ℤ s → (f -ℤ s) ≤ℤ pos (2 ^ 60 + 64)
+    by f s h k = omega (arith, ints)
 
 pub lower_triangle : (network : NetworkOf) (plan : List Bool) (alpha : ℤ) (squares : List SquareOf) → IsTriangle (length network.unknowns) (lower_grid network plan alpha squares)
 unfolding lower_grid

@@ -1,8 +1,9 @@
 -- What is read of a grid: the unknown at a place, and the exponent of an unknown.
-use Rattle.std.proofs.Common.{◌≡◌, ℕ, zero, suc, ◌+◌, ◌-◌, ◌<◌, ◌≤◌, Bool, List, [], ◌∷◌, length, map, get_or, Some, sym, ◌∙◌, ap, ap₂, subst, arith, ℤ, pos, ◌+ℤ◌, ◌-ℤ◌, neg_ℤ, ◌≤ℤ◌}
+use Rattle.std.proofs.Common.{◌≡◌, ℕ, ◌+◌, ◌-◌, ◌<◌, ◌≤◌, Bool, List, length, map, Some, sym, ◌∙◌, ap, ap₂, subst, arith, ℤ, pos, ◌+ℤ◌, ◌-ℤ◌, neg_ℤ, ◌≤ℤ◌}
 use Rattle.std.specs.Prelude.{slice_get, unsigned_abs}
 use Rattle.std.specs.List.{range_with_len}
 use Rattle.std.proofs.lemmas.Int.{ints}
+use Rattle.std.proofs.lemmas.Option.{get_or_from_slice_get}
 use Rattle.std.proofs.lemmas.List.FromFn.{get_or-map-range_with_len}
 use Rattle.whole_algebra.specs.Matrices.{at}
 use Rattle.whole_algebra.specs.Grid.{row_at}
@@ -12,11 +13,6 @@ use Rattle.limit_forms.specs.Grid.{order_of, exponent_at, GridOf, grid_of, on_gr
 use Rattle.limit_forms.proofs.Orders.{length-order_of, order_of-below}
 use Rattle.limit_forms.proofs.Sizes.{scaled_unknown, grid_number}
 use Rattle.limit_forms.proofs.GridEntries.{unknown_at, at-on_grid}
-
-got_entry : {X : Type 0} (xs : List X) (k : ℕ) (v d : X) → slice_get xs k ≡ Some v → get_or xs k d ≡ v
-got_entry [] k v d e = absurd (cc)
-got_entry (x ∷ xs) zero v d e = cc
-got_entry (x ∷ xs) (suc k) v d e = got_entry xs k v d e
 
 pub length-grid_of : (network : NetworkOf) (alpha : ℤ) (squares : List SquareOf) (grid : GridOf) → grid ≡ grid_of network alpha squares → length grid.order ≡ length network.unknowns
 unfolding grid_of
@@ -33,7 +29,7 @@ read_unknown network alpha squares grid place unknown is inside got =
     let n = length network.unknowns in
     let order = order_of n squares in
     let long = length-order_of n squares in
-    let here = got_entry order place unknown 0 (subst (λ (g : GridOf). slice_get g.order place ≡ Some unknown) is got) in
+    let here = get_or_from_slice_get order place unknown 0 (subst (λ (g : GridOf). slice_get g.order place ≡ Some unknown) is got) in
     record { is = here; below = subst (λ u. u < n) here (order_of-below n squares place 0 (omega arith)) }
 
 pub read_exponent : (network : NetworkOf) (alpha : ℤ) (squares : List SquareOf) (grid : GridOf) (unknown : ℕ) (e : ℤ) → grid ≡ grid_of network alpha squares → unknown < length network.unknowns
@@ -42,7 +38,7 @@ unfolding grid_of
 read_exponent network alpha squares grid unknown e is below got =
     let n = length network.unknowns in
     let exponents = map (exponent_at network.candidates alpha) (range_with_len 0 n) in
-    sym (got_entry exponents unknown e (pos 0) (subst (λ (g : GridOf). slice_get g.exponents unknown ≡ Some e) is got))
+    sym (get_or_from_slice_get exponents unknown e (pos 0) (subst (λ (g : GridOf). slice_get g.exponents unknown ≡ Some e) is got))
     ∙ get_or-map-range_with_len (exponent_at network.candidates alpha) 0 n unknown unknown (pos 0) below (omega arith)
 
 -- two exponents as they are read, with the powers of their scales

@@ -1,8 +1,9 @@
 -- What a verdict on the two grid matrices says of the limit.
-use Rattle.std.proofs.Common.{◌≡◌, ℕ, suc, ◌+◌, ◌-◌, ◌*◌, ◌^◌, ◌≤◌, Bool, List, [], ◌∷◌, length, map, replicate, refl, sym, ◌∙◌, ap, ap₂, subst, arith, ℤ, pos, ◌+ℤ◌, ◌-ℤ◌, ◌*ℤ◌, ◌≤ℤ◌, ◌<ℤ◌}
+use Rattle.std.proofs.Common.{◌≡◌, ℕ, ◌+◌, ◌-◌, ◌*◌, ◌^◌, ◌≤◌, Bool, List, [], ◌∷◌, length, map, replicate, refl, sym, ◌∙◌, ap, ap₂, subst, arith, ℤ, pos, ◌+ℤ◌, ◌-ℤ◌, ◌*ℤ◌, ◌≤ℤ◌, ◌<ℤ◌}
 use Rattle.std.specs.Prelude.{unsigned_abs}
 use Rattle.std.proofs.lemmas.Int.{ints}
 use Rattle.std.proofs.lemmas.Nat.{pow-add}
+use Rattle.std.proofs.lemmas.List.{length-map}
 use Rattle.whole_algebra.specs.Matrices.{quad, lower_over, upper_over, IsTriangle}
 use Rattle.whole_algebra.specs.Chains.{met, refuted, verdict_of, size_limit}
 use Rattle.whole_algebra.specs.Grid.{times_lists}
@@ -17,14 +18,7 @@ use Rattle.limit_forms.specs.Grid.{order_of, exponent_at, scale_of, scales_of, f
 use Rattle.limit_forms.proofs.Orders.{length-order_of, spread, spread_over_order}
 use Rattle.limit_forms.proofs.EnergyLoad.{form_is_energy_less}
 use Rattle.limit_forms.proofs.Sizes.{scaled_unknown}
-use Rattle.limit_forms.proofs.GridEntries.{upper_heads}
-
-step_above : pos 0 <ℤ grid_step
-step_above = omega (arith, ints)
-
-length-map : (g : ℕ → ℤ) (vs : List ℕ) → length (map g vs) ≡ length vs
-length-map g [] = refl
-length-map g (v ∷ vs) = ap suc (length-map g vs)
+use Rattle.limit_forms.proofs.GridEntries.{step_above, upper_heads}
 
 pub form_triangle : (network : NetworkOf) (plan : List Bool) (alpha : ℤ) (squares : List SquareOf) → IsTriangle (length network.unknowns) (form_matrix network plan alpha squares)
 form_triangle network plan alpha squares =
@@ -33,7 +27,7 @@ form_triangle network plan alpha squares =
 
 pub length-scales : (network : NetworkOf) (alpha : ℤ) (squares : List SquareOf) → length (scales_of network alpha squares) ≡ length network.unknowns
 length-scales network alpha squares =
-    length-map (scale_of network.candidates alpha) (order_of (length network.unknowns) squares) ∙ length-order_of (length network.unknowns) squares
+    length-map (order_of (length network.unknowns) squares) (scale_of network.candidates alpha) ∙ length-order_of (length network.unknowns) squares
 
 -- ---- below and above
 pub lower_below : (network : NetworkOf) (plan : List Bool) (alpha : ℤ) (squares : List SquareOf) (z : List ℤ)
@@ -83,7 +77,7 @@ met_everywhere network plan alpha squares x bounds limit is =
     let parts = map (part_of network alpha) order in
     let product = times_maps (scale_of network.candidates alpha) (part_of network alpha) (pos (2 ^ 89)) order (scale_times_part network alpha bounds limit.alpha_low limit.alpha_high) in
     let nonneg = grid-met n (form_matrix network plan alpha squares) (scales_of network alpha squares) parts grid_step (pos (2 ^ 89))
-    (form_triangle network plan alpha squares) (length-scales network alpha squares) (length-map (part_of network alpha) order ∙ length-order_of n squares)
+    (form_triangle network plan alpha squares) (length-scales network alpha squares) (length-map order (part_of network alpha) ∙ length-order_of n squares)
     step_above (omega (arith, ints)) (product ∙ ap (λ k. replicate k (pos (2 ^ 89))) (length-order_of n squares)) is (map x order) in
     by (quad (form_matrix network plan alpha squares) (map x order)) (alpha *ℤ energy network.candidates plan x) (load squares x) nonneg (form_is_energy_less network plan alpha squares x bounds limit)
   where

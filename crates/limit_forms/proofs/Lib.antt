@@ -11,3 +11,5 @@ pub mod GridSteps
 pub mod Shifts
 pub mod GridReads
 pub mod Rows
+pub mod Beside
+pub mod GridRows

@@ -1,5 +1,5 @@
 -- The order of a limit's unknowns has each of them once.
-use Rattle.std.proofs.Common.{◌≡◌, ◌≢◌, ◌==◌, ℕ, zero, suc, ◌+◌, ◌<◌, ◌≤◌, inl, inr, cond, Bool, true, false, List, [], ◌∷◌, ◌++◌, length, map, refl, sym, ◌∙◌, ap, ap₂, arith, ℤ, length-append, eqb-true, eq-eqb}
+use Rattle.std.proofs.Common.{◌≡◌, ◌≢◌, ◌==◌, ℕ, zero, suc, ◌+◌, ◌<◌, ◌≤◌, inl, inr, cond, Bool, true, false, List, [], ◌∷◌, ◌++◌, length, map, get_or, refl, sym, ◌∙◌, ap, ap₂, arith, ℤ, length-append, eqb-true, eq-eqb}
 use Rattle.std.specs.Prelude.{All, count_by, not}
 use Rattle.std.specs.List.{filter, range_with_len}
 use Rattle.std.proofs.lemmas.List.Sums.{sum_by-cons, sum_by-append}
@@ -162,7 +162,28 @@ map-spread (z ∷ x) (u ∷ us) e apart =
     ap₂ ◌∷◌ (ap (λ b. at (z ∷ x) (cond b 0 (suc (place_of u us)))) (eq-eqb u u refl))
     (spread_later z x u us us apart.0 ∙ map-spread x us (omega arith) apart.1)
 
+order_of-apart_each : (n : ℕ) (squares : List SquareOf) → IsApart (order_of n squares)
+order_of-apart_each n squares =
+    at_most_once n (order_of n squares) (order_of-below n squares) (λ i lt. let h = order_of-each_once n squares i lt in omega arith)
+
 pub spread_over_order : (n : ℕ) (squares : List SquareOf) (x : List ℤ) → length x ≡ n → map (spread x (order_of n squares)) (order_of n squares) ≡ x
 spread_over_order n squares x e =
-    map-spread x (order_of n squares) (e ∙ sym (length-order_of n squares))
-    (at_most_once n (order_of n squares) (order_of-below n squares) (λ i lt. let h = order_of-each_once n squares i lt in omega arith))
+    map-spread x (order_of n squares) (e ∙ sym (length-order_of n squares)) (order_of-apart_each n squares)
+
+-- ---- no unknown stands at two places
+counted_at : (u : ℕ) (us : List ℕ) (j : ℕ) → j < length us → get_or us j 0 ≡ u → 1 ≤ count_by (λ v. u == v) us
+counted_at u [] j lt e = absurd (omega arith)
+counted_at u (v ∷ us) zero lt e = let one = count-cons (λ w. u == w) v us in let same = tick-same u v (sym e) in omega arith
+counted_at u (v ∷ us) (suc j) lt e = let one = count-cons (λ w. u == w) v us in let later = counted_at u us j (omega arith) e in omega arith
+
+apart_places : (us : List ℕ) (i j : ℕ) → IsApart us → i < j → j < length us → get_or us i 0 ≢ get_or us j 0
+unfolding IsApart
+apart_places [] i j apart less lt = absurd (omega arith)
+apart_places (u ∷ us) i zero apart less lt = absurd (omega arith)
+apart_places (u ∷ us) zero (suc j) apart less lt = λ e. absurd (let some = counted_at u us j (omega arith) (sym e) in let none = apart.0 in omega arith)
+apart_places (u ∷ us) (suc i) (suc j) apart less lt = apart_places us i j apart.1 (omega arith) (omega arith)
+
+pub order_of-apart : (n : ℕ) (squares : List SquareOf) (i j : ℕ) → i < j → j < n → get_or (order_of n squares) i 0 ≢ get_or (order_of n squares) j 0
+order_of-apart n squares i j less lt =
+    let len = length-order_of n squares in
+    apart_places (order_of n squares) i j (order_of-apart_each n squares) less (omega arith)

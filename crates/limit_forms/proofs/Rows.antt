@@ -1,5 +1,5 @@
 -- A row of the grid matrices, as it is written place by place.
-use Rattle.std.proofs.Common.{◌≡◌, ℕ, zero, suc, ◌+◌, ◌-◌, ◌<◌, ◌≤◌, Bool, List, [], ◌∷◌, length, take, set, refl, sym, ◌∙◌, ap, ap₂, arith, ℤ, pos, ◌+ℤ◌, ◌-ℤ◌}
+use Rattle.std.proofs.Common.{◌≡◌, ℕ, zero, suc, ◌+◌, ◌-◌, ◌<◌, ◌≤◌, Bool, List, [], ◌∷◌, length, take, set, sym, ◌∙◌, ap, ap₂, arith, ℤ, pos, ◌+ℤ◌, ◌-ℤ◌}
 use Rattle.std.proofs.Math.ListN.{length-set}
 use Rattle.std.proofs.lemmas.List.{get_or-set_same, get_or-set_other, take_all}
 use Rattle.whole_algebra.specs.Sums.{int_sum}
@@ -8,25 +8,12 @@ use Rattle.whole_algebra.specs.Matrices.{at, entries, slacks, IsTriangle}
 use Rattle.whole_algebra.specs.Chains.{beside}
 use Rattle.whole_algebra.specs.Grid.{row_at, above}
 use Rattle.whole_algebra.proofs.Rounding.{gap_of_zero}
-use Rattle.whole_algebra.proofs.Shapes.{triangle-entries}
-use Rattle.whole_algebra.proofs.Places.{at-beside, at-row_at-entries, lower_over-right, upper_over-right, lower_over-diagonal, upper_over-diagonal, at-off_sums, int_sum-take_more}
+use Rattle.whole_algebra.proofs.Shapes.{length-row_at, triangle-entries}
+use Rattle.whole_algebra.proofs.Places.{same_list, at-beside, at-row_at-entries, lower_over-right, upper_over-right, lower_over-diagonal, upper_over-diagonal, at-off_sums, int_sum-take_more}
 use Rattle.geo_model.specs.Limit.{SquareOf}
 use Rattle.geo_model.specs.Network.{NetworkOf}
 use Rattle.limit_forms.specs.Grid.{on_grid, grid_step, lower_grid, upper_grid}
 use Rattle.limit_forms.proofs.GridEntries.{step_above, lower_triangle, upper_triangle}
-
--- ---- lists by their places
-same_list : (xs ys : List ℤ) → length xs ≡ length ys → ((m : ℕ) → m < length xs → at xs m ≡ at ys m) → xs ≡ ys
-same_list [] [] e h = refl
-same_list [] (y ∷ ys) e h = absurd (omega arith)
-same_list (x ∷ xs) [] e h = absurd (omega arith)
-same_list (x ∷ xs) (y ∷ ys) e h = ap₂ ◌∷◌ (h zero (omega arith)) (same_list xs ys (omega arith) (λ m lt. h (suc m) (omega arith)))
-
-length-row_at : (n : ℕ) (m : List (List ℤ)) (k : ℕ) → IsTriangle n m → k < n → length (row_at m k) + k ≡ n
-length-row_at zero m k t lt = absurd (omega arith)
-length-row_at (suc n) [] k t lt = absurd t
-length-row_at (suc n) (row ∷ rest) zero t lt = let e = t.0 in omega arith
-length-row_at (suc n) (row ∷ rest) (suc k) t lt = let e = length-row_at n rest k t.1 (omega arith) in omega arith
 
 -- ---- slack
 -- one entry more above the diagonal

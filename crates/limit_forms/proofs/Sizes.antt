@@ -1,5 +1,5 @@
 -- How large the form is on the grid.
-use Rattle.std.proofs.Common.{◌≡◌, ℕ, ◌*◌, ◌^◌, ◌<◌, ◌≤◌, ◌⊎◌, inl, inr, cond, Bool, true, false, List, [], ◌∷◌, length, refl, arith, lit<, ℤ, pos, ◌-ℤ◌, ◌*ℤ◌, neg_ℤ, ◌≤ℤ◌, ◌<ℤ◌, int_lt}
+use Rattle.std.proofs.Common.{◌≡◌, ℕ, ◌*◌, ◌^◌, ◌<◌, ◌≤◌, ◌⊎◌, inl, inr, cond, Bool, true, false, List, [], ◌∷◌, length, refl, arith, lit<, ℤ, pos, ◌+ℤ◌, ◌-ℤ◌, ◌*ℤ◌, neg_ℤ, ◌≤ℤ◌, ◌<ℤ◌, int_lt}
 use Rattle.std.specs.Prelude.{unsigned_abs}
 use Rattle.std.specs.Int.{int_max}
 use Rattle.std.proofs.lemmas.Int.{ints}
@@ -21,6 +21,15 @@ energy_limit = pos (2 ^ 180)
 
 abbrev pub load_limit : ℤ
 load_limit = pos (2 ^ 228)
+
+-- the largest scaled entries of a form: those of its energy and of its load together
+abbrev pub form_limit : ℤ
+form_limit = energy_limit +ℤ load_limit
+
+-- a number of at most this size
+pub record IsWithin (most z : ℤ) : Type 0 where
+  pub low : neg_ℤ most ≤ℤ z
+  pub high : z ≤ℤ most
 
 -- ---- one unknown
 pub record IsScaled (network : NetworkOf) (alpha : ℤ) (i : ℕ) : Type 0 where
@@ -101,18 +110,17 @@ abbrev pub grid_number : NetworkOf → List Bool → ℤ → List SquareOf → �
 grid_number network plan alpha squares i j =
     scale_of network.candidates alpha i *ℤ (scale_of network.candidates alpha j *ℤ form_of network.candidates plan alpha squares i j)
 
-pub number_within : (network : NetworkOf) (plan : List Bool) (alpha : ℤ) (squares : List SquareOf) (i j : ℕ) → IsNetwork network → IsLoad (length network.unknowns) network.candidates alpha squares
-    → i < length network.unknowns → j < length network.unknowns
-    → (neg_ℤ (pos (2 ^ 229)) ≤ℤ grid_number network plan alpha squares i j) × (grid_number network plan alpha squares i j ≤ℤ pos (2 ^ 229))
-number_within network plan alpha squares i j bounds limit row column =
+-- where the scaled load is at most some number in size, the form is at most that much larger than the energy
+pub number_by : (network : NetworkOf) (plan : List Bool) (alpha : ℤ) (squares : List SquareOf) (i j : ℕ) (most : ℤ) → IsNetwork network → pos 1 ≤ℤ alpha → alpha ≤ℤ pos 1000000
+    → (neg_ℤ most ≤ℤ ((scale_of network.candidates alpha i *ℤ scale_of network.candidates alpha j) *ℤ load_entry squares i j)) × (((scale_of network.candidates alpha i *ℤ scale_of network.candidates alpha j) *ℤ load_entry squares i j) ≤ℤ most)
+    → IsWithin (energy_limit +ℤ most) (grid_number network plan alpha squares i j)
+number_by network plan alpha squares i j most bounds low high load =
     let s = scale_of network.candidates alpha i in
     let t = scale_of network.candidates alpha j in
     let normal = normal_entry network.candidates plan in
     let energy = pair_within s t (alpha *ℤ normal i i) (alpha *ℤ normal i j) (alpha *ℤ normal j j) energy_limit
-    (λ u. pair_scale alpha s u (normal i i) (normal i j) (normal j j) (nonneg alpha limit.alpha_low) (normal_pair (length network.unknowns) network.candidates plan i j s u bounds.each_candidate))
-    (energy_most network plan alpha i bounds limit.alpha_low limit.alpha_high) (energy_most network plan alpha j bounds limit.alpha_low limit.alpha_high) in
-    let load = pair_within s t (load_entry squares i i) (load_entry squares i j) (load_entry squares j j) load_limit
-    (λ u. load_pair squares i j s u limit.beta_low) (load_most network alpha squares i bounds limit row) (load_most network alpha squares j bounds limit column) in
+    (λ u. pair_scale alpha s u (normal i i) (normal i j) (normal j j) (nonneg alpha low) (normal_pair (length network.unknowns) network.candidates plan i j s u bounds.each_candidate))
+    (energy_most network plan alpha i bounds low high) (energy_most network plan alpha j bounds low high) in
     let e : s *ℤ (t *ℤ (alpha *ℤ normal i j -ℤ load_entry squares i j)) ≡ (s *ℤ t) *ℤ (alpha *ℤ normal i j) -ℤ (s *ℤ t) *ℤ load_entry squares i j =
     ring (x0 ⊗ (x1 ⊗ (x2 ⊖ x3))) ((x0 ⊗ x1) ⊗ x2 ⊖ (x0 ⊗ x1) ⊗ x3) (s ∷ t ∷ (alpha *ℤ normal i j) ∷ load_entry squares i j ∷ []) refl in
     both (s *ℤ (t *ℤ (alpha *ℤ normal i j -ℤ load_entry squares i j))) ((s *ℤ t) *ℤ (alpha *ℤ normal i j)) ((s *ℤ t) *ℤ load_entry squares i j) e energy.0 energy.1 load.0 load.1
@@ -120,8 +128,18 @@ number_within network plan alpha squares i j bounds limit row column =
     nonneg : (a : ℤ) → pos 1 ≤ℤ a → pos 0 ≤ℤ a
     nonneg a h = omega (arith, ints)
 
-    both : (z p q : ℤ) → z ≡ p -ℤ q → neg_ℤ energy_limit ≤ℤ p → p ≤ℤ energy_limit → neg_ℤ load_limit ≤ℤ q → q ≤ℤ load_limit → (neg_ℤ (pos (2 ^ 229)) ≤ℤ z) × (z ≤ℤ pos (2 ^ 229))
-    both z p q e a b c d = (omega (arith, ints), omega (arith, ints))
+    both : (z p q : ℤ) → z ≡ p -ℤ q → neg_ℤ energy_limit ≤ℤ p → p ≤ℤ energy_limit → neg_ℤ most ≤ℤ q → q ≤ℤ most → IsWithin (energy_limit +ℤ most) z
+    both z p q e a b c d = record { low = omega (arith, ints); high = omega (arith, ints) }
+
+-- any limit's
+pub number_within : (network : NetworkOf) (plan : List Bool) (alpha : ℤ) (squares : List SquareOf) (i j : ℕ) → IsNetwork network → IsLoad (length network.unknowns) network.candidates alpha squares
+    → i < length network.unknowns → j < length network.unknowns → IsWithin form_limit (grid_number network plan alpha squares i j)
+number_within network plan alpha squares i j bounds limit row column =
+    let s = scale_of network.candidates alpha i in
+    let t = scale_of network.candidates alpha j in
+    number_by network plan alpha squares i j load_limit bounds limit.alpha_low limit.alpha_high
+    (pair_within s t (load_entry squares i i) (load_entry squares i j) (load_entry squares j j) load_limit
+    (λ u. load_pair squares i j s u limit.beta_low) (load_most network alpha squares i bounds limit row) (load_most network alpha squares j bounds limit column))
 
 -- on the diagonal the form is at most the energy
 pub number_on_diagonal : (network : NetworkOf) (plan : List Bool) (alpha : ℤ) (squares : List SquareOf) (i : ℕ) → IsNetwork network → IsLoad (length network.unknowns) network.candidates alpha squares

@@ -1,16 +1,17 @@
 -- The whole-number grid on which the form of a limit is judged: an order of the unknowns, an exponent for each, and the
 -- two matrices that the form is rounded to, one from below and one from above. This project's own.
-use Rattle.std.specs.Prelude.{◌≡◌, ◌==◌, ℕ, ◌<◌, ◌≤◌, ◌^◌, ℤ, pos, ◌-ℤ◌, ◌*ℤ◌, Bool, List, length, map, ◌++◌, unsigned_abs, not, All, if◌then◌else◌}
+use Rattle.std.specs.Prelude.{◌≡◌, ◌≢◌, ◌==◌, ℕ, ◌<◌, ◌≤◌, ◌^◌, ◌⊎◌, ℤ, pos, ◌-ℤ◌, ◌*ℤ◌, ◌≤ℤ◌, Bool, List, length, map, ◌++◌, unsigned_abs, not, All, if◌then◌else◌, Some, slice_get}
 use Rattle.std.specs.List.{list_any, filter, range_with_len}
 use Rattle.geo_base.specs.Grid.{exponent_of}
 use Rattle.whole_algebra.specs.Matrices.{lower_over, upper_over}
 use Rattle.whole_algebra.specs.Grid.{scaled, packed}
-use Rattle.geo_model.specs.Row.{Entries}
+use Rattle.geo_model.specs.Row.{Entries, unit_at}
 use Rattle.geo_model.specs.Candidate.{CandidateOf}
-use Rattle.geo_model.specs.Limit.{SquareOf}
+use Rattle.geo_model.specs.Energy.{full_energy}
+use Rattle.geo_model.specs.Limit.{SquareOf, load}
 use Rattle.geo_model.specs.Network.{NetworkOf}
-use Rattle.normal_matrix.specs.Entries.{HasEachOnce}
-use Rattle.limit_forms.specs.Form.{form_of, full_entry}
+use Rattle.normal_matrix.specs.Entries.{normal_entry, HasEachOnce}
+use Rattle.limit_forms.specs.Form.{load_entry, form_of, full_entry}
 
 -- whether an unknown occurs in the squares
 abbrev pub has_column : Entries → ℕ → Bool
@@ -78,3 +79,27 @@ pub record IsGrid (grid : GridOf) : Type 0 where
   pub exponents : length grid.exponents ≡ length grid.order
   pub below : All (λ unknown. unknown < length grid.order) grid.order
   pub once : HasEachOnce (length grid.order) grid.order
+
+-- ---- limits whose load is small beside the energy
+
+-- at a displacement of one unknown the load is at most a thousand times the factor times the energy of all candidates
+abbrev pub IsNear : NetworkOf → ℤ → List SquareOf → Type 0
+IsNear network alpha squares =
+    (i : ℕ) → i < length network.unknowns →
+    load squares (unit_at i) ≤ℤ (pos 1000 *ℤ (alpha *ℤ full_energy network.candidates (unit_at i)))
+
+-- the load has no entry beside its diagonal
+abbrev pub HasNoneBeside : List SquareOf → Type 0
+HasNoneBeside squares = (i j : ℕ) → i ≢ j → load_entry squares i j ≡ pos 0
+
+-- one of the two
+abbrev pub IsLight : NetworkOf → ℤ → List SquareOf → Type 0
+IsLight network alpha squares = IsNear network alpha squares ⊎ HasNoneBeside squares
+
+-- ---- two plans whose first rows agree
+
+-- the normal matrices of two plans have the same entries in the rows of the unknowns at the first places, so many of them
+abbrev pub AgreeOnFirst : ℕ → NetworkOf → List Bool → List Bool → List SquareOf → Type 0
+AgreeOnFirst count network plan other squares =
+    (place unknown j : ℕ) → place < count → slice_get (order_of (length network.unknowns) squares) place ≡ Some unknown →
+    normal_entry network.candidates plan unknown j ≡ normal_entry network.candidates other unknown j

@@ -55,6 +55,7 @@ pub fn take_exponents(exponents: &mut [i32], network: &Network, alpha: i64)
     requires size { length exponents.old ≤ 64 }
     ensures { exponents.new ≡ map (exponent_at network.now.candidates alpha) (range_with_len 0 (length exponents.old)) }
 {
+    // The network's bounds, for the proof.
     let _bounds = network.candidates();
     for unknown in 0..exponents.len() {
         let diagonal = full_diagonal(network, unknown as u32);

@@ -66,6 +66,7 @@ pub fn form_entry(
     requires column { j < length network.now.unknowns }
     ensures { result ≡ form_of network.now.candidates normal.now.plan alpha squares.now i j }
 {
+    // The network's bounds, for the proof.
     let _bounds = network.candidates();
     alpha as i128 * normal.entry(i, j) - load_at(squares, i, j)
 }

@@ -52,6 +52,7 @@ impl LimitGrid {
         requires limit { IsLoad (length network.now.unknowns) network.now.candidates alpha squares.now }
         ensures { self.new ≡ grid_of network.now alpha squares.now }
     {
+        // The network's bounds, for the proof.
         let _bounds = network.candidates();
         take_order(self.order.as_mut_slice(), squares);
         take_exponents(self.exponents.as_mut_slice(), network, alpha);

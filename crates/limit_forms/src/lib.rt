@@ -13,7 +13,8 @@ mod tests;
 pub use form::form_entry;
 pub use grid::LimitGrid;
 pub use laws::{
-    form_is_energy_less_load, grid_matrices_are_small, grid_matrices_surround_the_form,
-    grid_verdicts_decide_limits,
+    entries_beside_the_diagonal_are_small, first_grid_rows_depend_on_their_entries,
+    form_is_energy_less_load, grid_chains_stay_low, grid_matrices_are_small,
+    grid_matrices_surround_the_form, grid_verdicts_decide_limits,
 };
 pub use row::grid_row;

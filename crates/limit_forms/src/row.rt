@@ -33,8 +33,9 @@ fn grid_entry(
     requires inside { column < length network.now.unknowns }
     ensures floor { result.0 ≡ floor_over grid_step (at (row_at (on_grid network.now normal.now.plan alpha squares.now) row) (column - row)) }
     ensures whole { gap_over grid_step (at (row_at (on_grid network.now normal.now.plan alpha squares.now) row) (column - row)) ≡ (if result.1 then pos 0 else pos 1) }
-    ensures size { unsigned_abs result.0 ≤ 2 ^ 109 }
+    ensures size { unsigned_abs result.0 < 2 ^ 109 }
 {
+    // The network's bounds, for the proof.
     let _bounds = network.candidates();
     let first = grid.unknown(row);
     let second = grid.unknown(column);
@@ -135,6 +136,7 @@ pub fn grid_row(
     ensures lower { lower.new ≡ row_at (lower_grid network.now normal.now.plan alpha squares.now) k }
     ensures upper { upper.new ≡ row_at (upper_grid network.now normal.now.plan alpha squares.now) k }
 {
+    // The network's bounds, for the proof.
     let _bounds = network.candidates();
     let left = slack_above(network, normal, grid, alpha, squares, k);
     let right = write_right(network, normal, grid, alpha, squares, k, lower, upper);

@@ -1,5 +1,5 @@
 -- The places of open nodes, and copies of plans.
-use Rattle.std.proofs.Common.{◌≡◌, ℕ, zero, suc, ◌+◌, ◌-◌, ◌<◌, ◌≤◌, Bool, true, false, List, [], ◌∷◌, ◌++◌, length, replicate, get_or, take, drop, All, Some, eqb, arith, refl, ap, sym, ◌∙◌, subst}
+use Rattle.std.proofs.Common.{◌≡◌, ℕ, ◌+◌, ◌-◌, ◌<◌, ◌≤◌, Bool, true, false, List, [], ◌∷◌, ◌++◌, length, replicate, get_or, take, drop, All, Some, eqb, arith, refl, ap, sym, ◌∙◌, subst}
 use Rattle.std.specs.Prelude.{slice_get, slice_set}
 use Rattle.std.proofs.lemmas.Bool.{eqb-true, eq-eqb}
 use Rattle.std.proofs.lemmas.List.{take_more_set, take_more, drop_more, get_or-replicate, length-replicate, length-drop, length-set, drop-set}
@@ -9,10 +9,14 @@ use Rattle.std.proofs.Math.ListN.{drop_of_length-le}
 use Rattle.std.proofs.Math.Seq.{take-length}
 use Rattle.geo_model.specs.declared.plan.Node.{Node}
 use Rattle.geo_model.specs.Network.{NetworkOf}
-use Rattle.bound_log.specs.LogTree.{with_chosen, without_chosen, IsOpenAt, IsAllowedLine}
+use Rattle.geo_model.specs.Nodes.{all_plans}
+use Rattle.bound_log.specs.LogTree.{with_chosen, without_chosen, IsAllowedLine}
+use Rattle.bound_log.specs.OpenCount.{open_count}
 use Rattle.bound_log.specs.Tree.{LineOf, split, leaf}
+use Rattle.bound_log.proofs.AllowedLemmas.{split_open}
+use Rattle.bound_log.proofs.OpenLemmas.{open_count-root, open_count-with, open_count-without, open_below}
 use Rattle.bound_log.proofs.SoundLemmas.{at_place}
-use Rattle.log_check.specs.Places.{OpenOf, HasEntries, ArePlaces, all_plans, open_count, HasRoom, IsReady}
+use Rattle.log_check.specs.Places.{OpenOf, HasEntries, ArePlaces, HasRoom, IsReady}
 use Rattle.log_check.specs.Running.{opened, LeadsTo}
 
 -- ---- copies of plans
@@ -127,37 +131,11 @@ places_split count places now node spare spare_now free candidate are before her
 
 -- ---- room for the nodes of lines
 
-open_count-root : (n : ℕ) → open_count (replicate n false) (replicate n true) ≡ n
-open_count-root zero = refl
-open_count-root (suc n) = ap suc (open_count-root n)
-
--- the child that chooses an open candidate leaves one less open
-open_count-with : (inside upper : List Bool) (i : ℕ) → slice_get upper i ≡ Some true → slice_get inside i ≡ Some false → open_count (slice_set inside i true) upper < open_count inside upper
-open_count-with [] upper i is_open out = absurd (cc)
-open_count-with (x ∷ inside) [] i is_open out = absurd (cc)
-open_count-with (true ∷ inside) (y ∷ upper) zero is_open out = absurd (cc)
-open_count-with (false ∷ inside) (false ∷ upper) zero is_open out = absurd (cc)
-open_count-with (false ∷ inside) (true ∷ upper) zero is_open out = omega arith
-open_count-with (true ∷ inside) (y ∷ upper) (suc i) is_open out = open_count-with inside upper i is_open out
-open_count-with (false ∷ inside) (true ∷ upper) (suc i) is_open out = omega (arith, open_count-with inside upper i is_open out)
-open_count-with (false ∷ inside) (false ∷ upper) (suc i) is_open out = open_count-with inside upper i is_open out
-
--- and so does the child that leaves it out
-open_count-without : (inside upper : List Bool) (i : ℕ) → slice_get upper i ≡ Some true → slice_get inside i ≡ Some false → open_count inside (slice_set upper i false) < open_count inside upper
-open_count-without [] upper i is_open out = absurd (cc)
-open_count-without (x ∷ inside) [] i is_open out = absurd (cc)
-open_count-without (true ∷ inside) (y ∷ upper) zero is_open out = absurd (cc)
-open_count-without (false ∷ inside) (false ∷ upper) zero is_open out = absurd (cc)
-open_count-without (false ∷ inside) (true ∷ upper) zero is_open out = omega arith
-open_count-without (true ∷ inside) (y ∷ upper) (suc i) is_open out = open_count-without inside upper i is_open out
-open_count-without (false ∷ inside) (true ∷ upper) (suc i) is_open out = omega (arith, open_count-without inside upper i is_open out)
-open_count-without (false ∷ inside) (false ∷ upper) (suc i) is_open out = open_count-without inside upper i is_open out
-
 room_after : (network : NetworkOf) (count : ℕ) (node : Node) (rest : List Node) (line : LineOf) → HasRoom count (node ∷ rest) → IsAllowedLine network node line → HasRoom count (opened node line ++ rest)
 room_after network count node rest (split candidate) room allowed = (
   with_long count node candidate room.0,
-  omega (arith, room.1, open_count-with node.inside node.upper candidate allowed.in_upper allowed.not_inside),
-  (without_long count node candidate room.0, omega (arith, room.1, open_count-without node.inside node.upper candidate allowed.in_upper allowed.not_inside), room.2),
+  omega (arith, room.1, open_count-with node.inside node.upper candidate allowed.is_open.0 allowed.is_open.1),
+  (without_long count node candidate room.0, omega (arith, room.1, open_count-without node.inside node.upper candidate allowed.is_open.0 allowed.is_open.1), room.2),
 )
 room_after network count node rest (leaf end) room allowed = room.2
 
@@ -170,10 +148,6 @@ room_along network count (node ∷ nodes) final (x ∷ lines) room leads =
 pub room_at_root : (count : ℕ) → HasRoom count (all_plans count ∷ [])
 room_at_root count = let all : open_count (replicate count false) (replicate count true) ≡ count = open_count-root count in (all_plans_long count, omega arith, tt)
 
--- where a candidate is open, a place is free
-pub open_below : (inside upper : List Bool) (i : ℕ) → slice_get upper i ≡ Some true → slice_get inside i ≡ Some false → 0 < open_count inside upper
-open_below inside upper i is_open out = omega (arith, open_count-with inside upper i is_open out)
-
 -- the next node of a network
 pub next_long : (network : NetworkOf) (stack : OpenOf) (node : Node) (rest : List Node) → IsReady network stack → stack.nodes ≡ node ∷ rest → HasEntries (length network.candidates) node
 next_long network stack node rest ready is = let room : HasRoom (length network.candidates) (node ∷ rest) = subst (HasRoom (length network.candidates)) is ready.room in room.0
@@ -184,10 +158,10 @@ pub record SplitFits (network : NetworkOf) (stack : OpenOf) (candidate : ℕ) : 
   pub within : candidate < stack.candidates
   pub small : candidate < 256
 
-pub split_fits : (network : NetworkOf) (stack : OpenOf) (candidate : ℕ) → IsReady network stack → 0 < length stack.nodes → ((node : Node) (rest : List Node) → stack.nodes ≡ node ∷ rest → IsOpenAt network node candidate) → SplitFits network stack candidate
+pub split_fits : (network : NetworkOf) (stack : OpenOf) (candidate : ℕ) → IsReady network stack → 0 < length stack.nodes → ((node : Node) (rest : List Node) → stack.nodes ≡ node ∷ rest → IsAllowedLine network node (split candidate)) → SplitFits network stack candidate
 split_fits network stack candidate ready some allowed =
     let top = head_tail stack.nodes some in
-    let here = allowed top.first top.rest top.is in
+    let here = split_open network top.first candidate (allowed top.first top.rest top.is) in
     let room : HasRoom (length network.candidates) (top.first ∷ top.rest) = subst (HasRoom (length network.candidates)) top.is ready.room in
     let one : 0 < open_count top.first.inside top.first.upper = open_below top.first.inside top.first.upper candidate here.in_upper here.not_inside in
     let long : length stack.nodes ≡ length (top.first ∷ top.rest) = ap length top.is in

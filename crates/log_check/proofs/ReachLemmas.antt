@@ -1,33 +1,33 @@
 -- How far the text of a log has been taken, and where it stops.
-use Rattle.std.proofs.Common.{◌≡◌, ℕ, ◌+◌, ◌-◌, ◌^◌, ◌<◌, ◌≤◌, min, cond, if◌then◌else◌, Bool, true, false, List, [], ◌∷◌, ◌++◌, length, flat_map, All, arith, refl, ap, sym, ◌∙◌, subst, append-nil, append_assoc}
-use Rattle.std.specs.Prelude.{count_by}
+use Rattle.std.proofs.Common.{◌≡◌, ℕ, ◌+◌, ◌<◌, ◌≤◌, if◌then◌else◌, Bool, true, false, List, [], ◌∷◌, ◌++◌, length, flat_map, All, arith, refl, ap, sym, ◌∙◌, subst, append-nil, append_assoc}
 use Rattle.std.proofs.lemmas.Grind.{flat_map-append}
 use Rattle.std.proofs.lemmas.List.{length-append}
 use Rattle.std.proofs.lemmas.List.Elements.{All-head, All-from_recursion}
-use Rattle.std.proofs.lemmas.List.Sums.{sum_by-append, sum_by-cons}
 use Rattle.lent_parts.specs.Pieces.{TextLineOf, is_line_feed, line_feed, lines_of, line_bytes}
 use Rattle.lent_parts.proofs.PieceLemmas.{lines_of-joined, lines_of-lack, lines_of-unended, lines_of-more}
 use Rattle.geo_model.specs.Network.{NetworkOf}
 use Rattle.geo_model.specs.declared.answer.Counts.{Counts}
 use Rattle.geo_model.specs.declared.plan.Node.{Node}
 use Rattle.bound_log.specs.Bound.{lesser}
-use Rattle.bound_log.specs.Counted.{counted, counts_of, is_split, is_cost, is_pivot}
+use Rattle.bound_log.specs.Counted.{counts_of, counts_with}
 use Rattle.bound_log.specs.Grammar.{IsLine, text_line}
-use Rattle.bound_log.specs.LogText.{head_text, line_end, line_text, lines_text}
+use Rattle.bound_log.specs.LogText.{head_body, head_text, line_end, line_text, lines_text}
 use Rattle.bound_log.specs.LogTree.{root_of, IsAllowedLine}
 use Rattle.bound_log.specs.Tree.{LineOf, split, leaf, cost, pivot}
+use Rattle.bound_log.proofs.BoundLemmas.{lesser_none}
+use Rattle.bound_log.proofs.CountLemmas.{counts_of-then}
 use Rattle.bound_log.proofs.GrammarLemmas.{IsLine-body, lines_of-line_text}
 use Rattle.log_check.specs.declared.fault.LogKind.{LogKind}
 use Rattle.log_check.specs.declared.fault.LogKind.TheVariants.{Form, Short}
 use Rattle.log_check.specs.declared.progress.Progress.{Progress}
 use Rattle.log_check.specs.FirstFault.{IsWhole, BeginsWithLine, IsFaultAfter, extra, short, form, rule, IsFirstFault, headless, later}
 use Rattle.log_check.specs.Places.{IsReady}
-use Rattle.log_check.specs.Reaching.{head_body, head_line, Reaches, EndsWhole}
+use Rattle.log_check.specs.Reaching.{head_line, Reaches, EndsWhole}
 use Rattle.log_check.specs.Replayed.{IsReplayed}
 use Rattle.log_check.specs.Running.{line_bound, LeadsTo, bound_along, StandsAt}
-use Rattle.log_check.specs.Taking.{raised, counts_with, Takes, TakesText, Stops, no_node, no_line, no_rule}
+use Rattle.log_check.specs.Taking.{Takes, TakesText, Stops, no_node, no_line, no_rule}
 use Rattle.log_check.proofs.PlaceLemmas.{room_along, room_at_root}
-use Rattle.log_check.proofs.RunLemmas.{lesser_none, LeadsTo-then, bound_along-then, one_final, leads_begins, whole_leads, leads_whole, leads_stands, whole_tree}
+use Rattle.log_check.proofs.RunLemmas.{LeadsTo-then, bound_along-then, one_final, leads_begins, whole_leads, leads_whole, leads_stands, whole_tree}
 
 -- ---- the next line of a text
 
@@ -81,25 +81,6 @@ reaches_start network text walk progress are count stands =
 
 -- ---- one more line
 
-raised_is : (passes : Bool) (n total : ℕ) → total ≡ n + cond passes 1 0 → raised (min n (2 ^ 64 - 1)) passes ≡ min total (2 ^ 64 - 1)
-raised_is true n total is = omega arith
-raised_is false n total is = omega arith
-
-counted_more : (test : LineOf → Bool) (lines : List LineOf) (line : LineOf) → raised (counted test lines) (test line) ≡ counted test (lines ++ line ∷ [])
-counted_more test lines line =
-    let all : count_by test (lines ++ line ∷ []) ≡ count_by test lines + count_by test (line ∷ []) = sum_by-append (λ l. cond (test l) 1 0) lines (line ∷ []) in
-    let one : count_by test (line ∷ []) ≡ cond (test line) 1 0 + count_by test [] = sum_by-cons (λ l. cond (test l) 1 0) line [] in
-    let none : count_by test [] ≡ 0 = refl in
-    raised_is (test line) (count_by test lines) (count_by test (lines ++ line ∷ [])) (omega arith)
-
-counts_more : (lines : List LineOf) (line : LineOf) → counts_with (counts_of lines) line ≡ counts_of (lines ++ line ∷ [])
-counts_more lines line =
-    let now : List LineOf = lines ++ line ∷ [] in
-    let made : ℕ → ℕ → ℕ → Counts = λ s c p. record { splits = s; costs = c; pivots = p; cuts = 0; duals = 0 } in
-    ap (λ (n : ℕ). made n (raised (counted is_cost lines) (is_cost line)) (raised (counted is_pivot lines) (is_pivot line))) (counted_more is_split lines line)
-    ∙ ap (λ (n : ℕ). made (counted is_split now) n (raised (counted is_pivot lines) (is_pivot line))) (counted_more is_cost lines line)
-    ∙ ap (λ (n : ℕ). made (counted is_split now) (counted is_cost now) n) (counted_more is_pivot lines line)
-
 stands_next : (network : NetworkOf) (lines : List LineOf) (node : Node) (rest : List Node) (line : LineOf) (before now : Progress) → StandsAt network lines before.stack.nodes before.bound before.counts → before.stack.nodes ≡ node ∷ rest → IsAllowedLine network node line → Takes node rest line (line_bound network node line) before now → StandsAt network (lines ++ line ∷ []) now.stack.nodes now.bound now.counts
 stands_next network lines node rest line before now stands top allowed takes =
     let root : List Node = root_of network ∷ [] in
@@ -109,7 +90,7 @@ stands_next network lines node rest line before now stands top allowed takes =
       least = takes.least
           ∙ ap (λ b. lesser b (line_bound network node line)) stands.least
           ∙ sym (bound_along-then network root (node ∷ rest) lines (line ∷ []) first ∙ ap (lesser (bound_along network root lines)) (lesser_none (line_bound network node line)));
-      counted = takes.counted ∙ ap (λ (c : Counts). counts_with c line) stands.counted ∙ counts_more lines line;
+      counted = takes.counted ∙ ap (λ (c : Counts). counts_with c (line ∷ [])) stands.counted ∙ counts_of-then lines (line ∷ []);
     }
 
 pub reaches_next : (network : NetworkOf) (text : List ℕ) (line : TextLineOf) (more : List TextLineOf) (before now : Progress) (number : ℕ) → Reaches network text (line ∷ more) before number → TakesText network line.text line.ended before now → Reaches network text more now (number + 1)

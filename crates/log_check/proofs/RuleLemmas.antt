@@ -1,5 +1,5 @@
 -- The rules of a line, and whether it is allowed.
-use Rattle.std.proofs.Common.{◌≡◌, ℕ, zero, suc, ◌<◌, ◌≤◌, true, false, List, [], ◌∷◌, ◌++◌, length, All, Some, arith, refl, sym, ◌∙◌, subst}
+use Rattle.std.proofs.Common.{◌≡◌, ℕ, ◌<◌, ◌≤◌, true, false, List, [], ◌∷◌, ◌++◌, length, All, Some, arith, refl, sym, ◌∙◌, subst}
 use Rattle.std.specs.Prelude.{slice_get}
 use Rattle.std.proofs.lemmas.List.Elements.{All-nil, All-cons, All-head, All-tail}
 use Rattle.std.proofs.lemmas.Option.{slice_get_within}
@@ -8,67 +8,24 @@ use Rattle.geo_model.specs.Network.{NetworkOf}
 use Rattle.geo_model.specs.declared.plan.Node.{Node}
 use Rattle.geo_model.specs.declared.verdict.Verdict.TheVariants.{Refuted}
 use Rattle.pivot_chain.specs.Verdict.{verdict_of}
-use Rattle.bound_log.specs.LogTree.{IsAllowedLine}
-use Rattle.bound_log.specs.Tree.{LineOf, split, leaf, cost, pivot}
+use Rattle.bound_log.specs.LogTree.{IsInRange, IsOpenFor, IsAllowedLine}
+use Rattle.bound_log.specs.Tree.{LineOf, split, leaf, pivot}
+use Rattle.bound_log.proofs.AllowedLemmas.{same_limit}
 use Rattle.log_check.specs.declared.fault.LogKind.{LogKind}
 use Rattle.log_check.specs.declared.fault.LogKind.TheVariants.{Range, NotOpen, Owner, NotRefuted}
-use Rattle.log_check.specs.Rules.{IsInRange, IsOpenFor, IsOwned, IsRefuted, KeepsRule, rule_order, IsFirstBroken}
+use Rattle.log_check.specs.Rules.{KeepsRule, rule_order, IsFirstBroken}
 
 -- ---- an allowed line keeps each rule
-
-same_limit : (limits : List LimitOf) (number : ℕ) (a b : LimitOf) → slice_get limits number ≡ Some a → slice_get limits number ≡ Some b → a ≡ b
-same_limit limits number a b named also = let same : Some a ≡ Some b = sym named ∙ also in cc
-
-in_range : (network : NetworkOf) (node : Node) (line : LineOf) → IsAllowedLine network node line → IsInRange network line
-in_range network node (split candidate) allowed = allowed.in_range
-in_range network node (leaf cost) allowed = tt
-in_range network node (leaf (pivot number)) allowed = slice_get_within network.limits number allowed.limit allowed.named
-
-open_for : (network : NetworkOf) (node : Node) (line : LineOf) → IsAllowedLine network node line → IsOpenFor node line
-open_for network node (split candidate) allowed = (allowed.in_upper, allowed.not_inside)
-open_for network node (leaf end) allowed = tt
-
-owned : (network : NetworkOf) (node : Node) (line : LineOf) → IsAllowedLine network node line → IsOwned network node line
-owned network node (split candidate) allowed = tt
-owned network node (leaf cost) allowed = tt
-owned network node (leaf (pivot number)) allowed = λ limit named.
-    subst (λ (l : LimitOf). IsInForce l node.inside) (same_limit network.limits number allowed.limit limit allowed.named named) allowed.owned
-
-refuted : (network : NetworkOf) (node : Node) (line : LineOf) → IsAllowedLine network node line → IsRefuted network node line
-refuted network node (split candidate) allowed = tt
-refuted network node (leaf cost) allowed = tt
-refuted network node (leaf (pivot number)) allowed = λ limit named.
-    subst (λ (l : LimitOf). verdict_of network node.upper l ≡ Refuted) (same_limit network.limits number allowed.limit limit allowed.named named) allowed.refuted
 
 pub allowed_keeps : (network : NetworkOf) (node : Node) (line : LineOf) → IsAllowedLine network node line → All (KeepsRule network node line) rule_order
 allowed_keeps network node line allowed =
     let P : LogKind → Type 0 = KeepsRule network node line in
-    All-cons P Range (NotOpen ∷ Owner ∷ NotRefuted ∷ []) (in_range network node line allowed)
-    (All-cons P NotOpen (Owner ∷ NotRefuted ∷ []) (open_for network node line allowed)
-    (All-cons P Owner (NotRefuted ∷ []) (owned network node line allowed)
-    (All-cons P NotRefuted [] (refuted network node line allowed) (All-nil P))))
+    All-cons P Range (NotOpen ∷ Owner ∷ NotRefuted ∷ []) allowed.in_range
+    (All-cons P NotOpen (Owner ∷ NotRefuted ∷ []) allowed.is_open
+    (All-cons P Owner (NotRefuted ∷ []) allowed.owned
+    (All-cons P NotRefuted [] allowed.refuted (All-nil P))))
 
 -- ---- a line that keeps each rule is allowed
-
--- the element at a place within a list
-pub record Found {X : Type 0} (xs : List X) (i : ℕ) : Type 0 where
-  pub item : X
-  pub named : slice_get xs i ≡ Some item
-
-pub item_at : {X : Type 0} (xs : List X) (i : ℕ) → i < length xs → Found xs i
-item_at [] i inside = absurd (omega arith)
-item_at (x ∷ xs) zero inside = record { item = x; named = refl }
-item_at (x ∷ xs) (suc i) inside =
-    let below : i < length xs = omega arith in
-    let found = item_at xs i below in
-    record { item = found.item; named = found.named }
-
-pub rules_allow : (network : NetworkOf) (node : Node) (line : LineOf) → IsInRange network line → IsOpenFor node line → IsOwned network node line → IsRefuted network node line → IsAllowedLine network node line
-rules_allow network node (split candidate) within is_open has_owner is_refuted = record { in_range = within; in_upper = is_open.0; not_inside = is_open.1 }
-rules_allow network node (leaf cost) within is_open has_owner is_refuted = tt
-rules_allow network node (leaf (pivot number)) within is_open has_owner is_refuted =
-    let found = item_at network.limits number within in
-    record { limit = found.item; named = found.named; owned = has_owner found.item found.named; refuted = is_refuted found.item found.named }
 
 pub keeps_allowed : (network : NetworkOf) (node : Node) (line : LineOf) → All (KeepsRule network node line) rule_order → IsAllowedLine network node line
 keeps_allowed network node line all =
@@ -76,11 +33,12 @@ keeps_allowed network node line all =
     let after_range = All-tail P Range (NotOpen ∷ Owner ∷ NotRefuted ∷ []) all in
     let after_open = All-tail P NotOpen (Owner ∷ NotRefuted ∷ []) after_range in
     let after_owner = All-tail P Owner (NotRefuted ∷ []) after_open in
-    rules_allow network node line
-    (All-head P Range (NotOpen ∷ Owner ∷ NotRefuted ∷ []) all)
-    (All-head P NotOpen (Owner ∷ NotRefuted ∷ []) after_range)
-    (All-head P Owner (NotRefuted ∷ []) after_open)
-    (All-head P NotRefuted [] after_owner)
+    record {
+      in_range = All-head P Range (NotOpen ∷ Owner ∷ NotRefuted ∷ []) all;
+      is_open = All-head P NotOpen (Owner ∷ NotRefuted ∷ []) after_range;
+      owned = All-head P Owner (NotRefuted ∷ []) after_open;
+      refuted = All-head P NotRefuted [] after_owner;
+    }
 
 -- ---- the first broken rule
 

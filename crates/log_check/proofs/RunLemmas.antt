@@ -1,30 +1,19 @@
 -- Lines of logs and the open nodes that they lead to.
-use Rattle.std.proofs.Common.{◌≡◌, ℕ, ◌<◌, ◌≤◌, List, [], ◌∷◌, ◌++◌, length, map, All, min, arith, refl, ap, sym, ◌∙◌, subst, append-nil, append_assoc}
+use Rattle.std.proofs.Common.{◌≡◌, ℕ, List, [], ◌∷◌, ◌++◌, map, All, refl, ap, sym, ◌∙◌, subst, append-nil, append_assoc}
 use Rattle.std.proofs.lemmas.List.Elements.{All-nil, All-cons}
-use Rattle.std.proofs.lemmas.Option.{slice_get_within}
 use Rattle.geo_model.specs.Network.{NetworkOf, IsNetwork}
 use Rattle.geo_model.specs.declared.plan.Node.{Node}
 use Rattle.bound_log.specs.declared.bound.Bound.{Bound}
-use Rattle.bound_log.specs.declared.bound.Bound.TheVariants.{NoPlan, AtLeast}
+use Rattle.bound_log.specs.declared.bound.Bound.TheVariants.{NoPlan}
 use Rattle.bound_log.specs.Bound.{lesser}
 use Rattle.bound_log.specs.Grammar.{HasNumbersBelow, number_bound}
 use Rattle.bound_log.specs.LogTree.{root_of, with_chosen, without_chosen, IsAllowed, IsAllowedLine, leaf_bound, bound_at}
 use Rattle.bound_log.specs.Placed.{placed}
-use Rattle.bound_log.specs.Tree.{LineOf, split, leaf, cost, pivot, Tree, fork, tip, tree_lines}
+use Rattle.bound_log.specs.Tree.{LineOf, split, leaf, cost, Tree, fork, tip, tree_lines}
+use Rattle.bound_log.proofs.AllowedLemmas.{cost_allowed, line_numbers}
+use Rattle.bound_log.proofs.BoundLemmas.{lesser_none, lesser_assoc}
 use Rattle.log_check.specs.FirstFault.{LogBegins, IsWhole, StandsNext}
 use Rattle.log_check.specs.Running.{opened, line_bound, LeadsTo, bound_along}
-
--- ---- bounds
-
-pub lesser_none : (a : Bound) → lesser a NoPlan ≡ a
-lesser_none NoPlan = refl
-lesser_none (AtLeast x) = refl
-
-pub lesser_assoc : (a b c : Bound) → lesser (lesser a b) c ≡ lesser a (lesser b c)
-lesser_assoc NoPlan b c = refl
-lesser_assoc (AtLeast x) NoPlan c = refl
-lesser_assoc (AtLeast x) (AtLeast y) NoPlan = refl
-lesser_assoc (AtLeast x) (AtLeast y) (AtLeast z) = let same : min (min x y) z ≡ min x (min y z) = omega arith in ap AtLeast same
 
 -- ---- one after another
 
@@ -181,7 +170,7 @@ leaves (node ∷ nodes) = tip cost ∷ leaves nodes
 
 leaves_allowed : (network : NetworkOf) (nodes : List Node) → IsForest network nodes (leaves nodes)
 leaves_allowed network [] = tt
-leaves_allowed network (node ∷ nodes) = (tt, leaves_allowed network nodes)
+leaves_allowed network (node ∷ nodes) = (cost_allowed network node, leaves_allowed network nodes)
 
 -- the tree of one node
 record OneTree (network : NetworkOf) (node : Node) (forest : List Tree) : Type 0 where
@@ -288,17 +277,6 @@ one_node network lines a b stands also =
     cc
 
 -- ---- numbers
-
-line_numbers : (network : NetworkOf) (node : Node) (line : LineOf) → IsNetwork network → IsAllowedLine network node line → HasNumbersBelow number_bound line
-line_numbers network node (split candidate) bounds allowed =
-    let inside : candidate < length network.candidates = allowed.in_range in
-    let few : length network.candidates ≤ 256 = bounds.candidates in
-    omega arith
-line_numbers network node (leaf cost) bounds allowed = tt
-line_numbers network node (leaf (pivot limit)) bounds allowed =
-    let inside : limit < length network.limits = slice_get_within network.limits limit allowed.limit allowed.named in
-    let few : length network.limits ≤ 20000 = bounds.limits in
-    omega arith
 
 pub lines_numbers : (network : NetworkOf) (nodes final : List Node) (lines : List LineOf) → IsNetwork network → LeadsTo network nodes lines final → All (HasNumbersBelow number_bound) lines
 lines_numbers network nodes final [] bounds leads = All-nil (HasNumbersBelow number_bound)

@@ -1,37 +1,18 @@
 -- Two readings of a text as lines and what is left.
-use Rattle.std.proofs.Common.{◌≡◌, ℕ, List, [], ◌∷◌, ◌++◌, All, refl, ap, ap₂, sym, ◌∙◌, subst, append_assoc}
-use Rattle.std.proofs.lemmas.List.{append_cancel_left}
+use Rattle.std.proofs.Common.{◌≡◌, ℕ, List, [], ◌∷◌, ◌++◌, All, refl, ap₂, sym, ◌∙◌, append_assoc}
 use Rattle.std.proofs.lemmas.List.Elements.{All-head, All-tail}
-use Rattle.lent_parts.specs.Pieces.{TextLineOf, lines_of}
-use Rattle.bound_log.specs.Grammar.{number_bound, HasNumbersBelow, IsLine, line_body}
+use Rattle.bound_log.specs.Grammar.{number_bound, HasNumbersBelow}
 use Rattle.bound_log.specs.LogText.{line_text, lines_text}
-use Rattle.bound_log.specs.Tree.{LineOf, split, leaf, cost, pivot}
-use Rattle.bound_log.proofs.GrammarLemmas.{IsLine-body, a_text_is_one, lines_of-line_text}
+use Rattle.bound_log.specs.Tree.{LineOf}
+use Rattle.bound_log.proofs.TreeLemmas.{SameStart, same_start, some_text}
 use Rattle.log_check.specs.FirstFault.{BeginsWithLine}
-
-abbrev first_text : List TextLineOf → List ℕ
-first_text [] = []
-first_text (line ∷ rest) = line.text
-
--- what begins with a line begins with no other, and goes on with one text
-pub record SameStart (a b : LineOf) (x y : List ℕ) : Type 0 where
-  pub line : a ≡ b
-  pub rest : x ≡ y
-
-same_start : (a b : LineOf) (x y : List ℕ) → HasNumbersBelow number_bound a → HasNumbersBelow number_bound b → line_text a ++ x ≡ line_text b ++ y → SameStart a b x y
-same_start a b x y small also same =
-    let body : line_body a ≡ line_body b = ap first_text (sym (lines_of-line_text a x small) ∙ ap lines_of same ∙ lines_of-line_text b y also) in
-    let line : a ≡ b = a_text_is_one (line_body a) a b (IsLine-body a small) (subst (λ (text : List ℕ). IsLine text b) (sym body) (IsLine-body b also)) in
-    record { line = line; rest = append_cancel_left (line_text a) x y (same ∙ ap (λ (l : LineOf). line_text l ++ y) (sym line)) }
 
 pub one_beginning : (text : List ℕ) (a b : LineOf) (x y : List ℕ) → BeginsWithLine text a x → BeginsWithLine text b y → SameStart a b x y
 one_beginning text a b x y first second = same_start a b x y first.numbers second.numbers (sym first.spelled ∙ second.spelled)
 
 -- a text that begins with a line isn't empty
 pub begins_some : (text : List ℕ) (line : LineOf) (left : List ℕ) → BeginsWithLine text line left → text ≡ [] → ⊥
-begins_some text (split candidate) left begins none = let same : [] ≡ line_text (split candidate) ++ left = sym none ∙ begins.spelled in absurd (cc)
-begins_some text (leaf cost) left begins none = let same : [] ≡ line_text (leaf cost) ++ left = sym none ∙ begins.spelled in absurd (cc)
-begins_some text (leaf (pivot limit)) left begins none = let same : [] ≡ line_text (leaf (pivot limit)) ++ left = sym none ∙ begins.spelled in absurd (cc)
+begins_some text line left begins none = some_text line left (sym none ∙ begins.spelled)
 
 -- of two readings one goes further, or they are the same
 pub data Order (xs ys : List LineOf) (x y : List ℕ) : Type 0 where

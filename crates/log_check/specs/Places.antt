@@ -1,16 +1,13 @@
--- The places of open nodes. This project's own layout.
-use Rattle.std.specs.Prelude.{◌≡◌, ℕ, suc, ◌+◌, ◌≤◌, Bool, true, false, List, [], ◌∷◌, length, replicate, All}
+-- The places of open nodes. This project's own; it serves the proof of the replay, and no public clause cites it.
+use Rattle.std.specs.Prelude.{◌≡◌, ℕ, ◌+◌, ◌≤◌, List, [], ◌∷◌, length, All}
 use Rattle.geo_model.specs.Network.{NetworkOf}
 use Rattle.geo_model.specs.declared.plan.Node.{Node}
+use Rattle.bound_log.specs.OpenCount.{open_count}
 
 -- what contracts see of the open nodes: for how many candidates they are, and the nodes, the next one first
 pub record OpenOf : Type 0 where
   pub candidates : ℕ
   pub nodes : List Node
-
--- the node of all plans of so many candidates
-abbrev pub all_plans : ℕ → Node
-all_plans count = record { inside = replicate count false; upper = replicate count true }
 
 -- the plans of a node have so many entries
 pub record HasEntries (count : ℕ) (node : Node) : Type 0 where
@@ -23,14 +20,6 @@ pub record ArePlaces (count : ℕ) (places : List Node) (spare : Node) (free : �
   pub within : free ≤ 257
   pub long : All (HasEntries count) places
   pub spare_long : HasEntries count spare
-
--- how many candidates a node leaves open
-abbrev pub open_count : List Bool → List Bool → ℕ
-open_count [] upper = 0
-open_count (x ∷ inside) [] = 0
-open_count (true ∷ inside) (y ∷ upper) = open_count inside upper
-open_count (false ∷ inside) (true ∷ upper) = suc (open_count inside upper)
-open_count (false ∷ inside) (false ∷ upper) = open_count inside upper
 
 -- Each node has an entry for each candidate. With those after it there are at most as many nodes as candidates that it
 -- doesn't leave open, and one more.

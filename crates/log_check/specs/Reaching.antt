@@ -1,15 +1,12 @@
--- How far the text of a log has been replayed. This project's own.
-use Rattle.std.specs.Prelude.{◌≡◌, ℕ, ◌+◌, true, List, [], ◌++◌, length, codes}
+-- How far the text of a log has been replayed. This project's own; it serves the proof of the replay, and no public
+-- clause cites it.
+use Rattle.std.specs.Prelude.{◌≡◌, ℕ, ◌+◌, true, List, [], ◌++◌, length}
 use Rattle.lent_parts.specs.Pieces.{TextLineOf, lines_of}
 use Rattle.geo_model.specs.Network.{NetworkOf}
-use Rattle.bound_log.specs.LogText.{head_text, lines_text}
+use Rattle.bound_log.specs.LogText.{head_body, head_text, lines_text}
 use Rattle.bound_log.specs.Tree.{LineOf}
 use Rattle.log_check.specs.declared.progress.Progress.{Progress}
 use Rattle.log_check.specs.Running.{StandsAt}
-
--- the first line of a log without its LF
-abbrev pub head_body : List ℕ
-head_body = codes "geoplan-log 1"
 
 -- the first line of a log, as it is cut from a text
 abbrev pub head_line : TextLineOf

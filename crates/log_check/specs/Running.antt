@@ -1,5 +1,5 @@
 -- What the replay keeps: the open nodes after lines, the next one first, and the bound of the leaves so far. This
--- project's own; the first fault is defined without it.
+-- project's own; it serves the proof of the replay, and no public clause cites it. The first fault is defined without it.
 use Rattle.std.specs.Prelude.{◌≡◌, List, [], ◌∷◌, ◌++◌}
 use Rattle.geo_model.specs.Network.{NetworkOf}
 use Rattle.geo_model.specs.declared.answer.Counts.{Counts}

@@ -1,11 +1,11 @@
--- What a line does to what the replay keeps, and how it can stop it. This project's own.
-use Rattle.std.specs.Prelude.{◌≡◌, ℕ, ◌+◌, ◌-◌, ◌^◌, min, if◌then◌else◌, Bool, true, List, [], ◌∷◌, ◌++◌}
+-- What a line does to what the replay keeps, and how it can stop it. This project's own; it serves the proof of the
+-- replay, and no public clause cites it.
+use Rattle.std.specs.Prelude.{◌≡◌, ℕ, Bool, true, List, [], ◌∷◌, ◌++◌}
 use Rattle.geo_model.specs.Network.{NetworkOf}
-use Rattle.geo_model.specs.declared.answer.Counts.{Counts}
 use Rattle.geo_model.specs.declared.plan.Node.{Node}
 use Rattle.bound_log.specs.declared.bound.Bound.{Bound}
 use Rattle.bound_log.specs.Bound.{lesser}
-use Rattle.bound_log.specs.Counted.{is_split, is_cost, is_pivot}
+use Rattle.bound_log.specs.Counted.{counts_with}
 use Rattle.bound_log.specs.Grammar.{IsLine}
 use Rattle.bound_log.specs.LogTree.{IsAllowedLine}
 use Rattle.bound_log.specs.Tree.{LineOf}
@@ -15,25 +15,17 @@ use Rattle.log_check.specs.declared.progress.Progress.{Progress}
 use Rattle.log_check.specs.Rules.{IsFirstBroken}
 use Rattle.log_check.specs.Running.{opened, line_bound}
 
--- one more where the test passes, up to the last value of a counter
-abbrev pub raised : ℕ → Bool → ℕ
-raised count passes = if passes then min (count + 1) (2 ^ 64 - 1) else count
-
--- the counts with one more line
-abbrev pub counts_with : Counts → LineOf → Counts
-counts_with before line = record {
-  splits = raised before.splits (is_split line);
-  costs = raised before.costs (is_cost line);
-  pivots = raised before.pivots (is_pivot line);
-  cuts = before.cuts;
-  duals = before.duals;
-}
-
 -- a line with this bound was taken at the next node, with these nodes after it
 pub record Takes (node : Node) (rest : List Node) (line : LineOf) (bound : Bound) (before now : Progress) : Type 0 where
   pub stack : now.stack ≡ record { candidates = before.stack.candidates; nodes = opened node line ++ rest }
   pub least : now.bound ≡ lesser before.bound bound
-  pub counted : now.counts ≡ counts_with before.counts line
+  pub counted : now.counts ≡ counts_with before.counts (line ∷ [])
+
+-- the next node was closed with this bound, and nothing was counted
+pub record EndsAt (rest : List Node) (bound : Bound) (before now : Progress) : Type 0 where
+  pub stack : now.stack ≡ record { candidates = before.stack.candidates; nodes = rest }
+  pub least : now.bound ≡ lesser before.bound bound
+  pub counted : now.counts ≡ before.counts
 
 -- the text is that of a line of the grammar with its LF, which is allowed at the next node and was taken there
 pub record TakesText (network : NetworkOf) (text : List ℕ) (ended : Bool) (before now : Progress) : Type 0 where

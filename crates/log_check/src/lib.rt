@@ -9,6 +9,7 @@ mod progress;
 mod replaying;
 mod rules;
 
+pub use bound_log::Bound;
 pub use fault::{LogFault, LogKind, ReplayAnswer};
 pub use laws::{each_text_has_one_verdict, rules_say_what_is_allowed};
 pub use replaying::{Replayed, replay};

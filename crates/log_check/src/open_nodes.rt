@@ -1,8 +1,9 @@
 //! The nodes of a log that are still open.
 ghost use Rattle.std.specs.Prelude.{◌≡◌, ◌+◌, ◌-◌, ◌↔◌, ◌<◌, List, [], ◌∷◌, Some, true, length, drop, slice_get, slice_set, All, IfOk, IsTrue};
+ghost use Rattle.geo_model.specs.Nodes.{all_plans};
 ghost use Rattle.geo_model.specs.declared.plan.Node.{Node as NodeOf};
 ghost use Rattle.bound_log.specs.LogTree.{with_chosen, without_chosen};
-ghost use Rattle.log_check.specs.Places.{HasEntries, all_plans};
+ghost use Rattle.log_check.specs.Places.{HasEntries};
 
 use geo_base::NoMemory;
 use geo_model::{Node, Plan};
@@ -37,17 +38,17 @@ impl Model for OpenNodes {
 }
 
 impl OpenNodes {
-    #[tactic(auto, using(crate::proofs::PlaceLemmas::places_made))]
     /// All places, with the node of all plans of `count` candidates open. Refused for want of memory
     /// alone.
+    #[tactic(auto, using(crate::proofs::PlaceLemmas::places_made))]
     pub fn new(alloc: Global, count: u32) -> Result<OpenNodes, NoMemory>
         ensures { IfOk result (λ made. made ≡ record { candidates = count; nodes = all_plans count ∷ [] }) }
     {
         let mut places = Vec::new(alloc);
         for _place in 0..NODE_PLACES {
-            places.push(whole_node(alloc, count)?)?;
+            places.push(Node::whole(alloc, count)?)?;
         }
-        let spare = whole_node(alloc, count)?;
+        let spare = Node::whole(alloc, count)?;
         Ok(OpenNodes {
             places,
             spare,
@@ -96,15 +97,6 @@ impl OpenNodes {
     }
 }
 
-// The node of all plans of so many candidates.
-fn whole_node(alloc: Global, count: u32) -> Result<Node, NoMemory>
-    ensures { IfOk result (λ node. node ≡ all_plans count) }
-{
-    let inside = Plan::empty(alloc, count)?;
-    let upper = Plan::full(alloc, count)?;
-    Ok(Node { inside, upper })
-}
-
 // Writes the children of the node at a place: the one that leaves the candidate out in its own place,
 // and the one that chooses it in the place before. The node that stood there becomes the spare one.
 fn split_place(places: &mut Vec<Node>, spare: &mut Node, at: usize, count: u32, candidate: u32)
@@ -143,8 +135,8 @@ fn leave_out(node: &mut Node, count: u32, candidate: u32)
     node.upper.set(candidate, false);
 }
 
-#[tactic(auto, using(crate::proofs::PlaceLemmas::copied_more, crate::proofs::PlaceLemmas::copied_all))]
 // Makes a plan the same as another one of as many candidates.
+#[tactic(auto, using(crate::proofs::PlaceLemmas::copied_more, crate::proofs::PlaceLemmas::copied_all))]
 fn copy_plan(from: &Plan, to: &mut Plan, count: u32)
     requires from { length from.now ≡ count }
     requires to { length to.old ≡ count }

@@ -1,19 +1,19 @@
 //! How far a replay has come.
 ghost use Rattle.std.specs.Prelude.{◌≡◌, ◌<◌, ◌≤◌, List, [], ◌∷◌, length, IfOk};
 ghost use Rattle.geo_model.specs.Energy.{cost_of};
+ghost use Rattle.geo_model.specs.Nodes.{all_plans};
 ghost use Rattle.geo_model.specs.declared.plan.Node.{Node as NodeOf};
 ghost use Rattle.bound_log.specs.declared.bound.Bound.TheVariants.{NoPlan, AtLeast};
 ghost use Rattle.bound_log.specs.Bound.{lesser};
 ghost use Rattle.bound_log.specs.Counted.{counts_of};
-ghost use Rattle.bound_log.specs.LogLines.{line_of};
+ghost use Rattle.bound_log.specs.LogLines.{log_line_of};
 ghost use Rattle.bound_log.specs.LogTree.{IsAllowedLine};
-ghost use Rattle.bound_log.specs.Tree.{split, leaf, cost as cost_leaf, pivot};
-ghost use Rattle.log_check.specs.Places.{IsReady, all_plans};
+ghost use Rattle.log_check.specs.Places.{IsReady};
 ghost use Rattle.log_check.specs.Running.{line_bound};
-ghost use Rattle.log_check.specs.Taking.{Takes};
+ghost use Rattle.log_check.specs.Taking.{EndsAt, Takes};
 
 use crate::open_nodes::OpenNodes;
-use bound_log::{Bound, LogLine};
+use bound_log::{Bound, LogLine, count_line};
 use geo_base::NoMemory;
 use geo_model::{Counts, Network, cost};
 use std::alloc::Global;
@@ -39,13 +39,7 @@ impl Progress {
         Ok(Progress {
             stack,
             bound: Bound::NoPlan,
-            counts: Counts {
-                splits: 0,
-                costs: 0,
-                pivots: 0,
-                cuts: 0,
-                duals: 0,
-            },
+            counts: Counts::none(),
         })
     }
 
@@ -53,50 +47,28 @@ impl Progress {
     pub fn take(&mut self, network: &Network, line: LogLine)
         requires ready { IsReady network.now self.old.stack }
         requires some { 0 < length self.old.stack.nodes }
-        requires allowed { (node : NodeOf) (rest : List NodeOf) → self.old.stack.nodes ≡ node ∷ rest → IsAllowedLine network.now node (line_of line) }
+        requires allowed { (node : NodeOf) (rest : List NodeOf) → self.old.stack.nodes ≡ node ∷ rest → IsAllowedLine network.now node (log_line_of line) }
         ensures { (node : NodeOf) (rest : List NodeOf) → self.old.stack.nodes ≡ node ∷ rest →
-            Takes node rest (line_of line) (line_bound network.now node (line_of line)) self.old self.new }
+            Takes node rest (log_line_of line) (line_bound network.now node (log_line_of line)) self.old self.new }
     {
+        count_line(&mut self.counts, line);
         match line {
-            LogLine::Split(candidate) => self.take_split(candidate as u32),
-            LogLine::Cost => self.take_cost(network),
-            LogLine::Pivot(limit) => self.take_pivot(limit),
+            LogLine::Split(candidate) => self.stack.split(candidate as u32),
+            LogLine::Cost => self.end_at_price(network),
+            LogLine::Pivot(_) => self.stack.pop(),
         }
     }
 
-    // Takes a split on a candidate.
-    fn take_split(&mut self, candidate: u32)
-        requires some { 0 < length self.old.stack.nodes }
-        requires few { length self.old.stack.nodes < 257 }
-        requires candidate { candidate < self.old.stack.candidates }
-        ensures { (node : NodeOf) (rest : List NodeOf) → self.old.stack.nodes ≡ node ∷ rest →
-            Takes node rest (split candidate) NoPlan self.old self.new }
-    {
-        self.stack.split(candidate);
-        self.counts.splits = self.counts.splits.saturating_add(1);
-    }
-
-    // Takes a leaf whose bound is the price of what is chosen.
-    fn take_cost(&mut self, network: &Network)
+    // Closes the next node, with the price of what it chooses as its bound.
+    fn end_at_price(&mut self, network: &Network)
         requires ready { IsReady network.now self.old.stack }
         requires some { 0 < length self.old.stack.nodes }
         ensures { (node : NodeOf) (rest : List NodeOf) → self.old.stack.nodes ≡ node ∷ rest →
-            Takes node rest (leaf cost_leaf) (AtLeast (cost_of network.now.candidates node.inside)) self.old self.new }
+            EndsAt rest (AtLeast (cost_of network.now.candidates node.inside)) self.old self.new }
     {
         let price = cost(network, &self.stack.top().inside);
         self.bound = lesser_bound(self.bound, u128::from(price));
         self.stack.pop();
-        self.counts.costs = self.counts.costs.saturating_add(1);
-    }
-
-    // Takes a leaf that a limit refutes.
-    fn take_pivot(&mut self, limit: u64)
-        requires some { 0 < length self.old.stack.nodes }
-        ensures { (node : NodeOf) (rest : List NodeOf) → self.old.stack.nodes ≡ node ∷ rest →
-            Takes node rest (leaf (pivot limit)) NoPlan self.old self.new }
-    {
-        self.stack.pop();
-        self.counts.pivots = self.counts.pivots.saturating_add(1);
     }
 }
 

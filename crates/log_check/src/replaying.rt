@@ -13,7 +13,7 @@ ghost use Rattle.log_check.specs.Taking.{TakesText, Stops};
 use crate::fault::{LogFault, LogKind, ReplayAnswer};
 use crate::progress::Progress;
 use crate::rules::broken_rule;
-use bound_log::{Bound, read_line};
+use bound_log::{Bound, is_head, read_line};
 use geo_model::{Counts, Network};
 use lent_parts::{LineWalk, lines};
 use pivot_chain::ChainRoom;
@@ -87,7 +87,7 @@ fn take_head(walk: &mut LineWalk<'_>) -> bool
     ensures other { OnFalse result ((rest : List TextLineOf) → walk.old ≡ head_line ∷ rest → ⊥) }
 {
     match walk.next() {
-        Some(line) => line.ended && line.text == b"geoplan-log 1".as_slice(),
+        Some(line) => line.ended && is_head(line.text),
         None => false,
     }
 }

@@ -1,17 +1,15 @@
 //! Whether a line is allowed at a node.
-ghost use Rattle.std.specs.Prelude.{◌≡◌, ◌↔◌, ◌<◌, length, IfSome, IfNone, IsTrue};
-ghost use Rattle.std.specs.Option.{ForSome};
-ghost use Rattle.geo_model.specs.Limit.{IsInForce};
+ghost use Rattle.std.specs.Prelude.{length, IfSome, IfNone};
 ghost use Rattle.pivot_chain.specs.Room.{IsRoomOf};
-ghost use Rattle.bound_log.specs.LogLines.{line_of};
-ghost use Rattle.bound_log.specs.LogTree.{IsAllowedLine, IsOpenAt, IsRefutedBy};
+ghost use Rattle.bound_log.specs.LogLines.{log_line_of};
+ghost use Rattle.bound_log.specs.LogTree.{IsAllowedLine};
 ghost use Rattle.bound_log.specs.Tree.{split, leaf, pivot};
 ghost use Rattle.log_check.specs.Places.{HasEntries};
 ghost use Rattle.log_check.specs.Rules.{IsFirstBroken};
 
 use crate::fault::LogKind;
 use bound_log::LogLine;
-use geo_model::{Limit, Network, Node, Plan, Verdict};
+use geo_model::{Network, Node, Verdict};
 use pivot_chain::{ChainRoom, verdict};
 
 /// The first rule that a line breaks at a node; `None` where it is allowed there. It takes no memory.
@@ -23,8 +21,8 @@ pub fn broken_rule(
 ) -> Option<LogKind>
     requires room { IsRoomOf network.now room.old }
     requires node { HasEntries (length network.now.candidates) node.now }
-    ensures broken { IfSome result (λ kind. IsFirstBroken network.now node.now (line_of line) kind) }
-    ensures allowed { IfNone result (IsAllowedLine network.now node.now (line_of line)) }
+    ensures broken { IfSome result (λ kind. IsFirstBroken network.now node.now (log_line_of line) kind) }
+    ensures allowed { IfNone result (IsAllowedLine network.now node.now (log_line_of line)) }
     ensures kept { IsRoomOf network.now room.new }
 {
     match line {
@@ -38,7 +36,7 @@ pub fn broken_rule(
 fn broken_by_split(network: &Network, node: &Node, candidate: u64) -> Option<LogKind>
     requires { HasEntries (length network.now.candidates) node.now }
     ensures broken { IfSome result (λ kind. IsFirstBroken network.now node.now (split candidate) kind) }
-    ensures allowed { IfNone result (IsOpenAt network.now node.now candidate) }
+    ensures allowed { IfNone result (IsAllowedLine network.now node.now (split candidate)) }
 {
     let candidates = network.candidates();
     if candidate >= candidates.len() as u64 {
@@ -64,7 +62,7 @@ fn broken_by_pivot(
     requires room { IsRoomOf network.now room.old }
     requires node { HasEntries (length network.now.candidates) node.now }
     ensures broken { IfSome result (λ kind. IsFirstBroken network.now node.now (leaf (pivot number)) kind) }
-    ensures allowed { IfNone result (IsRefutedBy network.now node.now number) }
+    ensures allowed { IfNone result (IsAllowedLine network.now node.now (leaf (pivot number))) }
     ensures kept { IsRoomOf network.now room.new }
 {
     let limits = network.limits();
@@ -72,22 +70,11 @@ fn broken_by_pivot(
         return Some(LogKind::Range);
     }
     let limit = &limits[number as usize];
-    if !is_in_force(limit, &node.inside) {
+    if !limit.is_in_force(&node.inside) {
         return Some(LogKind::Owner);
     }
     if verdict(room, network, &node.upper, number as u32) != Verdict::Refuted {
         return Some(LogKind::NotRefuted);
     }
     None
-}
-
-// Whether a limit is in force for a plan: it has no owner, or its owner is chosen.
-fn is_in_force(limit: &Limit, plan: &Plan) -> bool
-    requires { ForSome limit.now.owner (λ owner. owner < length plan.now) }
-    ensures { IsTrue result ↔ IsInForce limit.now plan.now }
-{
-    match limit.owner {
-        None => true,
-        Some(owner) => plan.has(owner),
-    }
 }

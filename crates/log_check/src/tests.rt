@@ -3,8 +3,7 @@
 ghost use Rattle.std.specs.Prelude.{◌≡◌, ◌≤◌, ◌^◌, [], ◌∷◌, pos, ◌≤ℤ◌, None, Some, IfOk};
 ghost use Rattle.geo_model.specs.declared.limit.LimitKind.TheVariants.{Height, Redundancy};
 
-use crate::{LogFault, LogKind, ReplayAnswer, Replayed, replay};
-use bound_log::Bound;
+use crate::{Bound, LogFault, LogKind, ReplayAnswer, Replayed, replay};
 use geo_base::NoMemory;
 use geo_model::{Candidate, Component, Counts, Limit, LimitKind, Network, Row, Square, Unknown};
 use std::alloc::Global;
@@ -110,9 +109,8 @@ fn accepted(bound: Bound, splits: u64, costs: u64, pivots: u64) -> Result<Replay
 fn logs_of_two_levels(rt: HostRuntime) -> Result<(), Fail> {
     let alloc = rt.alloc();
     let network = two_levels(alloc)?;
-    let whole = b"geoplan-log 1\ns 0\np 1\ns 1\np 2\np 0\n";
     assert_eq!(rt;
-        replay(alloc, &network, whole),
+        replay(alloc, &network, WHOLE),
         accepted(Bound::NoPlan, 2, 0, 3)
     );
     let first_cheaper = b"geoplan-log 1\ns 0\nc\ns 1\nc\np 0\n";
@@ -133,45 +131,46 @@ fn logs_of_two_levels(rt: HostRuntime) -> Result<(), Fail> {
     Ok(())
 }
 
+// A log of two levels.
+const WHOLE: &[u8] = b"geoplan-log 1\ns 0\np 1\ns 1\np 2\np 0\n";
+
+// What a replay of the front of a log says: its last line has no LF, or a node is open after it.
+fn cut_off(front: &[u8]) -> Result<Replayed, ReplayAnswer> {
+    let ended = front.iter().filter(|c| **c == b'\n').count() as u64;
+    if front.last() == Some(&b'\n') {
+        fault(ended + 1, LogKind::Short)
+    } else {
+        fault(ended + 1, LogKind::Form)
+    }
+}
+
 #[test]
 fn logs_that_are_cut_off(rt: HostRuntime) -> Result<(), Fail> {
-    let alloc = rt.alloc();
-    let network = two_levels(alloc)?;
-    let whole = b"geoplan-log 1\ns 0\np 1\ns 1\np 2\np 0\n".as_slice();
-    assert_eq!(rt; replay(alloc, &network, b""), fault(1, LogKind::Form));
+    let network = two_levels(rt.alloc())?;
+    for end in 0..WHOLE.len() {
+        let front = &WHOLE[..end];
+        assert_eq!(rt; replay(rt.alloc(), &network, front), cut_off(front));
+    }
+    Ok(())
+}
+
+#[test]
+fn logs_with_no_line_but_the_first(rt: HostRuntime) -> Result<(), Fail> {
+    let network = two_levels(rt.alloc())?;
+    assert_eq!(rt; replay(rt.alloc(), &network, b""), fault(1, LogKind::Form));
     assert_eq!(rt;
-        replay(alloc, &network, &whole[..13]),
+        replay(rt.alloc(), &network, b"geoplan-log 1"),
         fault(1, LogKind::Form)
     );
     assert_eq!(rt;
-        replay(alloc, &network, &whole[..14]),
+        replay(rt.alloc(), &network, b"geoplan-log 1\n"),
         fault(2, LogKind::Short)
-    );
-    assert_eq!(rt;
-        replay(alloc, &network, &whole[..18]),
-        fault(3, LogKind::Short)
-    );
-    assert_eq!(rt;
-        replay(alloc, &network, &whole[..22]),
-        fault(4, LogKind::Short)
-    );
-    assert_eq!(rt;
-        replay(alloc, &network, &whole[..26]),
-        fault(5, LogKind::Short)
-    );
-    assert_eq!(rt;
-        replay(alloc, &network, &whole[..30]),
-        fault(6, LogKind::Short)
-    );
-    assert_eq!(rt;
-        replay(alloc, &network, &whole[..33]),
-        fault(6, LogKind::Form)
     );
     Ok(())
 }
 
 // Texts that are no log of two levels: the line and the kind of the first fault.
-const FAULTS: [(&[u8], u64, LogKind); 17] = [
+const FAULTS: [(&[u8], u64, LogKind); 20] = [
     (
         b"geoplan-log 1\ns 0\np 1\ns 1\np 2\np 0\nc\n",
         7,
@@ -189,7 +188,10 @@ const FAULTS: [(&[u8], u64, LogKind); 17] = [
     (b"geoplan-log 1\ns 2\n", 2, LogKind::Range),
     (b"geoplan-log 1\np 3\n", 2, LogKind::Range),
     (b"geoplan-log 1\ns 9999999999999999999\n", 2, LogKind::Range),
+    (b"geoplan-log 1\np 9999999999999999999\n", 2, LogKind::Range),
     (b"geoplan-log 1\ns 10000000000000000000\n", 2, LogKind::Form),
+    (b"geoplan-log 1\np 10000000000000000000\n", 2, LogKind::Form),
+    (b"geoplan-log 1\np 00\n", 2, LogKind::Form),
     (b"geoplan-log 1\ns 00\n", 2, LogKind::Form),
     (b"geoplan-log 1\ns  0\n", 2, LogKind::Form),
     (b"geoplan-log 1\ns 0\r\n", 2, LogKind::Form),

@@ -6,3 +6,4 @@ pub mod NetworkFacts
 pub mod StepFacts
 pub mod EntryFacts
 pub mod PartFacts
+pub mod GridFacts

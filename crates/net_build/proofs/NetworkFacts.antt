@@ -80,10 +80,10 @@ all-own-rows n candidates all = λ k d inside.
 -- ---- the limits
 
 -- those of the candidates' redundancy, where q is not 0
-abbrev owned_limits : ℕ → List CandidateOf → List LimitOf
+abbrev pub owned_limits : ℕ → List CandidateOf → List LimitOf
 owned_limits q candidates = if q == 0 then [] else redundancy_limits q candidates
 
-owned-cases : (P : List LimitOf → Type 0) (q : ℕ) (candidates : List CandidateOf) → P [] → P (redundancy_limits q candidates) → P (owned_limits q candidates)
+pub owned-cases : (P : List LimitOf → Type 0) (q : ℕ) (candidates : List CandidateOf) → P [] → P (redundancy_limits q candidates) → P (owned_limits q candidates)
 owned-cases P q candidates none some = by (q == 0)
   where
     by : (t : Bool) → P (if t then [] else redundancy_limits q candidates)

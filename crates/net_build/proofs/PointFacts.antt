@@ -26,7 +26,7 @@ use Rattle.net_build.proofs.SquareFacts.{IsUnit, form-elsewhere, square-unit, un
 
 -- ---- each is a limit of a network
 
-part-each : (P : LimitOf → Type 0) (limit_of : ℕ → LimitOf) (given : Part) → IsPart given → ((s : ℕ) → 1 ≤ s → s ≤ 1000 → P (limit_of s)) → All P (limits_of_part limit_of given)
+pub part-each : (P : LimitOf → Type 0) (limit_of : ℕ → LimitOf) (given : Part) → IsPart given → ((s : ℕ) → 1 ≤ s → s ≤ 1000 → P (limit_of s)) → All P (limits_of_part limit_of given)
 part-each P limit_of part.Absent is each = All-nil P
 part-each P limit_of part.Fixed is each = All-nil P
 part-each P limit_of (part.New s) is each = let bounds = is s refl in All-cons P (limit_of s) [] (each s bounds.0 bounds.1) (All-nil P)

@@ -1,9 +1,8 @@
 -- The steps of the loops, each of which takes one more element of a list.
-use Rattle.std.proofs.Common.{◌≡◌, ◌∙◌, ◌+◌, ℕ, suc, List, [], ◌∷◌, ◌++◌, Some, length, map, take, sym, ap, ap₂, arith, slice_get, append-nil, append_assoc}
+use Rattle.std.proofs.Common.{◌≡◌, ◌∙◌, ◌+◌, ℕ, List, [], ◌∷◌, ◌++◌, Some, length, map, take, sym, ap, ap₂, slice_get, append_assoc}
 use Rattle.std.specs.Prelude.{All, sum_by}
-use Rattle.std.specs.List.{enumerate_from, flat_map}
-use Rattle.std.proofs.lemmas.List.{take_more, length-take, map-append}
-use Rattle.std.proofs.lemmas.List.Concat.{flat_map-append}
+use Rattle.std.specs.List.{enumerate_from}
+use Rattle.std.proofs.lemmas.List.{map-append}
 use Rattle.std.proofs.lemmas.List.Elements.{All-more}
 use Rattle.std.proofs.lemmas.List.Sums.{sum_by_push}
 use Rattle.std.proofs.lemmas.Option.{slice_get_within, get_or_from_slice_get}
@@ -11,45 +10,19 @@ use Rattle.geo_model.specs.declared.network.Unknown.{Unknown}
 use Rattle.point_tables.specs.declared.record.PointRecord.{PointRecord}
 use Rattle.candidate_tables.specs.declared.record.CandidateRecord.{CandidateRecord}
 use Rattle.design_rows.specs.Rows.{rows_of}
+pub use Rattle.design_rows.proofs.NumberingFacts.{take-one}
+use Rattle.design_rows.proofs.NumberingFacts.{numbered-more}
 use Rattle.net_build.specs.Build.{row_count}
 
--- one more element of a list
-pub take-one : {X : Type 0} (xs : List X) (k : ℕ) (x : X) → slice_get xs k ≡ Some x → take (k + 1) xs ≡ take k xs ++ x ∷ []
-take-one xs k x at =
-    take_more xs k x (slice_get_within xs k x at) ∙ ap (λ y. take k xs ++ y ∷ []) (get_or_from_slice_get xs k x x at)
-
-enumerate-append : {X : Type 0} (n : ℕ) (xs ys : List X) → enumerate_from n (xs ++ ys) ≡ enumerate_from n xs ++ enumerate_from (n + length xs) ys
-enumerate-append n [] ys = let same : n ≡ n + 0 = omega arith in ap (λ k. enumerate_from k ys) same
-enumerate-append n (x ∷ xs) ys =
-    let same : n + 1 + length xs ≡ n + suc (length xs) = omega arith in
-    ap (λ l. (n, x) ∷ l) (enumerate-append (n + 1) xs ys ∙ ap (λ k. enumerate_from (n + 1) xs ++ enumerate_from k ys) same)
-
--- with its number
-enumerate-one : {X : Type 0} (xs : List X) (k : ℕ) (x : X) → slice_get xs k ≡ Some x → enumerate_from 0 (take (k + 1) xs) ≡ enumerate_from 0 (take k xs) ++ (k, x) ∷ []
-enumerate-one xs k x at =
-    let within = slice_get_within xs k x at in
-    let size = length-take k xs in
-    let same : 0 + length (take k xs) ≡ k = omega (arith, size, within) in
-    ap (λ l. enumerate_from 0 l) (take-one xs k x at)
-    ∙ enumerate-append 0 (take k xs) (x ∷ [])
-    ∙ ap (λ (j : ℕ). enumerate_from 0 (take k xs) ++ (j, x) ∷ []) same
-
--- what it adds to a list of all that the numbered elements give
-pub parts-one : {X Y : Type 0} (f : ℕ × X → List Y) (before : List Y) (xs : List X) (k : ℕ) (x : X) → slice_get xs k ≡ Some x
-    → (before ++ flat_map f (enumerate_from 0 (take k xs))) ++ f (k, x) ≡ before ++ flat_map f (enumerate_from 0 (take (k + 1) xs))
-parts-one f before xs k x at =
-    append_assoc before (flat_map f (enumerate_from 0 (take k xs))) (f (k, x))
-    ∙ ap (λ l. before ++ l) (
-    sym (ap (flat_map f) (enumerate-one xs k x at)
-    ∙ flat_map-append f (enumerate_from 0 (take k xs)) ((k, x) ∷ [])
-    ∙ ap (λ l. flat_map f (enumerate_from 0 (take k xs)) ++ l) (append-nil (f (k, x))))
-    )
-
-pub numbered-one : {X Y : Type 0} (f : ℕ × X → Y) (before : List Y) (xs : List X) (k : ℕ) (x : X) → slice_get xs k ≡ Some x
-    → (before ++ map f (enumerate_from 0 (take k xs))) ++ f (k, x) ∷ [] ≡ before ++ map f (enumerate_from 0 (take (k + 1) xs))
-numbered-one f before xs k x at =
-    append_assoc before (map f (enumerate_from 0 (take k xs))) (f (k, x) ∷ [])
-    ∙ ap (λ l. before ++ l) (sym (ap (map f) (enumerate-one xs k x at) ∙ map-append f (enumerate_from 0 (take k xs)) ((k, x) ∷ [])))
+-- what one more numbered element adds to a list of all that they give
+pub numbered-one : {X Y : Type 0} (f : ℕ × X → Y) (start before after : List Y) (xs : List X) (k : ℕ) (x : X) (y : Y) → slice_get xs k ≡ Some x
+    → before ≡ start ++ map f (enumerate_from 0 (take k xs)) → after ≡ before ++ y ∷ [] → y ≡ f (k, x)
+    → after ≡ start ++ map f (enumerate_from 0 (take (k + 1) xs))
+numbered-one f start before after xs k x y at is next here =
+    next
+    ∙ ap₂ (λ l z. l ++ z ∷ []) is here
+    ∙ append_assoc start (map f (enumerate_from 0 (take k xs))) (f (k, x) ∷ [])
+    ∙ ap (λ l. start ++ l) (sym (ap (map f) (numbered-more xs k x at) ∙ map-append f (enumerate_from 0 (take k xs)) ((k, x) ∷ [])))
 
 pub map-one : {X Y : Type 0} (f : X → Y) (xs : List X) (k : ℕ) (x : X) → slice_get xs k ≡ Some x → map f (take k xs) ++ f x ∷ [] ≡ map f (take (k + 1) xs)
 map-one f xs k x at = sym (ap (map f) (take-one xs k x at) ∙ map-append f (take k xs) (x ∷ []))

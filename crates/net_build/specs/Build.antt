@@ -28,7 +28,7 @@ square_on unknowns wanted = record {
   entries = entries_of unknowns (term (pos 1) wanted.component wanted.point ∷ []);
 }
 
--- the limit on the axes of a point's error ellipse, in tenths of a mm
+-- the limit on the semi-major axis of a point's standard ellipse, with a variance factor of 1, in tenths of a mm
 unfoldable pub axis_limit : List Unknown → ℕ → ℕ → LimitOf
 axis_limit unknowns place tenths = record {
   kind = limit.Axis place;
@@ -37,7 +37,7 @@ axis_limit unknowns place tenths = record {
   squares = square_on unknowns (unknown place component.X) ∷ square_on unknowns (unknown place component.Y) ∷ [];
 }
 
--- the limit on the standard deviation of a point's height, in tenths of a mm
+-- the limit on the standard deviation of a point's height, with a variance factor of 1, in tenths of a mm
 unfoldable pub height_limit : List Unknown → ℕ → ℕ → LimitOf
 height_limit unknowns place tenths = record {
   kind = limit.Height place;
@@ -52,7 +52,7 @@ limits_of_part limit_of part.Absent = []
 limits_of_part limit_of part.Fixed = []
 limits_of_part limit_of (part.New tenths) = limit_of tenths ∷ []
 
--- the limits of a point with its number: that of its axes, and then that of its height
+-- the limits of a point with its number: that of its semi-major axis, and then that of its height
 unfoldable pub limits_of_point : List Unknown → ℕ × PointRecord → List LimitOf
 limits_of_point unknowns (place, point) =
     limits_of_part (axis_limit unknowns place) point.plane ++ limits_of_part (height_limit unknowns place) point.height

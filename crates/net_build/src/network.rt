@@ -1,4 +1,5 @@
 ghost use Rattle.std.specs.Prelude.{◌≡◌, ◌^◌, ◌<◌, ◌≤◌, length, sum_by, All, IfOk, OnOk, None};
+ghost use Rattle.geo_model.specs.Network.{IsNetwork};
 ghost use Rattle.point_tables.specs.Accepted.{IsAccepted};
 ghost use Rattle.point_tables.specs.declared.fault.TableName.TheVariants as table;
 ghost use Rattle.point_tables.specs.Columns.{Answers};
@@ -53,6 +54,7 @@ fn network_of(
     requires small { network_fault points.now candidates.now ≡ None }
     requires redundancy { q ≤ 999 }
     ensures network { IfOk result (λ network. network ≡ network_of points.now candidates.now q) }
+    ensures bounds { IfOk result IsNetwork }
     ensures few { IfOk result (λ network. length network.limits ≤ 576) }
 {
     let built = candidates_of(alloc, points, candidates, columns)?;
@@ -62,9 +64,13 @@ fn network_of(
 }
 
 /// Makes the network of these points and candidates, with the limits of the new points and, where
-/// `q` is not 0, a limit of `q` thousandths on the redundancy of each row, which holds where its
-/// candidate is chosen. The answer is a fault of the network exactly where there are more than 64
-/// unknowns, or else more than 512 rows; its number is their count. So a network has at most 576
+/// `q` is not 0, a limit of `q` thousandths on the redundancy of each row, which is in force where
+/// its candidate is chosen. Coordinates are counted in millimetres and orientations in cc. A
+/// point's limits, in tenths of a millimetre, are on the semi-major axis of its standard ellipse and
+/// on the standard deviation of its height, with a variance factor of 1, as any textbook of
+/// adjustment has them; the form of each limit is this project's own. The answer is a fault of the
+/// network exactly where there are more than 64 unknowns, or else more than 512 rows; its number is
+/// their count. Otherwise it is refused for want of memory alone. So a network has at most 576
 /// limits. The candidates were read against these points.
 pub fn build(
     alloc: Global,
@@ -75,6 +81,7 @@ pub fn build(
     requires redundancy { q ≤ 999 }
     requires accepted { AreCandidates points.now candidates.now }
     ensures answer { Answers table.Network (network_fault points.now candidates.now) (network_of points.now candidates.now q) result }
+    ensures bounds { IfOk result IsNetwork }
     ensures few { IfOk result (λ network. length network.limits ≤ 576) }
 {
     let columns = match Columns::number(alloc, points, candidates) {

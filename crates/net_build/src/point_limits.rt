@@ -1,4 +1,5 @@
-//! The limits of new points: on the axes of their error ellipses, and on their heights.
+//! The limits of new points: on the semi-major axes of their standard ellipses, and on the standard
+//! deviations of their heights, both with a variance factor of 1.
 ghost use Rattle.std.specs.Prelude.{◌≡◌, ◌≤◌, ◌++◌, All, IfOk, OnOk};
 ghost use Rattle.point_tables.specs.Accepted.{IsAccepted, IsPart};
 ghost use Rattle.net_build.specs.Build.{axis_limit, height_limit, limits_of_part, limits_of_point, point_limits, square_on};
@@ -9,8 +10,9 @@ use geo_model::{Component, Limit, LimitKind, Square, Unknown};
 use point_tables::{Part, PointRecord, Points};
 use std::alloc::Global;
 
-// The factor of the square of an unknown, for limits in tenths of a millimetre.
-const UNIT: i128 = 100_000_000_000_000;
+// The factor of the square of an unknown: with it, and the scales of coefficients and weights, a limit
+// is in tenths of a millimetre.
+const SQUARE_FACTOR: i128 = 100_000_000_000_000;
 
 // 10^14 times the square of a component of a point.
 fn square_on(
@@ -26,12 +28,13 @@ fn square_on(
         entries.push((column, 1))?;
     }
     Ok(Square {
-        beta: UNIT,
+        beta: SQUARE_FACTOR,
         entries,
     })
 }
 
-// The limit on the axes of a point's error ellipse, in tenths of a millimetre.
+// The limit on the semi-major axis of a point's standard ellipse (with a variance factor of 1), in
+// tenths of a millimetre.
 fn axis_limit(alloc: Global, columns: &Columns, point: u32, tenths: u32) -> Result<Limit, NoMemory>
     requires { tenths ≤ 1000 }
     ensures { IfOk result (λ limit. limit ≡ axis_limit columns.now point tenths) }
@@ -69,7 +72,7 @@ fn height_limit(
     })
 }
 
-// Adds the limit on a point's axes, if its plane part is new.
+// Adds the limit on the semi-major axis of a point, if its plane part is new.
 fn push_axis(
     limits: &mut Vec<Limit>,
     alloc: Global,

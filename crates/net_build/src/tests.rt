@@ -27,7 +27,7 @@ const TABLES: [(&str, &str, u32, &str); 4] = [
         0,
         "1 Z;5 10000 0:10000;Height(1) None 100 100000000000000 0:1;",
     ),
-    // two vectors to a new point, with a limit on its axes and one on its height
+    // two vectors to a new point, with a limit on its semi-major axis and one on its height
     (
         "F1,0.000,0.000,0.000,fixed,fixed\nF2,100.000,0.000,0.000,fixed,fixed\nP,50.000,50.000,10.000,4.0,7.0\n",
         "g1,vector,F1,P,,5.00,8.00,100\ng2,vector,F2,P,,5.00,8.00,120\n",

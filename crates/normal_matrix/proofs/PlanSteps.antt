@@ -1,5 +1,5 @@
 -- Normal matrices of plans: symmetry, sizes, and one candidate more or less.
-use Rattle.std.proofs.Common.{◌≡◌, ℕ, zero, suc, ◌-◌, ◌*◌, ◌^◌, ◌<◌, ◌≤◌, ◌⊎◌, inl, inr, ℤ, pos, negsuc, ◌+ℤ◌, ◌*ℤ◌, if◌then◌else◌, Bool, true, false, List, [], ◌∷◌, length, get_or, replicate, Some, refl, sym, ◌∙◌, ap, ap₂, subst, arith}
+use Rattle.std.proofs.Common.{◌≡◌, ℕ, zero, suc, ◌-◌, ◌*◌, ◌^◌, ◌<◌, ◌≤◌, ◌⊎◌, inl, inr, ℤ, pos, negsuc, ◌+ℤ◌, ◌*ℤ◌, ◌≤ℤ◌, if◌then◌else◌, Bool, true, false, List, [], ◌∷◌, length, get_or, replicate, Some, refl, sym, ◌∙◌, ap, ap₂, subst, arith}
 use Rattle.std.specs.Prelude.{All, sum_by, slice_get, slice_set, unsigned_abs}
 use Rattle.std.proofs.lemmas.Bool.{cases_lt}
 use Rattle.std.proofs.lemmas.Int.{ints}
@@ -13,14 +13,14 @@ use Rattle.whole_algebra.proofs.Normal.{ring, x0, lit, ◌⊕◌, ◌⊗◌}
 use Rattle.lent_parts.specs.Triangle.{IsTri, zero_tri}
 use Rattle.lent_parts.proofs.Triangles.{length-IsTri}
 use Rattle.whole_algebra.proofs.Ring.{mul_comm}
+use Rattle.whole_algebra.proofs.Order.{size-add, size-mul}
 use Rattle.whole_algebra.proofs.SumLaws.{int_sum_by-same}
 use Rattle.geo_model.specs.Row.{RowOf, IsRow}
 use Rattle.geo_model.specs.Candidate.{CandidateOf, IsCandidate}
 use Rattle.geo_model.specs.Network.{NetworkOf, IsNetwork}
 use Rattle.normal_matrix.specs.Entries.{coefficient, row_entry, candidate_entry, normal_entry}
 use Rattle.normal_matrix.specs.Normal.{NormalOf, IsNormalOf}
-use Rattle.normal_matrix.proofs.SumSteps.{size-add}
-use Rattle.normal_matrix.proofs.RowSteps.{rows_size}
+use Rattle.normal_matrix.proofs.RowSteps.{light, rows_size}
 
 -- what a candidate adds where it is chosen
 abbrev pub part_entry : Bool → CandidateOf → ℕ → ℕ → ℤ
@@ -43,12 +43,12 @@ normal_entry-symmetric (candidate ∷ rest) (chosen ∷ plan) i j =
     ap₂ (λ s t. s +ℤ t) (part_entry-symmetric chosen candidate i j) (normal_entry-symmetric rest plan i j)
 
 -- ---- sizes
-part_entry-size : (chosen : Bool) (unknowns : ℕ) (candidate : CandidateOf) (i j : ℕ) → IsCandidate unknowns candidate → unsigned_abs (part_entry chosen candidate i j) ≤ length candidate.rows * 2 ^ 66
+part_entry-size : (chosen : Bool) (unknowns : ℕ) (candidate : CandidateOf) (i j : ℕ) → IsCandidate unknowns candidate → unsigned_abs (part_entry chosen candidate i j) ≤ length candidate.rows * (1000000 * 2 ^ 42)
 part_entry-size true unknowns candidate i j bounds = rows_size candidate.rows i j bounds.rows
 part_entry-size false unknowns candidate i j bounds = omega arith
 
 pub normal_entry-size : (unknowns : ℕ) (candidates : List CandidateOf) (plan : List Bool) (i j : ℕ) → All (IsCandidate unknowns) candidates
-    → unsigned_abs (normal_entry candidates plan i j) ≤ sum_by (λ candidate. length candidate.rows) candidates * 2 ^ 66
+    → unsigned_abs (normal_entry candidates plan i j) ≤ sum_by (λ candidate. length candidate.rows) candidates * (1000000 * 2 ^ 42)
 normal_entry-size unknowns [] plan i j all = omega arith
 normal_entry-size unknowns (candidate ∷ rest) [] i j all = omega arith
 normal_entry-size unknowns (candidate ∷ rest) (chosen ∷ plan) i j all =
@@ -56,6 +56,22 @@ normal_entry-size unknowns (candidate ∷ rest) (chosen ∷ plan) i j all =
     let later = normal_entry-size unknowns rest plan i j (All-tail (IsCandidate unknowns) candidate rest all) in
     let both = size-add (part_entry chosen candidate i j) (normal_entry rest plan i j) in
     let total = sum_by-cons (λ (c : CandidateOf). length c.rows) candidate rest in
+    omega arith
+
+-- an entry of a network's normal matrix, and the factor times it
+network_entry-size : (network : NetworkOf) (plan : List Bool) (i j : ℕ) → IsNetwork network → unsigned_abs (normal_entry network.candidates plan i j) ≤ 512 * (1000000 * 2 ^ 42)
+network_entry-size network plan i j bounds =
+    let size = normal_entry-size (length network.unknowns) network.candidates plan i j bounds.each_candidate in
+    let few = bounds.rows in
+    omega arith
+
+pub network_entry-small : (network : NetworkOf) (plan : List Bool) (i j : ℕ) → IsNetwork network → unsigned_abs (normal_entry network.candidates plan i j) < 2 ^ 71
+network_entry-small network plan i j bounds = let h = network_entry-size network plan i j bounds in omega arith
+
+pub scaled_entry-small : (network : NetworkOf) (plan : List Bool) (alpha : ℤ) (i j : ℕ) → IsNetwork network → pos 1 ≤ℤ alpha → alpha ≤ℤ pos 1000000
+    → unsigned_abs (alpha *ℤ normal_entry network.candidates plan i j) < 2 ^ 91
+scaled_entry-small network plan alpha i j bounds low high =
+    let h = size-mul alpha (normal_entry network.candidates plan i j) 1000000 (512 * (1000000 * 2 ^ 42)) (light alpha low high) (network_entry-size network plan i j bounds) in
     omega arith
 
 pub rows_of_one : (candidates : List CandidateOf) (k : ℕ) (d : CandidateOf) → k < length candidates → length (get_or candidates k d).rows ≤ sum_by (λ candidate. length candidate.rows) candidates

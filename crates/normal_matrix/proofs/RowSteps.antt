@@ -1,18 +1,19 @@
 -- Triangles to which the products of a row are added, entry by entry.
-use Rattle.std.proofs.Common.{◌≡◌, ◌≢◌, ℕ, zero, suc, ◌+◌, ◌-◌, ◌*◌, ◌^◌, ◌<◌, ◌≤◌, inl, inr, ℤ, pos, ◌+ℤ◌, ◌*ℤ◌, ◌≤ℤ◌, List, [], ◌∷◌, length, take, get_or, refl, sym, ◌∙◌, ap, subst, arith}
-use Rattle.std.specs.Prelude.{All, unsigned_abs, slice_set}
+use Rattle.std.proofs.Common.{◌≡◌, ◌≢◌, ℕ, zero, suc, ◌+◌, ◌-◌, ◌*◌, ◌^◌, ◌<◌, ◌≤◌, inl, inr, ℤ, pos, ◌+ℤ◌, ◌*ℤ◌, ◌≤ℤ◌, List, [], ◌∷◌, length, take, get_or, refl, sym, ◌∙◌, ap, subst, arith, lit<}
+use Rattle.std.specs.Prelude.{All, AllPairs, unsigned_abs, slice_set}
 use Rattle.std.proofs.lemmas.Int.{ints}
 use Rattle.std.proofs.lemmas.List.{get_or-set_same, get_or-set_other}
 use Rattle.std.proofs.lemmas.List.Elements.{All-head, All-tail, All-take}
 use Rattle.whole_algebra.specs.Sums.{int_sum_by}
 use Rattle.whole_algebra.specs.Matrices.{at}
 use Rattle.whole_algebra.specs.Grid.{row_at, entry}
-use Rattle.whole_algebra.proofs.Normal.{ring, x0, x1, x2, x3, x4, ◌⊕◌, ◌⊗◌}
+use Rattle.whole_algebra.proofs.Normal.{ring, x0, x1, x2, x3, x4, lit, ◌⊕◌, ◌⊗◌}
 use Rattle.lent_parts.specs.Triangle.{IsTri, tri_row}
 use Rattle.lent_parts.proofs.Triangles.{length-IsTri, length-tri_row}
-use Rattle.geo_model.specs.Row.{Entries, RowOf, IsRow, total_size}
+use Rattle.geo_model.specs.Row.{Entries, RowOf, IsRow, total_size, unit_at}
 use Rattle.normal_matrix.specs.Entries.{coefficient, row_entry}
-use Rattle.normal_matrix.proofs.SumSteps.{int_sum_by-more, same_or_apart, coefficient-more_here, coefficient-more_elsewhere, coefficient-size, coefficient-take-size, size-add, size-mul}
+use Rattle.whole_algebra.proofs.Order.{size-add, size-mul}
+use Rattle.normal_matrix.proofs.SumSteps.{int_sum_by-more, same_or_apart, coefficient-more_here, coefficient-more_elsewhere, coefficient-size, coefficient-take-size, unit_at-same, unit_at-other}
 
 -- an entry of a row, by its column
 pub entry_in_row : (rows : List (List ℤ)) (i k : ℕ) → entry rows i (i + k) ≡ at (tri_row rows i) k
@@ -91,15 +92,51 @@ row_step n old rows weight entries q d line shape inside below so_far written i 
 pub light : (weight : ℤ) → pos 1 ≤ℤ weight → weight ≤ℤ pos 1000000 → unsigned_abs weight ≤ 1000000
 light weight low high = omega (arith, ints)
 
--- what a row of a network adds is small
-pub row_entry-size : (row : RowOf) (i j : ℕ) → IsRow row → unsigned_abs (row_entry row i j) ≤ 2 ^ 66
-row_entry-size row i j bounds =
-    let a = coefficient-size row.entries i in
-    let b = coefficient-size row.entries j in
-    let total = bounds.total in
-    weighted_size row.weight (coefficient row.entries i) (coefficient row.entries j) (light row.weight bounds.weight_low bounds.weight_high) (omega arith) (omega arith)
+-- a column that no entry has
+no_column : (entries : Entries) (i : ℕ) → All (λ entry. i < entry.0) entries → coefficient entries i ≡ pos 0
+no_column [] i later = refl
+no_column (entry ∷ rest) i later =
+    let after = All-head (λ (e : ℕ × ℤ). i < e.0) entry rest later in
+    let here = unit_at-other i entry.0 (λ e. absurd (omega arith)) in
+    rw (here, no_column rest i (All-tail (λ (e : ℕ × ℤ). i < e.0) entry rest later)) (nothing entry.1)
+  where
+    nothing : (c : ℤ) → c *ℤ pos 0 +ℤ pos 0 ≡ pos 0
+    nothing c = ring (x0 ⊗ lit 0 ⊕ lit 0) (lit 0) (c ∷ []) refl
 
-pub rows_size : (rows : List RowOf) (i j : ℕ) → All IsRow rows → unsigned_abs (int_sum_by (λ row. row_entry row i j) rows) ≤ length rows * 2 ^ 66
+-- where columns ascend, the coefficient at a column is one entry's, or 0
+coefficient-below : (entries : Entries) (i b : ℕ) → AllPairs (λ (entry : ℕ × ℤ) (later : ℕ × ℤ). entry.0 < later.0) entries → All (λ entry. unsigned_abs entry.1 < b) entries → 0 < b
+    → unsigned_abs (coefficient entries i) < b
+coefficient-below [] i b ascend small some = some
+coefficient-below (entry ∷ rest) i b ascend small some =
+    let rest_ascend : AllPairs (λ (e : ℕ × ℤ) (later : ℕ × ℤ). e.0 < later.0) rest = λ k l d less inside. ascend (suc k) (suc l) d (omega arith) (omega arith) in
+    let size = All-head (λ (e : ℕ × ℤ). unsigned_abs e.1 < b) entry rest small in
+    let later = coefficient-below rest i b rest_ascend (All-tail (λ (e : ℕ × ℤ). unsigned_abs e.1 < b) entry rest small) some in
+    elim (same_or_apart entry.0 i) [
+      | inl here ↦
+          let none : coefficient rest i ≡ pos 0 = no_column rest i (λ k d inside. let up : entry.0 < (get_or rest k d).0 = ascend zero (suc k) d (omega arith) (omega arith) in omega arith) in
+          let unit = unit_at-same i entry.0 here in
+          alone entry.1 (unit_at i entry.0) (coefficient rest i) unit none size
+      | inr apart ↦ others entry.1 (unit_at i entry.0) (coefficient rest i) (unit_at-other i entry.0 apart) later
+    ]
+  where
+    alone : (c u z : ℤ) → u ≡ pos 1 → z ≡ pos 0 → unsigned_abs c < b → unsigned_abs (c *ℤ u +ℤ z) < b
+    alone c u z e f h = let one : c *ℤ u ≡ c = ap (λ t. c *ℤ t) e ∙ ring (x0 ⊗ lit 1) x0 (c ∷ []) refl in omega (arith, ints)
+
+    others : (c u z : ℤ) → u ≡ pos 0 → unsigned_abs z < b → unsigned_abs (c *ℤ u +ℤ z) < b
+    others c u z e h = let none : c *ℤ u ≡ pos 0 = ap (λ t. c *ℤ t) e ∙ ring (x0 ⊗ lit 0) (lit 0) (c ∷ []) refl in omega (arith, ints)
+
+row-coefficient : (row : RowOf) (i : ℕ) → IsRow row → unsigned_abs (coefficient row.entries i) < 2 ^ 21
+row-coefficient row i bounds = coefficient-below row.entries i (2 ^ 21) bounds.sparse.ascending bounds.each_size (lit< tt)
+
+-- what a row of a network adds is small
+pub row_entry-size : (row : RowOf) (i j : ℕ) → IsRow row → unsigned_abs (row_entry row i j) ≤ 1000000 * 2 ^ 42
+row_entry-size row i j bounds =
+    let a = row-coefficient row i bounds in
+    let b = row-coefficient row j bounds in
+    let pair = size-mul (coefficient row.entries i) (coefficient row.entries j) (2 ^ 21) (2 ^ 21) (omega arith) (omega arith) in
+    size-mul row.weight (coefficient row.entries i *ℤ coefficient row.entries j) 1000000 (2 ^ 42) (light row.weight bounds.weight_low bounds.weight_high) pair
+
+pub rows_size : (rows : List RowOf) (i j : ℕ) → All IsRow rows → unsigned_abs (int_sum_by (λ row. row_entry row i j) rows) ≤ length rows * (1000000 * 2 ^ 42)
 rows_size [] i j all = omega arith
 rows_size (row ∷ rest) i j all =
     let first = row_entry-size row i j (All-head IsRow row rest all) in
@@ -118,7 +155,7 @@ pub sum_is_small : (before now sign : ℤ) (rows : List RowOf) (k i j : ℕ) →
 sum_is_small before now sign rows k i j is small one all few =
     let part = rows_size (take k rows) i j (All-take IsRow k rows all) in
     let short = take_length rows k in
-    let signed = size-mul sign (int_sum_by (λ row. row_entry row i j) (take k rows)) 1 (512 * 2 ^ 66) (omega arith) (omega arith) in
+    let signed = size-mul sign (int_sum_by (λ row. row_entry row i j) (take k rows)) 1 (512 * (1000000 * 2 ^ 42)) (omega arith) (omega arith) in
     let both = size-add before (sign *ℤ int_sum_by (λ row. row_entry row i j) (take k rows)) in
     rw is (omega arith)
 

@@ -1,15 +1,15 @@
 -- Sums one element further, and their sizes.
-use Rattle.std.proofs.Common.{◌≡◌, ◌≢◌, ◌==◌, ℕ, zero, suc, ◌+◌, ◌-◌, ◌*◌, ◌<◌, ◌≤◌, ◌⊎◌, inl, inr, ℤ, pos, ◌+ℤ◌, ◌*ℤ◌, if◌then◌else◌, Bool, true, false, List, [], ◌∷◌, length, take, set, get_or, refl, sym, ◌∙◌, ap, subst, arith, eqb-true, eq-eqb, add-one}
+use Rattle.std.proofs.Common.{◌≡◌, ◌≢◌, ◌==◌, ℕ, zero, suc, ◌+◌, ◌-◌, ◌<◌, ◌≤◌, ◌⊎◌, inl, inr, ℤ, pos, ◌+ℤ◌, ◌*ℤ◌, if◌then◌else◌, Bool, true, false, List, [], ◌∷◌, length, take, set, get_or, refl, sym, ◌∙◌, ap, subst, arith, eqb-true, eq-eqb, add-one}
 use Rattle.std.specs.Prelude.{unsigned_abs}
-use Rattle.std.proofs.lemmas.Int.{ints, unsigned_abs-mul}
 use Rattle.std.proofs.Math.ListN.{length-set}
 use Rattle.std.proofs.lemmas.List.{get_or-set_same, get_or-set_other}
 use Rattle.std.proofs.lemmas.List.Sums.{sum_by-cons, sum_by-take-le}
 use Rattle.whole_algebra.specs.Sums.{int_sum_by}
 use Rattle.whole_algebra.specs.Matrices.{at}
-use Rattle.whole_algebra.proofs.Ring.{add_assoc, add_comm, mul_zero, mul_one}
+use Rattle.whole_algebra.proofs.Ring.{add_assoc, add_comm, mul_one}
 use Rattle.whole_algebra.proofs.Normal.{ring, x0, x1, x2, x3, lit, ◌⊕◌, ◌⊗◌}
 use Rattle.geo_model.specs.Row.{Entries, unit_at, total_size}
+use Rattle.geo_model.proofs.SizeLemmas.{form_at-size, unit_at-size}
 use Rattle.normal_matrix.specs.Entries.{coefficient}
 
 -- ---- sums
@@ -36,27 +36,9 @@ unit_at-other i j apart = by (j == i) (λ e. apart (eqb-true j i e))
     by false never = refl
 
 -- ---- sizes
-pub size-add : (a b : ℤ) → unsigned_abs (a +ℤ b) ≤ unsigned_abs a + unsigned_abs b
-size-add a b = omega (arith, ints)
-
-pub mul_le : (a b m n : ℕ) → a ≤ m → b ≤ n → a * b ≤ m * n
-mul_le a b m n h k = grind arith
-
-pub size-mul : (a b : ℤ) (m n : ℕ) → unsigned_abs a ≤ m → unsigned_abs b ≤ n → unsigned_abs (a *ℤ b) ≤ m * n
-size-mul a b m n h k = rw (unsigned_abs-mul a b) (mul_le (unsigned_abs a) (unsigned_abs b) m n h k)
-
 -- a coefficient at an unknown is at most all sizes together
 pub coefficient-size : (entries : Entries) (i : ℕ) → unsigned_abs (coefficient entries i) ≤ total_size entries
-coefficient-size [] i = omega arith
-coefficient-size (e ∷ rest) i =
-    let first : unsigned_abs (e.1 *ℤ unit_at i e.0) ≤ unsigned_abs e.1 = part e.1 (e.0 == i) in
-    let both = size-add (e.1 *ℤ unit_at i e.0) (coefficient rest i) in
-    let total = sum_by-cons (λ (entry : ℕ × ℤ). unsigned_abs entry.1) e rest in
-    omega (arith, coefficient-size rest i)
-  where
-    part : (c : ℤ) (b : Bool) → unsigned_abs (c *ℤ (if b then pos 1 else pos 0)) ≤ unsigned_abs c
-    part c true = let e : c *ℤ pos 1 ≡ c = mul_one c in rw e (omega arith)
-    part c false = let e : c *ℤ pos 0 ≡ pos 0 = mul_zero c in rw e (omega arith)
+coefficient-size entries i = omega (arith, form_at-size entries (unit_at i) 1 (unit_at-size i))
 
 pub coefficient-take-size : (entries : Entries) (q i : ℕ) → unsigned_abs (coefficient (take q entries) i) ≤ total_size entries
 coefficient-take-size entries q i =

@@ -7,5 +7,5 @@ mod sums;
 #[cfg(test)]
 mod tests;
 
-pub use laws::energy_is_the_form_of_the_normal_matrix;
+pub use laws::{energy_is_the_form_of_the_normal_matrix, entries_are_small};
 pub use normal::Normal;

@@ -1,5 +1,5 @@
 -- Where a chain stops, told by the first rows of its matrices.
-use Rattle.std.proofs.Common.{◌≡◌, ℕ, zero, suc, ◌-◌, ◌<◌, ◌≤◌, Bool, true, false, cond, ◌||◌, List, [], ◌∷◌, map, get_or, refl, sym, ◌∙◌, ap, ap₂, subst, arith, ℤ}
+use Rattle.std.proofs.Common.{◌≡◌, ℕ, zero, suc, ◌-◌, ◌<◌, ◌≤◌, true, false, cond, List, [], ◌∷◌, map, get_or, refl, sym, ◌∙◌, ap, ap₂, subst, arith, ℤ}
 use Rattle.whole_algebra.specs.Matrices.{at, IsTriangle}
 use Rattle.whole_algebra.specs.Chains.{Step, free, pivot, stop, step_of, is_stop, next, chain_rows, matrix_after, chain_steps, stops, stop_place, stop_value, pivot_value, pivot_at, met, refuted, open_at, outcome_of}
 use Rattle.whole_algebra.specs.Grid.{row_at}
@@ -8,18 +8,11 @@ use Rattle.std.specs.List.{list_all}
 use Rattle.whole_algebra.proofs.Places.{row_at-chain_rows}
 use Rattle.whole_algebra.proofs.ChainLaws.{step_cases, is_zero-true, and_left}
 use Rattle.whole_algebra.proofs.Refutation.{false_is_not_true}
+use Rattle.psd_cert.proofs.RowLaws.{neither, parts}
 use Rattle.pivot_chain.specs.Step.{over_of}
 use Rattle.pivot_chain.specs.declared.side.Side.{Side}
 use Rattle.pivot_chain.proofs.Matrices.{GoesOn}
 use Rattle.pivot_chain.proofs.RowSteps.{triangle_next}
-
-neither : (t u : Bool) → t ≡ false → u ≡ false → t || u ≡ false
-neither true u e f = e
-neither false u e f = f
-
-parts : (t u : Bool) → t || u ≡ false → (t ≡ false) × (u ≡ false)
-parts true u e = absurd (false_is_not_true (sym e))
-parts false u e = (refl, e)
 
 -- ---- a chain that goes on to its end
 pub no_stop : (side : Side) (n : ℕ) (m : List (List ℤ)) → IsTriangle n m → GoesOn side n m → stops (chain_steps (over_of side) n m) ≡ false

@@ -1,50 +1,13 @@
--- Gaps of quotients, and their sums.
-use Rattle.std.proofs.Common.{◌≡◌, ℕ, zero, suc, ◌+◌, ◌-◌, ◌<◌, ◌≤◌, cond, List, [], ◌∷◌, map, length, refl, sym, ◌∙◌, ap, ap₂, arith, ◌^◌, ℤ, pos, negsuc, ◌+ℤ◌, ◌*ℤ◌, neg_ℤ, ◌≤ℤ◌, ◌<ℤ◌, unsigned_abs}
-use Rattle.std.specs.Int.{int_rem_euclid}
+-- Sums of the gaps of quotients.
+use Rattle.std.proofs.Common.{◌≡◌, ℕ, zero, suc, ◌+◌, ◌-◌, ◌<◌, ◌≤◌, List, [], ◌∷◌, map, length, refl, sym, ◌∙◌, ap, ap₂, arith, ◌^◌, ℤ, pos, ◌+ℤ◌, ◌*ℤ◌, neg_ℤ, ◌≤ℤ◌, unsigned_abs}
 use Rattle.std.proofs.lemmas.Int.{ints}
 use Rattle.whole_algebra.specs.Sums.{int_sum}
-use Rattle.whole_algebra.specs.Rounding.{is_zero, floor_over, gap_over}
+use Rattle.whole_algebra.specs.Rounding.{gap_over}
 use Rattle.whole_algebra.specs.Matrices.{at}
 use Rattle.whole_algebra.specs.Chains.{beside}
-use Rattle.whole_algebra.proofs.Ring.{add_zero, zero_add, add_assoc, mul_comm}
-use Rattle.whole_algebra.proofs.Rounding.{floor_split, floor_low, floor_high, gap_range}
+use Rattle.whole_algebra.proofs.Ring.{add_zero, zero_add, add_assoc}
+use Rattle.whole_algebra.proofs.Rounding.{gap_range}
 use Rattle.pivot_chain.specs.Step.{gap_at, sum_from, slack_of}
-
--- ---- one gap, told by the floor
--- a floor times its divisor is near the number
-pub product_near : (number a floor : ℤ) → pos 0 <ℤ a → floor ≡ floor_over a number → ((floor *ℤ a) ≤ℤ number) × (number <ℤ (floor *ℤ a +ℤ a))
-product_near number a floor h e =
-    let turn : floor *ℤ a ≡ a *ℤ floor_over a number = mul_comm floor a ∙ ap (λ t. a *ℤ t) e in
-    (by (floor *ℤ a) (a *ℤ floor_over a number) number turn (floor_low a number h), above (floor *ℤ a) (a *ℤ floor_over a number) number a turn (floor_high a number h))
-  where
-    by : (p q n : ℤ) → p ≡ q → q ≤ℤ n → p ≤ℤ n
-    by p q n e h = omega (arith, ints)
-
-    above : (p q n a : ℤ) → p ≡ q → n <ℤ (q +ℤ a) → n <ℤ (p +ℤ a)
-    above p q n a e h = omega (arith, ints)
-
-remainder_is : (number a floor : ℤ) → pos 0 <ℤ a → floor ≡ floor_over a number → number ≡ floor *ℤ a +ℤ int_rem_euclid number a
-remainder_is number a floor h e =
-    floor_split a number h ∙ ap (λ t. t +ℤ int_rem_euclid number a) (ap (λ t. a *ℤ t) (sym e) ∙ mul_comm a floor)
-
-pub whole_gap : (number a floor : ℤ) → pos 0 <ℤ a → floor ≡ floor_over a number → floor *ℤ a ≡ number → gap_over a number ≡ pos 0
-whole_gap number a floor h e whole =
-    ap (λ r. cond (is_zero r) (pos 0) (pos 1)) (nothing (int_rem_euclid number a) number (floor *ℤ a) whole (remainder_is number a floor h e))
-  where
-    nothing : (r n p : ℤ) → p ≡ n → n ≡ p +ℤ r → r ≡ pos 0
-    nothing r n p e f = omega (arith, ints)
-
-pub some_gap : (number a floor : ℤ) → pos 0 <ℤ a → floor ≡ floor_over a number → (floor *ℤ a ≡ number → ⊥) → gap_over a number ≡ pos 1
-some_gap number a floor h e apart =
-    one (int_rem_euclid number a) (λ zero_left. apart (whole number (floor *ℤ a) (int_rem_euclid number a) zero_left (remainder_is number a floor h e)))
-  where
-    whole : (n p r : ℤ) → r ≡ pos 0 → n ≡ p +ℤ r → p ≡ n
-    whole n p r e f = omega (arith, ints)
-
-    one : (r : ℤ) → (r ≡ pos 0 → ⊥) → cond (is_zero r) (pos 0) (pos 1) ≡ pos 1
-    one (pos zero) none = absurd (none refl)
-    one (pos (suc n)) none = refl
-    one (negsuc n) none = refl
 
 -- ---- sums of numbers from a place on
 pub one_more : (f : ℕ → ℤ) (first count : ℕ) → sum_from f first (count + 1) ≡ sum_from f first count +ℤ f (first + count)
@@ -146,10 +109,6 @@ slack_and_own (a ∷ b) (suc i) one lt =
     turned : (l k r g : ℤ) → l ≡ k → (l +ℤ r) +ℤ g ≡ k +ℤ (g +ℤ r)
     turned l k r g e = omega (arith, ints)
 
--- so the product has nearly the number's size
-pub near_size : (product number a : ℤ) → unsigned_abs number ≤ 2 ^ 124 → unsigned_abs a ≤ 2 ^ 61 → product ≤ℤ number → number <ℤ (product +ℤ a) → unsigned_abs product ≤ 2 ^ 126
-near_size product number a h g low high = omega (arith, ints)
-
 -- ---- sums that a loop takes
 pub added_low : (s t : ℤ) → pos 0 ≤ℤ s → pos 0 ≤ℤ t → pos 0 ≤ℤ (s +ℤ t)
 added_low s t h g = omega (arith, ints)
@@ -159,9 +118,6 @@ added_high s t k n e h g = omega (arith, ints)
 
 pub added_size : (s t : ℤ) (k : ℕ) → k ≤ 64 → pos 0 ≤ℤ s → s ≤ℤ pos k → pos 0 ≤ℤ t → t ≤ℤ pos 1 → unsigned_abs (s +ℤ t) ≤ 2 ^ 126
 added_size s t k few a b c d = omega (arith, ints)
-
-pub gap_size : (t : ℤ) → pos 0 ≤ℤ t → t ≤ℤ pos 1 → unsigned_abs t ≤ 2 ^ 126
-gap_size t a b = omega (arith, ints)
 
 -- right of the diagonal
 pub right_more : (f : ℕ → ℤ) (k m : ℕ) → 1 ≤ m → sum_from f (k + 1) ((m + 1) - 1) ≡ sum_from f (k + 1) (m - 1) +ℤ f (k + m)

@@ -1,6 +1,7 @@
 -- What the verdict on a limit says of the limit.
-use Rattle.std.proofs.Common.{◌≡◌, ℕ, ◌≤◌, List, Bool, length, refl, arith, ℤ, pos, ◌*ℤ◌, ◌≤ℤ◌, ◌<ℤ◌}
+use Rattle.std.proofs.Common.{◌≡◌, ℕ, ◌≤◌, List, Bool, Some, slice_get, length, refl, sym, ◌∙◌, subst, arith, ℤ, pos, ◌*ℤ◌, ◌≤ℤ◌, ◌<ℤ◌}
 use Rattle.std.proofs.lemmas.Int.{ints}
+use Rattle.std.proofs.lemmas.Option.{slice_get_within, get_or_from_slice_get}
 use Rattle.whole_algebra.specs.Chains.{Outcome, met, refuted, open_at, verdict_of as outcome_on}
 use Rattle.whole_algebra.proofs.VerdictLaws.{verdict-open}
 use Rattle.geo_model.specs.Row.{Displaced}
@@ -9,6 +10,7 @@ use Rattle.geo_model.specs.Limit.{LimitOf, load}
 use Rattle.geo_model.specs.Network.{NetworkOf, IsNetwork, IsLimit}
 use Rattle.geo_model.specs.Meeting.{MeetsLimit, MeetsLimits, Breaks}
 use Rattle.geo_model.specs.Verdicts.{IsCertifiedBy}
+use Rattle.geo_model.specs.declared.verdict.Verdict.{Verdict}
 use Rattle.geo_model.specs.declared.verdict.Verdict.TheVariants.{Met, Refuted, Open}
 use Rattle.geo_model.proofs.EnergyLemmas.{MeetsLimit-grows}
 use Rattle.limit_forms.specs.Grid.{lower_grid, upper_grid}
@@ -98,3 +100,22 @@ refuted_fails network plan upper limit bounds is_limit within e meets =
   where
     clash : (p q : ℤ) → p <ℤ q → q ≤ℤ p → ⊥
     clash p q h g = omega (arith, ints)
+
+-- ---- a verdict that is the one of a limit with a number
+limit_is : (network : NetworkOf) (number : ℕ) (limit : LimitOf) → IsNetwork network → slice_get network.limits number ≡ Some limit → IsLimit network limit
+limit_is network number limit bounds found =
+    subst (IsLimit network) (get_or_from_slice_get network.limits number limit limit found) (bounds.each_limit number limit (slice_get_within network.limits number limit found))
+
+pub met_holds : (network : NetworkOf) (plan : List Bool) (number : ℕ) (limit : LimitOf) (verdict : Verdict) → IsNetwork network → slice_get network.limits number ≡ Some limit
+    → verdict ≡ verdict_of network plan limit → verdict ≡ Met → MeetsLimit network plan limit
+met_holds network plan number limit verdict bounds found exact e = met_sound network plan limit bounds (limit_is network number limit bounds found) (sym exact ∙ e)
+
+pub refuted_breaks : (network : NetworkOf) (plan : List Bool) (number : ℕ) (limit : LimitOf) (verdict : Verdict) → IsNetwork network → slice_get network.limits number ≡ Some limit
+    → verdict ≡ verdict_of network plan limit → verdict ≡ Refuted → (x : Displaced) × Breaks network plan limit x
+refuted_breaks network plan number limit verdict bounds found exact e = refuted_sound network plan limit bounds (limit_is network number limit bounds found) (sym exact ∙ e)
+
+pub met_grows : (network : NetworkOf) (plan large : List Bool) (number : ℕ) (limit : LimitOf) (verdict : Verdict) → IsNetwork network → slice_get network.limits number ≡ Some limit
+    → verdict ≡ verdict_of network plan limit → verdict ≡ Met → IsWithin plan large → MeetsLimit network large limit
+met_grows network plan large number limit verdict bounds found exact e within =
+    let is_limit = limit_is network number limit bounds found in
+    MeetsLimit-grows network limit plan large bounds.each_candidate is_limit.bounded.alpha_low within (met_sound network plan limit bounds is_limit (sym exact ∙ e))

@@ -1,7 +1,11 @@
-ghost use Rattle.std.specs.Prelude.{◌≡◌, ◌<◌, Some, length, slice_get};
+ghost use Rattle.std.specs.Prelude.{◌≡◌, ◌<◌, ℕ, ℤ, pos, ◌≤ℤ◌, List, Bool, Some, length, slice_get};
 ghost use Rattle.whole_algebra.specs.Chains.{verdict_of as outcome_on};
 ghost use Rattle.lent_parts.specs.Triangle.{IsTri};
+ghost use Rattle.geo_model.specs.Row.{Displaced};
+ghost use Rattle.geo_model.specs.Energy.{IsWithin};
 ghost use Rattle.geo_model.specs.Limit.{LimitOf, IsLoad};
+ghost use Rattle.geo_model.specs.Meeting.{MeetsLimit, Breaks};
+ghost use Rattle.geo_model.specs.declared.verdict.Verdict.TheVariants.{Met, Refuted, Open};
 ghost use Rattle.normal_matrix.specs.Normal.{IsNormalOf};
 ghost use Rattle.limit_forms.specs.Grid.{grid_of, lower_grid, upper_grid};
 ghost use Rattle.pivot_chain.specs.Chain.{IsSmall};
@@ -15,14 +19,20 @@ use lent_parts::Tri;
 use limit_forms::{LimitGrid, grid_row};
 use normal_matrix::Normal;
 
-/// The verdict of a plan on a limit of the network that the room is for. It takes no memory, and
-/// what the room held before plays no part.
+/// The verdict of a plan on a limit of the network that the room is for. A limit that is Met is met
+/// at all displacements, by each larger plan too; one that is Refuted is broken by some displacement;
+/// an Open one names two numbers with 0 between them. It takes no memory, and what the room held
+/// before plays no part.
 pub fn verdict(room: &mut ChainRoom, network: &Network, plan: &Plan, limit: u32) -> Verdict
     requires room { IsRoomOf network.now room.old }
     requires plan { length plan.now ≡ length network.now.candidates }
     requires limit { limit < length network.now.limits }
     ensures exact { (l : LimitOf) → slice_get network.now.limits limit ≡ Some l → result ≡ verdict_of network.now plan.now l }
     ensures kept { IsRoomOf network.now room.new }
+    ensures met { (l : LimitOf) → slice_get network.now.limits limit ≡ Some l → result ≡ Met → MeetsLimit network.now plan.now l }
+    ensures refuted { (l : LimitOf) → slice_get network.now.limits limit ≡ Some l → result ≡ Refuted → (x : Displaced) × Breaks network.now plan.now l x }
+    ensures interval { (step : ℕ) (lo hi : ℤ) → result ≡ Open step lo hi → (lo ≤ℤ pos 0) × (pos 0 ≤ℤ hi) }
+    ensures larger { (l : LimitOf) (large : List Bool) → slice_get network.now.limits limit ≡ Some l → result ≡ Met → IsWithin plan.now large → MeetsLimit network.now large l }
 {
     let form = &network.limits()[limit as usize];
     let squares = form.squares.as_slice();

@@ -5,7 +5,6 @@ mod chain;
 mod judging;
 mod laws;
 mod plan;
-mod quotient;
 mod room;
 mod side;
 mod step;

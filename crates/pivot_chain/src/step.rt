@@ -7,7 +7,7 @@ ghost use Rattle.whole_algebra.specs.Grid.{row_at};
 ghost use Rattle.pivot_chain.specs.Step.{over_of, IsPivotRow, IsDividing, taken, gap_at, sum_from, slack_of, with_slack};
 
 use crate::Side;
-use crate::quotient::quotient;
+use psd_cert::quotient;
 
 /// Takes one step of a chain on a row, from its diagonal on: `pivot` is the first row of a matrix,
 /// and `row` a later one. It becomes the same row of the smaller matrix that the step leaves.
@@ -39,14 +39,14 @@ fn divide(side: Side, row: &mut [i128], pivot: &[i128], column: usize)
     ensures right { (m : ℕ) → 1 ≤ m → m < length row.old → at row.new m ≡ at row.old m +ℤ taken pivot.now column (column + m) }
     ensures diagonal { at row.new 0 ≡ with_slack side (at row.old 0 +ℤ taken pivot.now column column) (gap_at pivot.now column column) (slack_of pivot.now column) }
 {
-    let left = gaps(pivot, column, 1, column - 1);
+    let left = gaps_in_columns(pivot, column, 1, column - 1);
     let right = divide_right(row, pivot, column);
     let (floor, gap) = quotient(pivot[0], pivot[column], pivot[column]);
     row[0] = add_slack(side, row[0] + floor, gap, left + right);
 }
 
 // How many of `count` quotients of row `column`, from column `first` on, aren't whole.
-fn gaps(pivot: &[i128], column: usize, first: usize, count: usize) -> i128
+fn gaps_in_columns(pivot: &[i128], column: usize, first: usize, count: usize) -> i128
     requires pivot { IsDividing pivot.now }
     requires column { column < length pivot.now }
     requires room { first + count ≤ length pivot.now }

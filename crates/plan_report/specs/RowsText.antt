@@ -1,5 +1,6 @@
 -- The text of the unknowns and the weighted rows of a network, as the command `rows` prints it. This project's own.
-use Rattle.std.specs.Prelude.{ℕ, ◌+◌, ℤ, List, [], ◌∷◌, ◌++◌, codes, flat_map, get_or}
+use Rattle.std.specs.Prelude.{ℕ, ℤ, List, [], ◌++◌, codes, flat_map, get_or}
+use Rattle.std.specs.List.{enumerate_from}
 use Rattle.std.specs.Fmt.{decimal}
 use Rattle.text_num.specs.Whole.{whole_text}
 use Rattle.geo_model.specs.Row.{RowOf}
@@ -11,8 +12,7 @@ use Rattle.geo_model.specs.declared.network.Unknown.{Unknown}
 
 -- the texts of the elements of a list, one after another; each is given its number, counted from `first`
 abbrev pub numbered : {X : Type 0} → (ℕ → X → List ℕ) → ℕ → List X → List ℕ
-numbered text first [] = []
-numbered text first (x ∷ xs) = text first x ++ numbered text (first + 1) xs
+numbered text first xs = flat_map (λ (number, x). text number x) (enumerate_from first xs)
 
 -- the word of a component
 abbrev pub component_text : Component → List ℕ

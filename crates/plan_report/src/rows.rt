@@ -134,8 +134,12 @@ fn put_candidates(
 }
 
 /// The unknowns of a network, `unknown,NUMBER,POINT,PART`, and the weighted rows of its candidates,
-/// `row,NAME,ROW,WEIGHT` with `,COLUMN:COEFFICIENT` for each entry. The network is one of these
-/// tables: its unknowns name points of the first, and it has the candidates of the second.
+/// `row,NAME,ROW,WEIGHT` with `,COLUMN:COEFFICIENT` for each entry, each a line with an LF. Unknowns
+/// and columns are counted from 0, the rows of a candidate from 1. A coefficient is 10000 times the
+/// change of the observation in millimetres or cc by a millimetre or cc of the unknown, and a weight
+/// is 10^8 over the square of the standard deviation in hundredths. The network is one of these
+/// tables: its unknowns name points of the first, and it has the candidates of the second. Refused
+/// for want of memory alone. The form of the text is this project's own.
 pub fn rows_text(
     alloc: Global,
     points: &Points,

@@ -1,22 +1,19 @@
 -- Which rule of a record is broken first, and the point that a record gives.
-use Rattle.std.proofs.Common.{◌≡◌, ◌∙◌, ◌+◌, ℕ, Bool, true, false, List, [], ◌∷◌, Option, Some, None, length, map, refl, sym, ap, not, ◌&&◌, ◌||◌, ◌≤◌, arith, drop}
-use Rattle.std.specs.Prelude.{Err, is_none, IsSome, if◌then◌else◌, nat_lt}
+use Rattle.std.proofs.Common.{◌≡◌, ◌∙◌, ◌+◌, ℕ, Bool, true, false, List, [], ◌∷◌, Option, Some, None, length, map, refl, ap, not, ◌&&◌, ◌||◌, ◌≤◌, arith, drop}
+use Rattle.std.specs.Prelude.{is_none, IsSome, if◌then◌else◌, nat_lt}
 use Rattle.std.proofs.lemmas.Bool.Decides.{nat_tests}
 use Rattle.std.proofs.lemmas.List.{length-map}
-use Rattle.table_rows.specs.Faults.{Rule, first_broken}
+use Rattle.table_rows.specs.Faults.{first_broken}
 use Rattle.table_rows.proofs.FaultFacts.{first_broken-left, first_broken-right}
 use Rattle.point_tables.specs.declared.columns.Columns.{Columns}
 use Rattle.point_tables.specs.declared.fault.FaultKind.{FaultKind}
 use Rattle.point_tables.specs.declared.fault.FaultKind.TheVariants as kind
-use Rattle.point_tables.specs.declared.fault.TableAnswer.{TableAnswer}
-use Rattle.point_tables.specs.declared.fault.TableAnswer.TheVariants as answer
-use Rattle.point_tables.specs.declared.fault.TableName.TheVariants as table
 use Rattle.point_tables.specs.declared.record.PointRecord.{PointRecord}
 use Rattle.point_tables.specs.Accepted.{IsAccepted, is_absent}
-use Rattle.point_tables.specs.Columns.{Answers, name_rules, record_rules}
+use Rattle.point_tables.specs.Columns.{name_rules, record_rules}
 use Rattle.point_tables.specs.Names.{is_among, is_name}
 use Rattle.point_tables.specs.PointTable.{column_rules, name_at, names_of, point_of, points_table, rules_after}
-use Rattle.point_tables.specs.Read.{Adds, IsColumns, IsNewName}
+use Rattle.point_tables.specs.Read.{IsColumns, IsNewName}
 
 -- ---- the rules of a name
 
@@ -48,6 +45,10 @@ module _ (number : ℕ) (row names : List (List ℕ)) where
       → first_broken (column_rules row) ≡ found → first_broken (rules_after number row names) ≡ found
   unfolding rules_after
   broken-columns found e f g = first_broken-right _ _ e ∙ first_broken-right _ _ f ∙ g
+
+-- a point by its name
+abbrev pub by_name : PointRecord → List ℕ
+by_name point = point.name
 
 -- the names of points are those of their records
 pub names-read : (rows : List (List (List ℕ))) → names_of (map point_of rows) ≡ map name_at rows
@@ -102,15 +103,6 @@ pub read-point : (row : List (List ℕ)) (name : List ℕ) (columns : Columns) �
     → record { name = name; x = columns.x; y = columns.y; z = columns.z; plane = columns.plane; height = columns.height } ≡ point_of row
 unfolding point_of
 read-point row name columns same is = rw (same, is.x.value, is.y.value, is.z.value, is.plane.value, is.height.value) refl
-
--- ---- what a record that was not added answers
-
-pub answers-err : (fault : Option (ℕ × FaultKind)) (read before after : List PointRecord) (number : ℕ) (rules : List (Rule FaultKind)) (point : PointRecord) (refused : TableAnswer)
-    → Adds number rules point before after (Err refused) → ((kind : FaultKind) → first_broken rules ≡ Some kind → fault ≡ Some (number, kind))
-    → Answers {V = List PointRecord} table.Points fault read (Err refused)
-answers-err fault read before after number rules point (answer.Fault found) adds first =
-    (first found.kind adds.0 ∙ ap (λ (n : ℕ). Some (n, found.kind)) (sym adds.1), adds.2)
-answers-err fault read before after number rules point answer.NoMemory adds first = tt
 
 -- a record whose number is within its bound
 pub record-few : (most fields number : ℕ) (row : List (List ℕ)) → first_broken (record_rules most fields number row) ≡ None → number ≤ most

@@ -1,5 +1,6 @@
-ghost use Rattle.std.specs.Prelude.{◌≡◌, ◌↔◌, ◌≢◌, ◌<◌, ◌≤◌, ◌++◌, [], ◌∷◌, ℕ, length, Some, None, IsNone, OnOk, OnErr, slice_get, false};
+ghost use Rattle.std.specs.Prelude.{◌≡◌, ◌↔◌, ◌≢◌, ◌<◌, ◌≤◌, ◌++◌, ◌^◌, [], ◌∷◌, ℕ, length, Some, None, IsNone, OnOk, OnErr, slice_get, false, unsigned_abs};
 ghost use Rattle.point_tables.specs.Accepted.{IsAccepted};
+ghost use Rattle.point_tables.specs.Coordinates.{x_at, y_at};
 ghost use Rattle.point_tables.specs.Names.{is_among, place_of};
 ghost use Rattle.point_tables.specs.PointTable.{names_of};
 
@@ -23,11 +24,11 @@ impl Model for Points {
 
     ghost Value = { List PointRecord };
 
-    ghost use Rattle.point_tables.specs.Stored.{AreStored};
+    ghost use Rattle.point_tables.specs.Stored.{AreStoredPoints};
 
     ghost view = { λ points. values points.records };
 
-    ghost invariant = { λ points. AreStored points.records.entries };
+    ghost invariant = { λ points. AreStoredPoints points.records.entries };
 }
 
 impl Points {
@@ -58,6 +59,24 @@ impl Points {
             Some((_, point)) => point,
             None => unreachable!(),
         }
+    }
+
+    /// The coordinate x of point `k` in millimetres, and 0 where it has none.
+    pub fn x(&self, k: u32) -> i64
+        requires { k < length self.now }
+        ensures value { result ≡ x_at self.now k }
+        ensures size { unsigned_abs result ≤ 10 ^ 11 }
+    {
+        self.get(k).x.unwrap_or(0)
+    }
+
+    /// The coordinate y of point `k` in millimetres, and 0 where it has none.
+    pub fn y(&self, k: u32) -> i64
+        requires { k < length self.now }
+        ensures value { result ≡ y_at self.now k }
+        ensures size { unsigned_abs result ≤ 10 ^ 11 }
+    {
+        self.get(k).y.unwrap_or(0)
     }
 
     /// The number of the point of this name, counted from 0. None where no point has it.

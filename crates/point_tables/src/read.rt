@@ -1,5 +1,6 @@
-ghost use Rattle.std.specs.Prelude.{◌≡◌, ◌+◌, ◌<◌, length};
+ghost use Rattle.std.specs.Prelude.{◌≡◌, ◌+◌, ◌<◌, length, IfOk, OnOk};
 ghost use Rattle.point_tables.specs.declared.fault.TableName.TheVariants as table;
+ghost use Rattle.point_tables.specs.Accepted.{ArePoints, IsAccepted};
 ghost use Rattle.point_tables.specs.Columns.{Answers, Reads, name_rules};
 ghost use Rattle.point_tables.specs.PointTable.{names_of, point_of, points_fault, points_of, rules_after};
 ghost use Rattle.point_tables.specs.Read.{Adds, IsNewName};
@@ -44,7 +45,8 @@ fn fault(number: u32, kind: FaultKind) -> TableAnswer
 
 // Adds the point of a record, or says which of its rules it breaks first.
 fn add_record(alloc: Global, row: &TableRow, points: &mut Points) -> Result<(), TableAnswer>
-    ensures { Adds (length points.old + 2) (rules_after (length points.old + 2) row.now (names_of points.old)) (point_of row.now) points.old points.new result }
+    ensures added { Adds table.Points (length points.old + 2) (rules_after (length points.old + 2) row.now (names_of points.old)) (point_of row.now) points.old points.new result }
+    ensures accepted { OnOk result (IsAccepted (point_of row.now)) }
 {
     let number = points.len() + 2;
     if let Some(kind) = broken_record(MOST_RECORDS, 6, number, row) {
@@ -72,7 +74,8 @@ fn add_record(alloc: Global, row: &TableRow, points: &mut Points) -> Result<(), 
 
 /// Reads a points table: the points of its records in their order, or its first fault.
 pub fn read_points(alloc: Global, bytes: &[u8]) -> Result<Points, TableAnswer>
-    ensures { Answers table.Points (points_fault bytes.now) (points_of bytes.now) result }
+    ensures answer { Answers table.Points (points_fault bytes.now) (points_of bytes.now) result }
+    ensures accepted { IfOk result ArePoints }
 {
     let header = &["name", "x", "y", "z", "plane", "height"];
     let Some(mut rows) = TableRows::under_header(alloc, bytes, header)? else {

@@ -24,7 +24,7 @@ const FILES: [(&[u8], &[u8]); 9] = [
 ];
 
 // Records under the header row, and what the table is read as. The expected texts come from another program.
-const RECORDS: [(&[u8], &[u8]); 55] = [
+const RECORDS: [(&[u8], &[u8]); 25] = [
     (
         b"A,,,100.000,,fixed\nH,,,101.000,,1.0\n",
         b"A None None Some(100000) Absent Fixed;H None None Some(101000) Absent New(10);",
@@ -67,6 +67,12 @@ const RECORDS: [(&[u8], &[u8]); 55] = [
         b"A None None None Absent Absent;a None None None Absent Absent;",
     ),
     (b"A,,,,,\n\",\",,,,,\n", b"3 Name"),
+    (b"name,,,,,\n", b"name None None None Absent Absent;"),
+];
+
+// Records with a number that is none, is out of bounds or is missing, and what the table is read as. The expected texts
+// come from another program.
+const NUMBERS: [(&[u8], &[u8]); 32] = [
     (b"A,,,1000000000000.000,,\n", b"2 Number"),
     (
         b"A,,,000000000001.0000,,\n",
@@ -94,6 +100,7 @@ const RECORDS: [(&[u8], &[u8]); 55] = [
     (b"A,,,1,,0.0\n", b"2 Range"),
     (b"A,,,1,,100.1\n", b"2 Range"),
     (b"A,1,1,,0.0,\n", b"2 Range"),
+    (b"A,1,1,,100.1,\n", b"2 Range"),
     (b"A,1,1,,-5.0,\n", b"2 Range"),
     (
         b"A,,,100000000.000,,100.0\n",
@@ -149,18 +156,33 @@ fn shown(rt: &impl Abort, alloc: Global, bytes: &[u8]) -> Result<Vec<u8>, Fail> 
     Ok(out)
 }
 
+// Asserts that each of some lists of records is read as its text.
+fn expect_shown(rt: &impl Abort, alloc: Global, rows: &[(&[u8], &[u8])]) -> Result<(), Fail> {
+    for (records, expected) in rows {
+        let mut bytes = HEADER.to_vec(alloc)?;
+        bytes.extend_from_slice(records)?;
+        assert!(rt; shown(rt, alloc, bytes.as_slice())?.as_slice() == *expected);
+    }
+    Ok(())
+}
+
 #[test]
 fn tables_read_as_points_or_as_their_first_fault(rt: HostRuntime) -> Result<(), Fail> {
     for (bytes, expected) in FILES {
         assert!(rt; shown(&rt, rt.alloc(), bytes)?.as_slice() == expected);
     }
-    for (records, expected) in RECORDS {
-        let mut bytes = HEADER.to_vec(rt.alloc())?;
-        bytes.extend_from_slice(records)?;
-        assert!(rt; shown(&rt, rt.alloc(), bytes.as_slice())?.as_slice() == expected);
-    }
     first_point_fault_is_least();
     Ok(())
+}
+
+#[test]
+fn records_and_names_are_judged_in_order(rt: HostRuntime) -> Result<(), Fail> {
+    expect_shown(&rt, rt.alloc(), &RECORDS)
+}
+
+#[test]
+fn numbers_and_parts_are_judged_in_order(rt: HostRuntime) -> Result<(), Fail> {
+    expect_shown(&rt, rt.alloc(), &NUMBERS)
 }
 
 // A table of so many points.

@@ -3,7 +3,7 @@ use Rattle.std.proofs.Common.{◌≡◌, ℕ, zero, suc, ◌+◌, ◌-◌, ◌<�
 use Rattle.std.specs.Prelude.{All}
 use Rattle.lent_parts.specs.Triangle.{IsTri}
 use Rattle.lent_parts.proofs.Triangles.{length-IsTri}
-use Rattle.psd_cert.specs.Limit.{Fits}
+use Rattle.psd_cert.specs.Sizes.{Fits}
 use Rattle.psd_cert.specs.Certificate.{IsCertificate}
 
 -- a list is its first element and the rest, as a slice's pattern gives them

@@ -8,10 +8,19 @@ use Rattle.whole_algebra.proofs.Refutation.{false_is_not_true}
 use Rattle.whole_algebra.proofs.LowerCertificate.{triangle-next_lower, lower_certificate}
 use Rattle.lent_parts.specs.Triangle.{IsTri}
 use Rattle.lent_parts.proofs.Triangles.{length-IsTri}
-use Rattle.psd_cert.specs.Limit.{Fits}
+use Rattle.psd_cert.specs.Sizes.{Fits}
 use Rattle.psd_cert.specs.Certificate.{IsCertificate, IsKept}
-use Rattle.psd_cert.specs.Lower.{StopsHere, Leaves, last_matrix, IsBegun}
+use Rattle.psd_cert.specs.Lower.{StopsHere, Leaves, last_matrix}
 use Rattle.psd_cert.proofs.FormBounds.{chain_fits}
+use Rattle.psd_cert.proofs.RowLaws.{parts}
+
+-- the remainders so far begin those of the lower chain of a first matrix, which goes on from the last one
+pub record IsBegun (n : ℕ) (first : List (List ℤ)) (rs : List (List (List ℤ))) : Type 0 where
+  pub shape : IsTri (n - length rs) (last_matrix first rs)
+  pub fits : Fits (last_matrix first rs)
+  pub all_fit : All Fits rs
+  pub go_on : rs ++ lower_remainders (n - length rs) (last_matrix first rs) ≡ lower_remainders n first
+  pub stops_as : stops (chain_steps lower_over (n - length rs) (last_matrix first rs)) ≡ stops (chain_steps lower_over n first)
 
 no_stop_here : (t u : Bool) → t ≡ false → t || u ≡ u
 no_stop_here true u e = absurd (false_is_not_true (sym e))
@@ -114,10 +123,6 @@ length-lower_remainders (suc n) (row ∷ rest) t e =
     let p = parts (is_stop (step_of row)) (stops (chain_steps lower_over n (next lower_over row rest))) e in
     let shape = triangle-next_lower n row rest t.0 t.1 (no_stop_here (is_stop (step_of row)) false p.0) in
     (shape, length-lower_remainders n (next lower_over row rest) shape p.1)
-  where
-    parts : (t u : Bool) → t || u ≡ false → (t ≡ false) × (u ≡ false)
-    parts true u e = absurd (false_is_not_true (sym e))
-    parts false u e = (refl, e)
 
 -- what a whole chain gives
 pub record Made (first : List (List ℤ)) (rs : List (List (List ℤ))) : Type 0 where

@@ -1,5 +1,5 @@
 -- Steps of the lower chain: their entries, their shape, and what the code's number to divide by makes of them.
-use Rattle.std.proofs.Common.{◌≡◌, ℕ, zero, suc, ◌+◌, ◌-◌, ◌^◌, ◌<◌, ◌≤◌, Bool, true, false, cond, ◌&&◌, ◌||◌, List, [], ◌∷◌, map, length, refl, sym, ◌∙◌, ap, ap₂, subst, arith, inl, inr, ℤ, pos, ◌+ℤ◌, ◌-ℤ◌, ◌*ℤ◌, neg_ℤ, ◌≤ℤ◌, ◌<ℤ◌, unsigned_abs, IsTrue, IsFalse, int_le, int_lt}
+use Rattle.std.proofs.Common.{◌≡◌, ℕ, zero, suc, ◌+◌, ◌-◌, ◌^◌, ◌<◌, ◌≤◌, false, cond, ◌&&◌, List, [], ◌∷◌, map, length, refl, sym, ◌∙◌, ap, ap₂, subst, arith, inl, inr, ℤ, pos, ◌+ℤ◌, ◌-ℤ◌, ◌*ℤ◌, neg_ℤ, ◌≤ℤ◌, ◌<ℤ◌, unsigned_abs, IsTrue, IsFalse}
 use Rattle.std.specs.Prelude.{All}
 use Rattle.std.specs.Int.{int_rem_euclid}
 use Rattle.std.specs.List.{list_all}
@@ -15,15 +15,14 @@ use Rattle.whole_algebra.proofs.Shapes.{triangle-schur, triangle-lower_over}
 use Rattle.whole_algebra.proofs.Places.{at-beside, at-diagonal, at-row_at-entries, at-off_sums, lower_over-right, lower_over-diagonal, triangle_by_places}
 use Rattle.whole_algebra.proofs.PivotStep.{lower_step-right, lower_step-diagonal, slack_of_step}
 use Rattle.whole_algebra.proofs.ChainLaws.{step_cases, is_zero-true, and_left, and_right, positive}
-use Rattle.whole_algebra.proofs.Refutation.{false_is_not_true}
 use Rattle.whole_algebra.proofs.Normal.{ring, x0, lit, ◌⊖◌, ◌⊗◌}
 use Rattle.lent_parts.specs.Triangle.{IsTri, tri_row}
-use Rattle.psd_cert.specs.Limit.{Fits}
+use Rattle.psd_cert.specs.Sizes.{Fits}
 use Rattle.psd_cert.specs.LeftOver.{IsScale}
 use Rattle.psd_cert.specs.Lower.{divided, gaps_of, IsDivisor, Leaves}
 use Rattle.psd_cert.proofs.Entries.{entry_fits, length-beside}
 use Rattle.psd_cert.proofs.LeftOverLaws.{no_change}
-use Rattle.psd_cert.proofs.ScaleLaws.{zero_is, both, pass_zeros}
+use Rattle.psd_cert.proofs.RowLaws.{zero_is, both, zero_all, not_large, large_stops, apart_zero, not_low, not_high, clash}
 
 -- ---- the shape and the entries
 pub triangle-divided : (s : ℤ) (n : ℕ) (m : List (List ℤ)) → IsTri (suc n) m → IsTriangle n (divided s m)
@@ -151,18 +150,6 @@ lower_over_one n m t = triangle_by_places n (lower_over (pos 1) m) m (triangle-l
     at_place i (suc k) = lower_over-right (pos 1) m i k above_zero ∙ floor_over_one (at (row_at m i) (suc k))
 
 -- ---- the cases of a step
-apart_zero : (a : ℤ) → pos 0 <ℤ a → a ≡ pos 0 → ⊥
-apart_zero a h e = omega (arith, ints)
-
-not_low : (a : ℤ) → pos 0 <ℤ a → int_le a (pos 0) ≡ true → ⊥
-not_low a h e = omega (arith, ints)
-
-not_high : (a : ℤ) → a ≡ pos 0 → int_le a (pos 0) ≡ false → ⊥
-not_high a h e = omega (arith, ints)
-
-clash : (b : Bool) → b ≡ true → b ≡ false → ⊥
-clash b e f = false_is_not_true (sym f ∙ e)
-
 pub leaves_divided : (n : ℕ) (m : List (List ℤ)) (s : ℤ) → IsTri (suc n) m → IsDivisor (tri_row m 0) s → Leaves m (divided s m)
 unfolding divided
 leaves_divided n [] s t d = absurd t
@@ -177,8 +164,8 @@ leaves_divided n ((a ∷ b) ∷ rest) s t d =
       | inr q ↦ step_cases (λ st. IsFalse (is_stop st) × (lower_over s (schur s b rest) ≡ left_after lower_over st b rest)) a b
           (λ _. (refl, ap (λ z. lower_over z (schur z b rest)) q.2 ∙ ap (lower_over (pos 1)) (no_change n b rest (omega (arith, t.0)) t.1 q.1) ∙ lower_over_one n rest t.1))
           (λ some _. absurd (clash (is_zero a && list_all is_zero b) (both (is_zero a) (list_all is_zero b) (zero_is a q.0) q.1) some))
-          (λ high _. absurd (not_high a q.0 high))
-          (λ high _. absurd (not_high a q.0 high))
+          (λ high _. absurd (not_high a (λ above. apart_zero a above q.0) high))
+          (λ high _. absurd (not_high a (λ above. apart_zero a above q.0) high))
     ]
 
 pub no_scale_stops : (row : List ℤ) → 0 < length row → ((s : ℤ) → IsScale row s → ⊥) → IsTrue (is_stop (step_of row))
@@ -191,40 +178,6 @@ no_scale_stops (a ∷ b) lt none =
     (λ above _. absurd (none a (inl (positive a above, refl))))
 
 -- ---- sizes beside a pivot
-not_large : (s : ℤ) (b : List ℤ) → All (λ c. (c *ℤ c) ≤ℤ (s *ℤ size_limit)) b → is_too_large s b ≡ false
-not_large s [] h = refl
-not_large s (c ∷ b) h = neither (int_lt (s *ℤ size_limit) (c *ℤ c)) (is_too_large s b) (at_most (s *ℤ size_limit) (c *ℤ c) (h 0 (pos 0) (omega arith))) (not_large s b (λ k d lt. h (suc k) d (omega arith)))
-  where
-    neither : (t u : Bool) → t ≡ false → u ≡ false → t || u ≡ false
-    neither true u e f = e
-    neither false u e f = f
-
-    at_most : (k q : ℤ) → q ≤ℤ k → int_lt k q ≡ false
-    at_most k q h = only_false (int_lt k q) (λ e. above k q h e)
-      where
-        only_false : (t : Bool) → (t ≡ true → ⊥) → t ≡ false
-        only_false true h = absurd (h refl)
-        only_false false h = refl
-
-        above : (k q : ℤ) → q ≤ℤ k → int_lt k q ≡ true → ⊥
-        above k q h e = omega (arith, ints)
-
-all_small : (s : ℤ) (b : List ℤ) → is_too_large s b ≡ false → All (λ c. (c *ℤ c) ≤ℤ (s *ℤ size_limit)) b
-all_small s [] e k d lt = absurd (omega arith)
-all_small s (c ∷ b) e zero d lt = at_most (s *ℤ size_limit) (c *ℤ c) (left (int_lt (s *ℤ size_limit) (c *ℤ c)) (is_too_large s b) e)
-  where
-    left : (t u : Bool) → t || u ≡ false → t ≡ false
-    left true u e = e
-    left false u e = refl
-
-    at_most : (k q : ℤ) → int_lt k q ≡ false → q ≤ℤ k
-    at_most k q h = omega (arith, ints)
-all_small s (c ∷ b) e (suc k) d lt = all_small s b (right (int_lt (s *ℤ size_limit) (c *ℤ c)) (is_too_large s b) e) k d (omega arith)
-  where
-    right : (t u : Bool) → t || u ≡ false → u ≡ false
-    right true u e = absurd (false_is_not_true (sym e))
-    right false u e = e
-
 -- a scale with small numbers beside it is what the chain divides by
 pub small_divides : (row : List ℤ) (s : ℤ) → IsScale row s → All (λ c. (c *ℤ c) ≤ℤ (s *ℤ size_limit)) (beside row) → IsDivisor row s
 small_divides [] s d h = absurd d
@@ -235,16 +188,12 @@ small_divides (a ∷ b) s d h =
     ]
 
 -- and with a large one the chain stops
-pub large_stops : (row : List ℤ) (s : ℤ) → IsScale row s → (All (λ c. (c *ℤ c) ≤ℤ (s *ℤ size_limit)) (beside row) → ⊥) → IsTrue (is_stop (step_of row))
-large_stops [] s d h = absurd d
-large_stops (a ∷ b) s d h =
+pub large_scale_stops : (row : List ℤ) (s : ℤ) → IsScale row s → (All (λ c. (c *ℤ c) ≤ℤ (s *ℤ size_limit)) (beside row) → ⊥) → IsTrue (is_stop (step_of row))
+large_scale_stops [] s d h = absurd d
+large_scale_stops (a ∷ b) s d h =
     elim d [
-      | inl p ↦ step_cases (λ st. IsTrue (is_stop st)) a b
-          (λ zeros. absurd (apart_zero a p.0 (is_zero-true a (and_left (is_zero a) (list_all is_zero b) zeros))))
-          (λ _ _. refl)
-          (λ _ _. refl)
-          (λ _ small. absurd (h (subst (λ z. All (λ c. (c *ℤ c) ≤ℤ (z *ℤ size_limit)) b) (sym p.1) (all_small a b small))))
-      | inr q ↦ absurd (h (zeros_small s b (omega (arith, ints, q.2)) (pass_zeros b q.1)))
+      | inl p ↦ ap is_stop (large_stops (a ∷ b) p.0 (λ small. h (subst (λ z. All (λ c. (c *ℤ c) ≤ℤ (z *ℤ size_limit)) b) (sym p.1) small)))
+      | inr q ↦ absurd (h (zeros_small s b (omega (arith, ints, q.2)) (zero_all b q.1)))
     ]
   where
     zeros_small : (s : ℤ) (b : List ℤ) → pos 0 ≤ℤ s → All (λ c. c ≡ pos 0) b → All (λ c. (c *ℤ c) ≤ℤ (s *ℤ size_limit)) b

@@ -8,7 +8,7 @@ use Rattle.whole_algebra.specs.Grid.{row_at}
 use Rattle.whole_algebra.proofs.Shapes.{triangle-schur, triangle-entries, length-plus_lists}
 use Rattle.whole_algebra.proofs.Places.{at-row_at-schur, at-row_at-minus_matrix, at-row_at-entries, at-beside}
 use Rattle.lent_parts.specs.Triangle.{IsTri, tri_row}
-use Rattle.psd_cert.specs.Limit.{RowFits, Fits}
+use Rattle.psd_cert.specs.Sizes.{RowFits, Fits}
 use Rattle.psd_cert.specs.LeftOver.{left_over, left_sizes, IsScale}
 use Rattle.psd_cert.proofs.Products.{kept, read_back}
 

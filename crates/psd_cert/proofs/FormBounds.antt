@@ -13,7 +13,7 @@ use Rattle.whole_algebra.proofs.ChainLaws.{lower_nonneg}
 use Rattle.whole_algebra.proofs.Places.{at-diagonal}
 use Rattle.whole_algebra.proofs.Normal.{ring, x0, x1, x2, x3, lit, opposite_of, ◌⊕◌, ◌⊖◌, ◌⊗◌}
 use Rattle.lent_parts.proofs.Triangles.{length-IsTri, length-tri_row}
-use Rattle.psd_cert.specs.Limit.{RowFits, Fits}
+use Rattle.psd_cert.specs.Sizes.{RowFits, Fits}
 
 -- ---- the form at one or two places
 one_place : ℕ → ℤ → List ℤ

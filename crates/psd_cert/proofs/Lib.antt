@@ -1,4 +1,6 @@
 pub mod Decided
+pub mod RowLaws
+pub mod Quotients
 pub mod ScaleLaws
 pub mod Products
 pub mod Entries

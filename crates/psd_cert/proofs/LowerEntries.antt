@@ -13,7 +13,7 @@ use Rattle.whole_algebra.proofs.Places.{triangle_by_places}
 use Rattle.whole_algebra.proofs.Normal.{ring, x0, x1, ◌⊕◌, ◌⊖◌}
 use Rattle.lent_parts.specs.Triangle.{IsTri, tri_row, refilled}
 use Rattle.lent_parts.proofs.Triangles.{refilled_whole, length-IsTri, length-tri_row, IsTri-slice_set}
-use Rattle.psd_cert.specs.Limit.{RowFits}
+use Rattle.psd_cert.specs.Sizes.{RowFits}
 use Rattle.psd_cert.specs.Lower.{divided, gaps_of, IsDivisor, IsDivision}
 use Rattle.psd_cert.proofs.Products.{kept, read_back}
 use Rattle.psd_cert.proofs.Entries.{entry_read}

@@ -1,7 +1,7 @@
 -- The shape of a certificate, and its steps. This project's own; the rule of a step is in `Certificates` of whole_algebra.
 use Rattle.std.specs.Prelude.{ℕ, zero, suc, List, [], ◌∷◌, length, All, ℤ}
 use Rattle.lent_parts.specs.Triangle.{IsTri}
-use Rattle.psd_cert.specs.Limit.{Fits}
+use Rattle.psd_cert.specs.Sizes.{Fits}
 use Rattle.whole_algebra.specs.Certificates.{StepHolds}
 
 -- n remainders, of the sizes n - 1 down to 0

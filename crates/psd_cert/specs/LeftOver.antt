@@ -5,7 +5,7 @@ use Rattle.lent_parts.specs.Triangle.{IsTri}
 use Rattle.whole_algebra.specs.Rounding.{is_zero, size_of}
 use Rattle.whole_algebra.specs.Matrices.{at, entries, schur, diagonal, off_sums, minus_matrix}
 use Rattle.whole_algebra.specs.Chains.{beside}
-use Rattle.psd_cert.specs.Limit.{Fits}
+use Rattle.psd_cert.specs.Sizes.{Fits}
 
 -- the entries s (c_ij - r_ij) - b_i b_j, for a first row with b beside its diagonal entry, c below it and the remainder r
 unfoldable pub left_over : ℤ → List (List ℤ) → List (List ℤ) → List (List ℤ)

@@ -1,4 +1,4 @@
-pub mod Limit
+pub mod Sizes
 pub mod Certificate
 pub mod LeftOver
 pub mod Lower

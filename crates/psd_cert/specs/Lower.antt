@@ -1,13 +1,13 @@
--- Steps of the lower chain, as code reckons them. This project's own.
-use Rattle.std.specs.Prelude.{◌≡◌, ℕ, suc, ◌-◌, ◌^◌, ◌<◌, ◌≤◌, ◌⊎◌, List, [], ◌∷◌, ◌++◌, length, map, ℤ, pos, neg_ℤ, ◌*ℤ◌, ◌<ℤ◌, unsigned_abs, IsTrue, IsFalse, All}
+-- Steps of the lower chain, in the words of the private functions that take them: these serve their proofs, and say how
+-- a step is reckoned. What a chain is stands in `Chains` of whole_algebra. This project's own.
+use Rattle.std.specs.Prelude.{◌≡◌, ℕ, suc, ◌^◌, ◌<◌, ◌≤◌, ◌⊎◌, List, [], ◌∷◌, length, map, ℤ, pos, neg_ℤ, ◌*ℤ◌, ◌<ℤ◌, unsigned_abs, IsTrue, IsFalse}
 use Rattle.std.specs.List.{list_all}
 use Rattle.lent_parts.specs.Triangle.{IsTri}
 use Rattle.whole_algebra.specs.Sums.{int_sum}
 use Rattle.whole_algebra.specs.Rounding.{is_zero, gap_over}
 use Rattle.whole_algebra.specs.Matrices.{at, schur, lower_over}
-use Rattle.whole_algebra.specs.Chains.{beside, next, is_too_large, step_of, is_stop, stops, chain_steps}
-use Rattle.whole_algebra.specs.Certificates.{lower_remainders}
-use Rattle.psd_cert.specs.Limit.{Fits}
+use Rattle.whole_algebra.specs.Chains.{beside, next, is_too_large, step_of, is_stop}
+use Rattle.psd_cert.specs.Sizes.{Fits}
 
 -- what is left below the first row, divided by s from below
 unfoldable pub divided : ℤ → List (List ℤ) → List (List ℤ)
@@ -34,14 +34,6 @@ Leaves (row ∷ rest) m = IsFalse (is_stop (step_of row)) × (m ≡ next lower_o
 abbrev pub last_matrix : List (List ℤ) → List (List (List ℤ)) → List (List ℤ)
 last_matrix first [] = first
 last_matrix first (r ∷ rs) = last_matrix r rs
-
--- the remainders so far begin those of the lower chain of a first matrix, which goes on from the last one
-pub record IsBegun (n : ℕ) (first : List (List ℤ)) (rs : List (List (List ℤ))) : Type 0 where
-  pub shape : IsTri (n - length rs) (last_matrix first rs)
-  pub fits : Fits (last_matrix first rs)
-  pub all_fit : All Fits rs
-  pub go_on : rs ++ lower_remainders (n - length rs) (last_matrix first rs) ≡ lower_remainders n first
-  pub stops_as : stops (chain_steps lower_over (n - length rs) (last_matrix first rs)) ≡ stops (chain_steps lower_over n first)
 
 -- how many of the quotients of row i, over the whole first row, aren't whole: the diagonal's own is among them
 abbrev pub gaps_of : ℤ → List ℤ → ℕ → ℤ

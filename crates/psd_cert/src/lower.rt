@@ -5,13 +5,13 @@ ghost use Rattle.whole_algebra.specs.Matrices.{at, diagonal};
 ghost use Rattle.whole_algebra.specs.Chains.{size_limit, step_of, is_stop};
 ghost use Rattle.whole_algebra.specs.Grid.{row_at};
 ghost use Rattle.lent_parts.specs.Triangle.{IsTri, tri_row};
-ghost use Rattle.psd_cert.specs.Limit.{RowFits, Fits};
+ghost use Rattle.psd_cert.specs.Sizes.{RowFits, Fits};
 ghost use Rattle.psd_cert.specs.Lower.{divided, gaps_of, IsDivisor, IsDivision, StopsHere, Leaves};
 
-use crate::limit::LIMIT;
-use crate::product::product;
+use crate::arithmetic::quotient;
+use crate::first_row::are_small;
 use crate::step::scale_of;
-use geo_base::{NoMemory, floor_div};
+use geo_base::NoMemory;
 use lent_parts::Tri;
 use std::alloc::Global;
 
@@ -46,21 +46,6 @@ fn divisor_of(first: &[i128]) -> Option<i128>
         }
         None => None,
     }
-}
-
-// Whether no square of a row is above `2^61 s`.
-fn are_small(s: i128, row: &[i128]) -> bool
-    requires size { unsigned_abs s ≤ 2 ^ 61 }
-    requires fits { RowFits row.now }
-    ensures { IsTrue result ↔ All (λ c. (c *ℤ c) ≤ℤ (s *ℤ size_limit)) row.now }
-{
-    let most = product(s, LIMIT as i128);
-    for c in row {
-        if product(*c, *c) > most {
-            return false;
-        }
-    }
-    true
 }
 
 // What is left below the first row, divided by `s`.
@@ -108,18 +93,21 @@ fn divided_at(s: i128, current: &Tri, i: u32, k: u32) -> i128
 // `c - p q / s`, rounded down.
 fn lowered(s: i128, c: i128, p: i128, q: i128) -> i128
     requires above { pos 0 <ℤ s }
+    requires s { unsigned_abs s ≤ 2 ^ 61 }
     requires c { unsigned_abs c ≤ 2 ^ 61 }
     requires p { unsigned_abs p ≤ 2 ^ 61 }
     requires q { unsigned_abs q ≤ 2 ^ 61 }
     ensures value { result ≡ c +ℤ floor_over s (neg_ℤ (p *ℤ q)) }
     ensures size { unsigned_abs result ≤ 2 ^ 125 }
 {
-    c + floor_div(minus_product(p, q), s)
+    let (floor, _gap) = quotient(s, p, q);
+    c + floor
 }
 
 // The slack of row `i`: how many of its quotients off the diagonal aren't whole.
 fn slack(s: i128, first: &[i128], i: u32) -> i128
     requires above { pos 0 <ℤ s }
+    requires s { unsigned_abs s ≤ 2 ^ 61 }
     requires fits { RowFits first.now }
     requires few { length first.now ≤ 64 }
     requires within { suc i < length first.now }
@@ -127,12 +115,14 @@ fn slack(s: i128, first: &[i128], i: u32) -> i128
     ensures size { unsigned_abs result ≤ 64 }
 {
     let p = first[i as usize + 1];
-    gaps(s, p, &first[1..]) - gap(s, p, p)
+    let (_floor, own) = quotient(s, p, p);
+    gaps_over(s, p, &first[1..]) - own
 }
 
 // How many of the quotients `- p c / s` over a row of numbers `c` aren't whole.
-fn gaps(s: i128, p: i128, row: &[i128]) -> i128
+fn gaps_over(s: i128, p: i128, row: &[i128]) -> i128
     requires above { pos 0 <ℤ s }
+    requires s { unsigned_abs s ≤ 2 ^ 61 }
     requires p { unsigned_abs p ≤ 2 ^ 61 }
     requires fits { RowFits row.now }
     requires few { length row.now < 64 }
@@ -142,33 +132,8 @@ fn gaps(s: i128, p: i128, row: &[i128]) -> i128
 {
     let mut sum = 0;
     for c in row {
-        sum += gap(s, p, *c);
+        let (_floor, gap) = quotient(s, p, *c);
+        sum += gap;
     }
     sum
-}
-
-// 1 where the quotient `- p c / s` isn't whole, else 0.
-fn gap(s: i128, p: i128, c: i128) -> i128
-    requires above { pos 0 <ℤ s }
-    requires p { unsigned_abs p ≤ 2 ^ 61 }
-    requires c { unsigned_abs c ≤ 2 ^ 61 }
-    ensures value { result ≡ gap_over s (neg_ℤ (p *ℤ c)) }
-    ensures low { pos 0 ≤ℤ result }
-    ensures high { result ≤ℤ pos 1 }
-{
-    if minus_product(p, c).rem_euclid(s) == 0 {
-        0
-    } else {
-        1
-    }
-}
-
-// `- p q`, for numbers of at most `2^61` in size.
-fn minus_product(p: i128, q: i128) -> i128
-    requires p { unsigned_abs p ≤ 2 ^ 61 }
-    requires q { unsigned_abs q ≤ 2 ^ 61 }
-    ensures value { result ≡ neg_ℤ (p *ℤ q) }
-    ensures size { unsigned_abs result ≤ 2 ^ 124 }
-{
-    0 - product(p, q)
 }

@@ -4,7 +4,7 @@ ghost use Rattle.whole_algebra.specs.Matrices.{quad};
 ghost use Rattle.whole_algebra.specs.Chains.{stops, lower_chain};
 ghost use Rattle.whole_algebra.specs.Certificates.{CertificateHolds, lower_remainders};
 ghost use Rattle.lent_parts.specs.Triangle.{IsTri};
-ghost use Rattle.psd_cert.specs.Limit.{Fits};
+ghost use Rattle.psd_cert.specs.Sizes.{Fits};
 ghost use Rattle.psd_cert.specs.Certificate.{IsCertificate};
 ghost use Rattle.psd_cert.specs.Lower.{last_matrix as last_of};
 
@@ -46,15 +46,13 @@ impl SquareCert {
     {
         let mut remainders = Vec::new(alloc);
         for _step in 0..first.size() {
-            match lower_step(alloc, last_matrix(first, &remainders))? {
-                Some(left) => {
-                    if !fits(&left) {
-                        return Ok(None);
-                    }
-                    remainders.push(left)?;
-                }
-                None => return Ok(None),
+            let Some(left) = lower_step(alloc, last_matrix(first, &remainders))? else {
+                return Ok(None);
+            };
+            if !fits(&left) {
+                return Ok(None);
             }
+            remainders.push(left)?;
         }
         Ok(Some(SquareCert { remainders }))
     }

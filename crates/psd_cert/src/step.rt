@@ -1,14 +1,15 @@
-ghost use Rattle.std.specs.Prelude.{◌≡◌, ℕ, ◌+◌, ◌-◌, ◌<◌, ◌≤◌, ◌^◌, ◌↔◌, ℤ, pos, ◌-ℤ◌, ◌*ℤ◌, ◌≤ℤ◌, ◌<ℤ◌, List, length, suc, unsigned_abs, IsTrue, MatchOption, All};
+ghost use Rattle.std.specs.Prelude.{◌≡◌, ℕ, ◌+◌, ◌-◌, ◌<◌, ◌≤◌, ◌^◌, ◌↔◌, ℤ, pos, ◌-ℤ◌, ◌*ℤ◌, ◌≤ℤ◌, ◌<ℤ◌, List, length, suc, unsigned_abs, IsTrue, MatchOption};
 ghost use Rattle.whole_algebra.specs.Sums.{int_sum};
 ghost use Rattle.whole_algebra.specs.Matrices.{at};
 ghost use Rattle.whole_algebra.specs.Chains.{beside};
 ghost use Rattle.whole_algebra.specs.Grid.{row_at, above};
 ghost use Rattle.lent_parts.specs.Triangle.{IsTri, tri_row};
 ghost use Rattle.psd_cert.specs.Certificate.{StepFrom};
-ghost use Rattle.psd_cert.specs.Limit.{Fits};
+ghost use Rattle.psd_cert.specs.Sizes.{Fits};
 ghost use Rattle.psd_cert.specs.LeftOver.{left_over, left_sizes, IsRowDominant, IsScale, IsStep};
 
-use crate::product::product;
+use crate::arithmetic::product;
+use crate::first_row::is_zero_row;
 use lent_parts::Tri;
 
 /// Whether the step from a matrix to a remainder holds. With the first row `a, b` of the current
@@ -46,13 +47,6 @@ pub(crate) fn scale_of(first: &[i128]) -> Option<i128>
     } else {
         None
     }
-}
-
-// Whether all numbers of a row are 0.
-fn is_zero_row(row: &[i128]) -> bool
-    ensures { IsTrue result ↔ All (λ z. z ≡ pos 0) row.now }
-{
-    row.iter().all(|z| *z == 0)
 }
 
 // Whether the diagonal entry of row `i` of what is left over is at least the sum of the sizes of the

@@ -1,10 +1,11 @@
 -- The first broken rule, and the faults of records read one after the other.
-use Rattle.std.proofs.Common.{◌≡◌, ◌+◌, ◌∙◌, ℕ, suc, Bool, true, false, List, [], ◌∷◌, ◌++◌, Some, None, length, refl, sym, ap, arith, append_assoc, filter, map}
+use Rattle.std.proofs.Common.{◌≡◌, ◌+◌, ◌∙◌, ℕ, suc, Bool, true, false, List, [], ◌∷◌, ◌++◌, Option, Some, None, length, refl, sym, ap, ap₂, arith, append_assoc, filter, length-append, map, take}
 use Rattle.std.specs.Prelude.{if◌then◌else◌, slice_get}
+use Rattle.std.specs.List.{enumerate_from}
 use Rattle.std.specs.Option.{option_or}
-use Rattle.std.proofs.Math.Seq.{append_snoc}
+use Rattle.std.proofs.Math.Seq.{append_snoc, take-append_seam}
 use Rattle.std.proofs.lemmas.List.{append-nil, length-map}
-use Rattle.table_rows.specs.Faults.{Rule, TableRules, asked, asked_from, faults_at, faults_from, first_broken, first_fault}
+use Rattle.table_rows.specs.Faults.{Rule, TableRules, asked, asked_under, faults_at, faults_from, first_broken, first_fault}
 use Rattle.table_rows.specs.Header.{rows_under}
 use Rattle.table_rows.proofs.HeaderFacts.{under-rest}
 
@@ -33,6 +34,23 @@ first_broken-left front back kind e = first_broken-append front back ∙ rw e re
 
 pub first_broken-right : {K : Type 0} (front back : List (Rule K)) → first_broken front ≡ None → first_broken (front ++ back) ≡ first_broken back
 first_broken-right front back e = first_broken-append front back ∙ rw e refl
+
+-- of two lists of rules neither breaks one
+or-none : {K : Type 0} (a b : Option K) → option_or a b ≡ None → (a ≡ None) × (b ≡ None)
+or-none None b e = (refl, e)
+or-none (Some x) b e = absurd (cc e)
+
+pub both-kept : {K : Type 0} (front back : List (Rule K)) → first_broken (front ++ back) ≡ None → (first_broken front ≡ None) × (first_broken back ≡ None)
+both-kept front back e = or-none (first_broken front) (first_broken back) (sym (first_broken-append front back) ∙ e)
+
+-- neither the first rule nor one of the others
+pub each-kept : {K : Type 0} (rule : Rule K) (rules : List (Rule K)) → first_broken (rule ∷ rules) ≡ None → (rule.broken ≡ false) × (first_broken rules ≡ None)
+unfolding first_broken
+each-kept rule rules e = by rule.broken e
+  where
+    by : (t : Bool) → (if t then Some rule.kind else first_broken rules) ≡ None → (t ≡ false) × (first_broken rules ≡ None)
+    by true f = absurd (cc f)
+    by false f = (refl, f)
 
 -- a record that breaks no rule has no fault
 pub faults_at-none : {K : Type 0} (number : ℕ) (rules : List (Rule K)) → first_broken rules ≡ None → faults_at number rules ≡ []
@@ -70,6 +88,28 @@ faults_from-append number (rules ∷ front) back =
     ap (λ (faults : List _). faults_at number rules ++ faults) (faults_from-append (number + 1) front back)
     ∙ sym (append_assoc (faults_at number rules) (faults_from (number + 1) front) (faults_from (length front + (number + 1)) back))
     ∙ ap (λ (n : ℕ). (faults_at number rules ++ faults_from (number + 1) front) ++ faults_from n back) next
+
+-- the rules of records one after the other: the first of them has this number, and the earlier ones stand before it
+pub asked_from : {K : Type 0} → TableRules K → ℕ → List (List (List ℕ)) → List (List (List ℕ)) → List (List (Rule K))
+asked_from table number earlier [] = []
+asked_from table number earlier (row ∷ rows) = table.rules number row earlier ∷ asked_from table (number + 1) (earlier ++ row ∷ []) rows
+
+-- these are what the records under a header row are asked
+asked-placed : {K : Type 0} (table : TableRules K) (all earlier rows : List (List (List ℕ))) (count : ℕ) → all ≡ earlier ++ rows → count ≡ length earlier
+    → map (λ (placed : ℕ × List (List ℕ)). table.rules (placed.0 + 2) placed.1 (take placed.0 all)) (enumerate_from count rows) ≡ asked_from table (count + 2) earlier rows
+unfolding asked_from
+asked-placed table all earlier [] count e n = refl
+asked-placed table all earlier (row ∷ rows) count e n =
+    let before : take count all ≡ earlier = rw (n, e) (take-append_seam earlier (row ∷ rows)) in
+    let more : count + 1 ≡ length (earlier ++ row ∷ []) = omega (arith, n, length-append earlier (row ∷ [])) in
+    let next : count + 1 + 2 ≡ count + 2 + 1 = omega arith in
+    ap₂ (λ (x : _) (xs : List _). x ∷ xs) (ap (table.rules (count + 2) row) before)
+    (asked-placed table all (earlier ++ row ∷ []) rows (count + 1) (e ∙ sym (append_snoc earlier row rows)) more
+    ∙ ap (λ (k : ℕ). asked_from table k (earlier ++ row ∷ []) rows) next)
+
+asked-under-is : {K : Type 0} (table : TableRules K) (rows : List (List (List ℕ))) → asked_under table rows ≡ asked_from table 2 [] rows
+unfolding asked_under
+asked-under-is table rows = asked-placed table rows [] rows 0 refl refl
 
 -- the rules of some records, and then those of the others
 asked_from-append : {K : Type 0} (table : TableRules K) (number : ℕ) (earlier front back : List (List (List ℕ)))
@@ -126,7 +166,7 @@ first_fault-header table bytes e = rw e refl
 pub first_fault-under : {K : Type 0} (table : TableRules K) (bytes : List ℕ) (rows : List (List (List ℕ))) → rows_under table.header bytes ≡ Some rows
     → first_fault table bytes ≡ slice_get (faults_from 2 (asked_from table 2 [] rows)) 0
 unfolding first_fault asked faults_from
-first_fault-under table bytes rows e = rw (e, under-rest table.header bytes rows e) refl
+first_fault-under table bytes rows e = rw (e, under-rest table.header bytes rows e, asked-under-is table rows) refl
 
 -- the record that is next breaks a rule
 pub first_fault-found : {K : Type 0} (table : TableRules K) (bytes : List ℕ) (rows seen left rest : List (List (List ℕ))) (row : List (List ℕ)) (number : ℕ) (kind : K)

@@ -8,7 +8,7 @@ use Rattle.std.proofs.lemmas.Option.{slice_get-get_or, slice_get-map}
 use Rattle.std.proofs.lemmas.Str.{IsUtf8-from_is_utf8, is_utf8-from_IsUtf8}
 use Rattle.csv.specs.Reading.{is_bom, strip_bom}
 use Rattle.table_rows.specs.Header.{rows_below, rows_under, same_texts}
-use Rattle.table_rows.specs.Mark.{HasSecondMark, StartsWithMark, has_second_mark, starts_with_mark}
+use Rattle.table_rows.specs.Mark.{HasSecondMark, has_second_mark, starts_with_mark}
 use Rattle.table_rows.specs.Rows.{table_rows}
 
 -- the item at a place, and those after it
@@ -56,7 +56,7 @@ some-text P Q bytes (Ok s) h e = is_utf8-from_IsUtf8 bytes h.1
 some-text P Q bytes (Err s) h e = cc e
 
 -- the bytes of a mark
-starts-parts : (xs : List ℕ) → starts_with_mark xs ≡ true → StartsWithMark xs
+starts-parts : (xs : List ℕ) → starts_with_mark xs ≡ true → (rest : List ℕ) × (xs ≡ 0xEF ∷ 0xBB ∷ 0xBF ∷ rest)
 starts-parts [] e = cc e
 starts-parts (a ∷ []) e = cc e
 starts-parts (a ∷ b ∷ []) e = cc e

@@ -1,5 +1,6 @@
 -- The first fault of a table: each record is asked a list of rules in their order. This project's own.
-use Rattle.std.specs.Prelude.{ℕ, ◌+◌, ◌<◌, ◌≤◌, ◌≡◌, ◌⊎◌, ◌↔◌, List, [], ◌∷◌, ◌++◌, Bool, true, if◌then◌else◌, Option, Some, None, is_none, drop, filter, map, slice_get}
+use Rattle.std.specs.Prelude.{ℕ, ◌+◌, ◌<◌, ◌≤◌, ◌≡◌, ◌⊎◌, ◌↔◌, List, [], ◌∷◌, Bool, true, if◌then◌else◌, Option, Some, None, is_none, drop, filter, map, slice_get, take}
+use Rattle.std.specs.List.{enumerate_from, flat_map}
 use Rattle.table_rows.specs.Header.{rows_under}
 use Rattle.table_rows.specs.Rows.{table_rows}
 
@@ -20,24 +21,23 @@ pub record TableRules (K : Type 0) : Type 0 where
   pub header_kind : K
   pub rules : ℕ → List (List ℕ) → List (List (List ℕ)) → List (Rule K)
 
--- the rules of each of these records; the first of them has this number, and the earlier ones stand before it
-unfoldable pub asked_from : {K : Type 0} → TableRules K → ℕ → List (List (List ℕ)) → List (List (List ℕ)) → List (List (Rule K))
-asked_from table number earlier [] = []
-asked_from table number earlier (row ∷ rows) = table.rules number row earlier ∷ asked_from table (number + 1) (earlier ++ row ∷ []) rows
+-- the rules of each of the records under a header row: the one at place k, counted from 0, is record k + 2, and the k
+-- records before it are the earlier ones
+unfoldable pub asked_under : {K : Type 0} → TableRules K → List (List (List ℕ)) → List (List (Rule K))
+asked_under table rows = map (λ placed. table.rules (placed.0 + 2) placed.1 (take placed.0 rows)) (enumerate_from 0 rows)
 
 -- the rules of each record of a table, from record 1 on, which is asked to be the header row
 unfoldable pub asked : {K : Type 0} → TableRules K → List ℕ → List (List (Rule K))
 asked table bytes =
-    (record { broken = is_none (rows_under table.header bytes); kind = table.header_kind } ∷ []) ∷ asked_from table 2 [] (drop 1 (table_rows bytes))
+    (record { broken = is_none (rows_under table.header bytes); kind = table.header_kind } ∷ []) ∷ asked_under table (drop 1 (table_rows bytes))
 
 -- the broken rules of the record of this number, each a fault
 abbrev pub faults_at : {K : Type 0} → ℕ → List (Rule K) → List (ℕ × K)
 faults_at number rules = map (λ rule. (number, rule.kind)) (filter (λ rule. rule.broken) rules)
 
--- the faults record by record, from the record of this number on
+-- the faults record by record, where the first of the records has this number
 unfoldable pub faults_from : {K : Type 0} → ℕ → List (List (Rule K)) → List (ℕ × K)
-faults_from number [] = []
-faults_from number (rules ∷ more) = faults_at number rules ++ faults_from (number + 1) more
+faults_from number all = flat_map (λ numbered. faults_at numbered.0 numbered.1) (enumerate_from number all)
 
 -- the first fault of a table: the number of its record, counted from 1, and its kind
 unfoldable pub first_fault : {K : Type 0} → TableRules K → List ℕ → Option (ℕ × K)

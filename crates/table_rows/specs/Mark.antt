@@ -2,10 +2,6 @@
 use Rattle.std.specs.Prelude.{ℕ, List, [], ◌∷◌, ◌≡◌, Bool, false}
 use Rattle.csv.specs.Reading.{is_bom, strip_bom}
 
--- the text begins with the mark EF BB BF
-abbrev pub StartsWithMark : List ℕ → Type 0
-StartsWithMark bytes = (rest : List ℕ) × (bytes ≡ 0xEF ∷ 0xBB ∷ 0xBF ∷ rest)
-
 -- the text begins with two marks, so that one is left where one has been taken off
 abbrev pub HasSecondMark : List ℕ → Type 0
 HasSecondMark bytes = (rest : List ℕ) × (bytes ≡ 0xEF ∷ 0xBB ∷ 0xBF ∷ 0xEF ∷ 0xBB ∷ 0xBF ∷ rest)

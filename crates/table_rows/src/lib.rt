@@ -9,7 +9,7 @@ mod rows;
 
 pub use faults::first_fault_is_least;
 pub use field_text::text_of;
-pub use mark::{has_second_mark, starts_with_mark};
+pub use mark::has_second_mark;
 pub use row::TableRow;
 pub use rows::TableRows;
 

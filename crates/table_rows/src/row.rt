@@ -36,6 +36,13 @@ impl TableRow {
         }
     }
 
+    // Takes every field away.
+    pub(crate) fn clear(&mut self)
+        ensures { self.new ≡ [] }
+    {
+        self.record.clear();
+    }
+
     /// How many fields there are.
     pub fn len(&self) -> usize
         ensures { result ≡ length self.now }

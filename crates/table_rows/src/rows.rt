@@ -103,17 +103,22 @@ impl<'a> TableRows<'a> {
         }
     }
 
-    /// Puts the next record into `row`, and says whether there was one. After want of memory no record is left.
+    /// Puts the next record into `row`, and says whether there was one. Where there was none, or memory ran out, `row` has
+    /// no field; after want of memory no record is left, so each further call says that there is none.
     pub fn next(&mut self, row: &mut TableRow) -> Result<bool, NoMemory>
         ensures found { result ≡ Ok true → self.old ≡ row.new ∷ self.new }
-        ensures ended { result ≡ Ok false → (self.old ≡ []) × (self.new ≡ []) }
-        ensures refused { OnErr result (self.new ≡ []) }
+        ensures ended { result ≡ Ok false → (self.old ≡ []) × (self.new ≡ []) × (row.new ≡ []) }
+        ensures refused { OnErr result ((self.new ≡ []) × (row.new ≡ [])) }
     {
         if self.ended {
+            row.clear();
             return Ok(false);
         }
         let outcome = next_row(&mut self.reader, row);
-        self.ended = !matches!(outcome, Ok(true));
+        if !matches!(outcome, Ok(true)) {
+            self.ended = true;
+            row.clear();
+        }
         outcome
     }
 }

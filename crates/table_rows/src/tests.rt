@@ -1,4 +1,4 @@
-use crate::{TableRow, TableRows, first_fault_is_least, has_second_mark, starts_with_mark};
+use crate::{TableRow, TableRows, first_fault_is_least, has_second_mark};
 use geo_base::NoMemory;
 use std::alloc::Global;
 
@@ -97,7 +97,5 @@ fn texts_are_told_from_other_bytes(rt: HostRuntime) -> Result<(), NoMemory> {
 fn a_second_mark_is_told(rt: HostRuntime) {
     assert!(rt; has_second_mark(b"\xEF\xBB\xBF\xEF\xBB\xBF"));
     assert!(rt; !has_second_mark(b"\xEF\xBB\xBFa\xEF\xBB\xBF"));
-    assert!(rt; starts_with_mark(b"\xEF\xBB\xBFa"));
-    assert!(rt; !starts_with_mark(b"\xEF\xBB"));
     first_fault_is_least();
 }

@@ -5,6 +5,7 @@ use Rattle.std.specs.Char.{is_ascii_digit}
 use Rattle.std.specs.List.{prefix_len, list_all, AllByRecursion}
 use Rattle.std.specs.Option.{option_map}
 use Rattle.std.specs.Str.Parse.{digits_value, AllDigits}
+use Rattle.text_num.specs.Bytes.{minus_byte, plus_byte, point_byte, zero_byte}
 
 -- ---- the grammar
 
@@ -16,8 +17,8 @@ pub data Sign : Type 0 where
 
 abbrev pub sign_text : Sign → List ℕ
 sign_text unsigned = []
-sign_text plus = 43 ∷ []
-sign_text minus = 45 ∷ []
+sign_text plus = plus_byte ∷ []
+sign_text minus = minus_byte ∷ []
 
 abbrev pub with_sign : Sign → ℕ → ℤ
 with_sign unsigned n = pos n
@@ -33,11 +34,11 @@ pub record IsNumeralUpTo (most : ℕ) (digits : List ℕ) : Type 0 where
 -- what may follow the digits: nothing, or a point and digits
 abbrev pub fraction_text : Option (List ℕ) → List ℕ
 fraction_text None = []
-fraction_text (Some digits) = 46 ∷ digits
+fraction_text (Some digits) = point_byte ∷ digits
 
 pub record IsFractionDigits (places : ℕ) (digits : List ℕ) : Type 0 where
   pub numeral : IsNumeralUpTo 20 digits
-  pub zeros : AllByRecursion (λ c. c ≡ 48) (drop places digits)
+  pub zeros : AllByRecursion (λ c. c ≡ zero_byte) (drop places digits)
 
 abbrev pub IsFraction : ℕ → Option (List ℕ) → Type 0
 IsFraction places None = ⊤
@@ -60,14 +61,14 @@ pub record IsDecimal (places : ℕ) (text : List ℕ) (value : ℤ) : Type 0 whe
 
 -- ---- the value as a function of the text
 
--- 1 to 20 digits, of which those past the first are `0`
+-- 1 to 20 digits, of which those past the first `places` are `0`
 abbrev pub is_fraction : ℕ → List ℕ → Bool
-is_fraction places digits = nat_le 1 (length digits) && nat_le (length digits) 20 && list_all is_ascii_digit digits && list_all (λ c. c == 48) (drop places digits)
+is_fraction places digits = nat_le 1 (length digits) && nat_le (length digits) 20 && list_all is_ascii_digit digits && list_all (λ c. c == zero_byte) (drop places digits)
 
 -- what follows the digits of the whole part, in units of the last place
 unfoldable pub fraction_of : ℕ → List ℕ → Option ℕ
 fraction_of places [] = Some 0
-fraction_of places (c ∷ digits) = if c == 46 && is_fraction places digits then Some (fraction_value places (Some digits)) else None
+fraction_of places (c ∷ digits) = if c == point_byte && is_fraction places digits then Some (fraction_value places (Some digits)) else None
 
 -- how many digits the text begins with
 abbrev pub digit_count : List ℕ → ℕ
@@ -82,5 +83,5 @@ unsigned_of places text = if nat_le 1 (digit_count text) && nat_le (digit_count 
 -- the value of a text, and None outside the grammar
 unfoldable pub decimal_of : ℕ → List ℕ → Option ℤ
 decimal_of places [] = None
-decimal_of places (c ∷ text) = if c == 45 then option_map (λ n. neg_ℤ (pos n)) (unsigned_of places text)
-    else (if c == 43 then option_map pos (unsigned_of places text) else option_map pos (unsigned_of places (c ∷ text)))
+decimal_of places (c ∷ text) = if c == minus_byte then option_map (λ n. neg_ℤ (pos n)) (unsigned_of places text)
+    else (if c == plus_byte then option_map pos (unsigned_of places text) else option_map pos (unsigned_of places (c ∷ text)))

@@ -1,10 +1,9 @@
-ghost use Rattle.std.specs.Prelude.{◌≡◌, ℤ, ◌+◌, ◌-◌, ◌*◌, ◌^◌, ◌<◌, ◌≤◌, length, take, IfSome, IfNone, IsTrue, ◌==◌, pos, neg_ℤ, unsigned_abs};
-ghost use Rattle.std.specs.Char.{is_ascii_digit};
+ghost use Rattle.std.specs.Prelude.{◌≡◌, ℤ, ◌+◌, ◌^◌, ◌<◌, ◌≤◌, IfSome, IfNone, ◌==◌, pos, neg_ℤ, unsigned_abs};
 ghost use Rattle.std.specs.List.{list_all};
 ghost use Rattle.std.specs.Option.{ForSome, option_map};
-ghost use Rattle.std.specs.Str.Parse.{digits_value};
 ghost use Rattle.text_num.specs.Decimal.{IsDecimal, decimal_of, digit_count, fraction_of, is_fraction, unsigned_of};
 
+use crate::numeral::{is_all_digits, number};
 use crate::power::power_of_ten;
 
 /// The value of a decimal number times `10^places`: an optional sign, 1 to 12 digits, and
@@ -98,28 +97,8 @@ fn has_fraction_form(digits: &[u8], places: u32) -> bool
     is_all_zeros(&digits[kept..])
 }
 
-fn is_all_digits(text: &[u8]) -> bool
-    ensures { result ≡ list_all is_ascii_digit text.now }
-{
-    text.iter().all(|c| c.is_ascii_digit())
-}
-
 fn is_all_zeros(text: &[u8]) -> bool
     ensures { result ≡ list_all (λ c. c == 48) text.now }
 {
     text.iter().all(|c| *c == b'0')
-}
-
-// The number that at most 12 digits write.
-fn number(digits: &[u8]) -> u64
-    requires form { IsTrue (list_all is_ascii_digit digits.now) }
-    requires few { length digits.now ≤ 12 }
-    ensures value { result ≡ digits_value 10 digits.now }
-    ensures size { result < 10 ^ length digits.now }
-{
-    let mut sum = 0;
-    for c in digits {
-        sum = sum * 10 + u64::from(*c - b'0');
-    }
-    sum
 }

@@ -1,4 +1,4 @@
-use crate::{put_decimal, put_whole, read_decimal};
+use crate::{put_decimal, put_whole, read_decimal, read_digits};
 use std::test::Fail;
 
 #[test]
@@ -15,6 +15,28 @@ fn known_numbers(rt: HostRuntime) {
     assert_eq!(rt; read_decimal(b"-", 3), None);
     assert_eq!(rt; read_decimal(b"999999999999.999", 3), Some(999999999999999));
     assert_eq!(rt; read_decimal(b"1000000000000", 0), None);
+}
+
+// Texts, and the number where they are at most 19 digits. The expected numbers are written down by hand.
+const DIGITS: [(&[u8], Option<u64>); 8] = [
+    (b"0", Some(0)),
+    (b"007", Some(7)),
+    (b"9999999999999999999", Some(9999999999999999999)),
+    (b"10000000000000000000", None),
+    (b"", None),
+    (b"-1", None),
+    (b"+1", None),
+    (b"1.0", None),
+];
+
+#[test]
+fn digits_read_as_their_number(rt: HostRuntime) {
+    for (text, number) in DIGITS {
+        assert!(rt; read_digits(text, 19) == number);
+    }
+    assert!(rt; read_digits(b"999", 3) == Some(999));
+    assert!(rt; read_digits(b"1000", 3).is_none());
+    assert!(rt; read_digits(b"1", 0).is_none());
 }
 
 #[test]

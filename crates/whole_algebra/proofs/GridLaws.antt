@@ -1,6 +1,7 @@
 -- Matrices made of numbered unknowns are sums of squares, and what a verdict on a grid says of the matrix itself.
 use Rattle.std.proofs.Common.{◌≡◌, ℕ, zero, suc, ◌*◌, ◌≤◌, List, [], ◌∷◌, map, length, replicate, refl, sym, ◌∙◌, ap, ap₂, arith, ℤ, pos, ◌+ℤ◌, ◌*ℤ◌, neg_ℤ, ◌≤ℤ◌, ◌<ℤ◌}
 use Rattle.std.proofs.lemmas.Int.{ints}
+use Rattle.std.proofs.lemmas.List.{length-map}
 use Rattle.whole_algebra.specs.Sums.{int_sum_by, dot}
 use Rattle.whole_algebra.specs.Matrices.{at, scale, row_quad, quad, lower_over, upper_over, diagonal, IsTriangle, padded}
 use Rattle.whole_algebra.specs.Chains.{size_limit, met, refuted, verdict_of}
@@ -10,7 +11,7 @@ use Rattle.whole_algebra.proofs.Order.{mul_nonneg, mul_pos, nonneg_of_mul}
 use Rattle.whole_algebra.proofs.SumLaws.{dot-nil}
 use Rattle.whole_algebra.proofs.FormLaws.{quad-nil}
 use Rattle.whole_algebra.proofs.Slack.{lower_is_below, upper_is_above}
-use Rattle.whole_algebra.proofs.Shapes.{quad-padded, length-padded, length-map_lem, triangle-lower_over, triangle-upper_over}
+use Rattle.whole_algebra.proofs.Shapes.{quad-padded, length-padded, triangle-lower_over, triangle-upper_over}
 use Rattle.whole_algebra.proofs.Refutation.{quad-scale}
 use Rattle.whole_algebra.proofs.VerdictLaws.{verdict-met, verdict-refuted}
 use Rattle.whole_algebra.proofs.Normal.{ring, x0, x1, x2, x3, x4, x5, x6, x7, lit, opposite_of, ◌⊕◌, ◌⊗◌}
@@ -131,7 +132,7 @@ triangle-scaled (suc n) [] m e t = absurd (omega arith)
 triangle-scaled zero (w ∷ ws) m e t = absurd (omega arith)
 triangle-scaled (suc n) (w ∷ ws) [] e t = absurd t
 triangle-scaled (suc n) (w ∷ ws) (row ∷ rest) e t =
-    (length-map_lem (λ z. w *ℤ z) (times_lists (w ∷ ws) row) ∙ length-times_lists (w ∷ ws) row (suc n) e t.0, triangle-scaled n ws rest (omega arith) t.1)
+    (length-map (times_lists (w ∷ ws) row) (λ z. w *ℤ z) ∙ length-times_lists (w ∷ ws) row (suc n) e t.0, triangle-scaled n ws rest (omega arith) t.1)
 
 -- ---- the grid
 -- numbers whose products with those of the scale are all p

@@ -17,3 +17,5 @@ pub mod Places
 pub mod GridLaws
 pub mod PivotStep
 pub mod Worked
+pub mod DiagonalLaws
+pub mod FirstRows

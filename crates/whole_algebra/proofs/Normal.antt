@@ -2,6 +2,7 @@
 -- expressions e and f have one value wherever their normal forms, sums of sorted products, are the same.
 use Rattle.std.proofs.Common.{◌≡◌, ℕ, zero, suc, Bool, true, false, cond, ◌&&◌, T, nat_eq, nat_lt, nat_le, List, [], ◌∷◌, refl, sym, ◌∙◌, ap, ap₂, ℤ, pos, negsuc, ◌+ℤ◌, ◌-ℤ◌, ◌*ℤ◌, neg_ℤ}
 use lib.Dec.{eqb→eq}
+use Rattle.whole_algebra.specs.Rounding.{is_zero}
 use Rattle.whole_algebra.proofs.Ring.{add_comm, add_assoc, add_zero, zero_add, mul_comm, mul_assoc, mul_one, one_mul, mul_zero, zero_mul, mul_add, add_mul, neg_is_mul, mul_swap}
 
 -- sums, products and opposites of the atoms of a list, which are named by their places, and of numbers
@@ -119,11 +120,6 @@ abbrev times_terms : List Term → List Term → List Term
 times_terms [] q = []
 times_terms (term c m ∷ p) q = plus_terms (times_term c m q) (times_terms p q)
 
-abbrev is_zero : ℤ → Bool
-is_zero (pos zero) = true
-is_zero (pos (suc n)) = false
-is_zero (negsuc n) = false
-
 abbrev without_zeros : List Term → List Term
 without_zeros [] = []
 without_zeros (term c m ∷ p) = cond (is_zero c) (without_zeros p) (term c m ∷ without_zeros p)
@@ -216,7 +212,7 @@ times_terms_lem zs (term c m ∷ p) q =
     ∙ ap₂ (λ s t. s +ℤ t) (times_term_lem zs c m q) (times_terms_lem zs p q)
     ∙ sym (add_mul (c *ℤ product_value zs m) (terms_value zs p) (terms_value zs q))
 
-is_zero_lem : (c : ℤ) → T (is_zero c) → c ≡ pos 0
+pub is_zero_lem : (c : ℤ) → T (is_zero c) → c ≡ pos 0
 is_zero_lem (pos zero) h = refl
 is_zero_lem (pos (suc n)) h = absurd h
 is_zero_lem (negsuc n) h = absurd h

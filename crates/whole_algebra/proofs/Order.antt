@@ -1,6 +1,8 @@
 -- The order of the whole numbers, and how sums and products meet it.
-use Rattle.std.proofs.Common.{◌≡◌, ◌⊎◌, inl, inr, ap, sym, ◌∙◌, subst, arith, ℤ, pos, negsuc, ◌+ℤ◌, ◌-ℤ◌, ◌*ℤ◌, neg_ℤ, ◌≤ℤ◌, ◌<ℤ◌}
-use Rattle.std.proofs.lemmas.Int.{ints, by_lt_z}
+use Rattle.std.proofs.Common.{◌≡◌, ℕ, ◌+◌, ◌*◌, ◌^◌, ◌≤◌, ◌⊎◌, inl, inr, ap, sym, ◌∙◌, subst, arith, one-mul, ℤ, pos, negsuc, ◌+ℤ◌, ◌-ℤ◌, ◌*ℤ◌, neg_ℤ, ◌≤ℤ◌, ◌<ℤ◌}
+use Rattle.std.specs.Prelude.{unsigned_abs}
+use Rattle.std.proofs.Math.Nat.{mul-le-mul, pow-suc, pow-zero}
+use Rattle.std.proofs.lemmas.Int.{ints, by_lt_z, unsigned_abs-mul}
 use Rattle.whole_algebra.proofs.Ring.{mul_comm, mul_add, add_mul, mul_zero}
 
 -- b is a and something that isn't negative
@@ -83,3 +85,16 @@ nonneg_of_mul a b h k = le_of_mul_le a (pos 0) b h (le_by_zero a b k)
 pub neg_of_mul : (a b : ℤ) → pos 0 ≤ℤ a → (a *ℤ b) <ℤ pos 0 → b <ℤ pos 0
 neg_of_mul a b h k =
     by_lt_z b (pos 0) (λ lt. lt) (λ le. let p = mul_nonneg a b h le in omega (arith, ints))
+
+-- ---- sizes
+pub size-add : (a b : ℤ) → unsigned_abs (a +ℤ b) ≤ unsigned_abs a + unsigned_abs b
+size-add a b = omega (arith, ints)
+
+pub size-mul : (a b : ℤ) (m n : ℕ) → unsigned_abs a ≤ m → unsigned_abs b ≤ n → unsigned_abs (a *ℤ b) ≤ m * n
+size-mul a b m n h k = rw (unsigned_abs-mul a b) (mul-le-mul h k)
+
+pub square_is : (t : ℕ) → t ^ 2 ≡ t * t
+square_is t = pow-suc t 1 ∙ ap (λ q. q * t) (pow-one t)
+  where
+    pow-one : (t : ℕ) → t ^ 1 ≡ t
+    pow-one t = pow-suc t 0 ∙ ap (λ q. q * t) (pow-zero t) ∙ one-mul t

@@ -140,12 +140,12 @@ at-off_sums ((a ∷ b) ∷ m) (suc i) =
     ∙ sym (add_assoc (at b i) (above m i i) (int_sum (beside (row_at m i))))
     ∙ ap (λ t. t +ℤ int_sum (beside (row_at m i))) (sym (above-cons (a ∷ b) m i i (omega arith)))
 
--- ---- triangles with the same entries are the same
-list_by_places : (xs ys : List ℤ) → length xs ≡ length ys → ((k : ℕ) → at xs k ≡ at ys k) → xs ≡ ys
-list_by_places [] [] e h = refl
-list_by_places [] (y ∷ ys) e h = absurd (omega arith)
-list_by_places (x ∷ xs) [] e h = absurd (omega arith)
-list_by_places (x ∷ xs) (y ∷ ys) e h = ap₂ ◌∷◌ (h zero) (list_by_places xs ys (omega arith) (λ k. h (suc k)))
+-- ---- lists and triangles with the same entries are the same
+pub same_list : (xs ys : List ℤ) → length xs ≡ length ys → ((m : ℕ) → m < length xs → at xs m ≡ at ys m) → xs ≡ ys
+same_list [] [] e h = refl
+same_list [] (y ∷ ys) e h = absurd (omega arith)
+same_list (x ∷ xs) [] e h = absurd (omega arith)
+same_list (x ∷ xs) (y ∷ ys) e h = ap₂ ◌∷◌ (h zero (omega arith)) (same_list xs ys (omega arith) (λ m lt. h (suc m) (omega arith)))
 
 pub triangle_by_places : (n : ℕ) (m m' : List (List ℤ)) → IsTriangle n m → IsTriangle n m' → ((i k : ℕ) → at (row_at m i) k ≡ at (row_at m' i) k) → m ≡ m'
 triangle_by_places zero [] [] t u h = refl
@@ -154,7 +154,7 @@ triangle_by_places zero (r ∷ m) m' t u h = absurd t
 triangle_by_places (suc n) [] m' t u h = absurd t
 triangle_by_places (suc n) (r ∷ m) [] t u h = absurd u
 triangle_by_places (suc n) (r ∷ m) (s ∷ m') t u h =
-    ap₂ ◌∷◌ (list_by_places r s (t.0 ∙ sym u.0) (λ k. h zero k)) (triangle_by_places n m m' t.1 u.1 (λ i k. h (suc i) k))
+    ap₂ ◌∷◌ (same_list r s (t.0 ∙ sym u.0) (λ k lt. h zero k)) (triangle_by_places n m m' t.1 u.1 (λ i k. h (suc i) k))
 
 -- ---- the rows of a chain are the first rows of its matrices
 pub row_at-chain_rows : (over : ℤ → List (List ℤ) → List (List ℤ)) (n t : ℕ) (m : List (List ℤ)) → t < n

@@ -1,11 +1,12 @@
 -- Whole division that rounds down.
-use Rattle.std.proofs.Common.{◌≡◌, ℕ, zero, suc, ◌+◌, ◌*◌, ◌<◌, Bool, true, false, cond, not, T, refl, ◌∙◌, ap, arith, ℤ, pos, negsuc, ◌+ℤ◌, ◌*ℤ◌, ◌≤ℤ◌, ◌<ℤ◌}
+use Rattle.std.proofs.Common.{◌≡◌, ℕ, zero, suc, ◌+◌, ◌*◌, ◌<◌, Bool, true, false, cond, not, T, ◌∙◌, ap, arith, ℤ, pos, negsuc, ◌+ℤ◌, ◌*ℤ◌, ◌≤ℤ◌, ◌<ℤ◌}
 use Rattle.std.specs.Int.{int_div_euclid, int_rem_euclid}
 use Rattle.std.proofs.lemmas.Int.{ints, by_lt_z}
 use borrow.Author.Differences.{up, down}
 use Rattle.whole_algebra.specs.Rounding.{is_zero, floor_over, gap_over, ceil_over}
 use Rattle.whole_algebra.proofs.Ring.{mul_add, mul_one, mul_zero}
 use Rattle.whole_algebra.proofs.Order.{mul_le_mul, le_of_mul_le}
+use Rattle.whole_algebra.proofs.Normal.{is_zero_lem}
 
 -- the parts of quotient and remainder, for `omega`
 quotient_parts : (n : ℤ) (k : ℕ) → 0 < k
@@ -59,11 +60,6 @@ gap_by false = omega (arith, ints)
 pub gap_range : (a n : ℤ) → (pos 0 ≤ℤ gap_over a n) × (gap_over a n ≤ℤ pos 1)
 gap_range a n = gap_by (is_zero (int_rem_euclid n a))
 
-is_zero_out : (r : ℤ) → T (is_zero r) → r ≡ pos 0
-is_zero_out (pos zero) h = refl
-is_zero_out (pos (suc n)) h = absurd h
-is_zero_out (negsuc n) h = absurd h
-
 gap_covers_by : (a r : ℤ) (t : Bool) → (T t → r ≡ pos 0) → r <ℤ a → r ≤ℤ (a *ℤ cond t (pos 0) (pos 1))
 gap_covers_by a r true none h = let e = none tt in omega (arith, ints)
 gap_covers_by a r false none h = omega (arith, ints)
@@ -73,7 +69,7 @@ pub gap_covers : (a n : ℤ) → pos 0 <ℤ a → n ≤ℤ (a *ℤ floor_over a 
 gap_covers a n h =
     let e = floor_split a n h in
     let r = remainder_range a n h in
-    let k = gap_covers_by a (int_rem_euclid n a) (is_zero (int_rem_euclid n a)) (is_zero_out (int_rem_euclid n a)) r.1 in
+    let k = gap_covers_by a (int_rem_euclid n a) (is_zero (int_rem_euclid n a)) (is_zero_lem (int_rem_euclid n a)) r.1 in
     omega (arith, ints)
 
 -- a multiple of a goes straight through

@@ -1,9 +1,11 @@
 -- Lists and matrices place by place, and what keeps a triangle a triangle.
-use Rattle.std.proofs.Common.{◌≡◌, ℕ, zero, suc, ◌≤◌, List, [], ◌∷◌, map, length, refl, sym, ◌∙◌, ap, ap₂, arith, ℤ, pos, ◌+ℤ◌, ◌-ℤ◌, ◌*ℤ◌, neg_ℤ, ◌≤ℤ◌}
+use Rattle.std.proofs.Common.{◌≡◌, ℕ, zero, suc, ◌+◌, ◌<◌, ◌≤◌, List, [], ◌∷◌, map, length, refl, sym, ◌∙◌, ap, ap₂, arith, ℤ, pos, ◌+ℤ◌, ◌-ℤ◌, ◌*ℤ◌, neg_ℤ, ◌≤ℤ◌}
 use Rattle.std.proofs.lemmas.Int.{ints}
+use Rattle.std.proofs.lemmas.List.{length-map}
 use Rattle.whole_algebra.specs.Sums.{int_sum, dot}
 use Rattle.whole_algebra.specs.Rounding.{floor_over, gap_over}
 use Rattle.whole_algebra.specs.Matrices.{at, plus_lists, scale, row_quad, quad, entries, schur, diagonal, off_sums, plus_diagonal, slacks, lower_over, upper_over, IsTriangle, padded}
+use Rattle.whole_algebra.specs.Grid.{row_at}
 use Rattle.whole_algebra.proofs.Ring.{add_zero, zero_add, mul_zero}
 use Rattle.whole_algebra.proofs.SumLaws.{dot-nil}
 use Rattle.whole_algebra.proofs.FormLaws.{quad-nil}
@@ -26,10 +28,6 @@ length-plus_lists [] ys n e f = f
 length-plus_lists (x ∷ xs) [] n e f = e
 length-plus_lists (x ∷ xs) (y ∷ ys) zero e f = absurd (omega arith)
 length-plus_lists (x ∷ xs) (y ∷ ys) (suc n) e f = ap suc (length-plus_lists xs ys n (omega arith) (omega arith))
-
-pub length-map_lem : (f : ℤ → ℤ) (xs : List ℤ) → length (map f xs) ≡ length xs
-length-map_lem f [] = refl
-length-map_lem f (x ∷ xs) = ap suc (length-map_lem f xs)
 
 pub length-padded : (n : ℕ) (x : List ℤ) → length (padded n x) ≡ n
 length-padded zero x = refl
@@ -67,11 +65,24 @@ length-triangle zero (row ∷ rest) t = absurd t
 length-triangle (suc n) [] t = absurd t
 length-triangle (suc n) (row ∷ rest) t = ap suc (length-triangle n rest t.1)
 
+pub length-row_at : (n : ℕ) (m : List (List ℤ)) (k : ℕ) → IsTriangle n m → k < n → length (row_at m k) + k ≡ n
+length-row_at zero m k t lt = absurd (omega arith)
+length-row_at (suc n) [] k t lt = absurd t
+length-row_at (suc n) (row ∷ rest) zero t lt = let e = t.0 in omega arith
+length-row_at (suc n) (row ∷ rest) (suc k) t lt = let e = length-row_at n rest k t.1 (omega arith) in omega arith
+
+-- no row stands past the last one
+pub row_at-past : (n : ℕ) (m : List (List ℤ)) (k : ℕ) → IsTriangle n m → n ≤ k → row_at m k ≡ []
+row_at-past n [] k t le = refl
+row_at-past zero (row ∷ rest) k t le = absurd t
+row_at-past (suc n) (row ∷ rest) zero t le = absurd (omega arith)
+row_at-past (suc n) (row ∷ rest) (suc k) t le = row_at-past n rest k t.1 (omega arith)
+
 pub triangle-entries : (f : ℤ → ℤ) (n : ℕ) (m : List (List ℤ)) → IsTriangle n m → IsTriangle n (entries f m)
 triangle-entries f zero [] t = tt
 triangle-entries f zero (row ∷ rest) t = absurd t
 triangle-entries f (suc n) [] t = absurd t
-triangle-entries f (suc n) (row ∷ rest) t = (length-map_lem f row ∙ t.0, triangle-entries f n rest t.1)
+triangle-entries f (suc n) (row ∷ rest) t = (length-map row f ∙ t.0, triangle-entries f n rest t.1)
 
 pub length-diagonal : (n : ℕ) (m : List (List ℤ)) → IsTriangle n m → length (diagonal m) ≡ n
 length-diagonal zero [] t = refl
@@ -98,7 +109,7 @@ triangle-plus_diagonal (suc n) ((a ∷ b) ∷ rest) (e ∷ d) t le = (t.0, trian
 pub triangle-lower_over : (a : ℤ) (n : ℕ) (m : List (List ℤ)) → IsTriangle n m → IsTriangle n (lower_over a m)
 triangle-lower_over a n m t =
     triangle-plus_diagonal n (entries (floor_over a) m) (map neg_ℤ (slacks a m)) (triangle-entries (floor_over a) n m t)
-    (omega (arith, length-map_lem neg_ℤ (slacks a m), length-off_sums n (entries (gap_over a) m) (triangle-entries (gap_over a) n m t)))
+    (omega (arith, length-map (slacks a m) neg_ℤ, length-off_sums n (entries (gap_over a) m) (triangle-entries (gap_over a) n m t)))
 
 pub triangle-upper_over : (a : ℤ) (n : ℕ) (m : List (List ℤ)) → IsTriangle n m → IsTriangle n (upper_over a m)
 triangle-upper_over a n m t =
@@ -113,8 +124,8 @@ triangle-schur a n [] m e t = triangle-entries (λ z. a *ℤ z) n m t
 triangle-schur a zero (c ∷ b) m e t = absurd (omega arith)
 triangle-schur a (suc n) (c ∷ b) [] e t = absurd t
 triangle-schur a (suc n) (c ∷ b) (row ∷ rest) e t = (
-  length-plus_lists (scale a row) (scale (neg_ℤ c) (c ∷ b)) (suc n) (length-map_lem (λ z. a *ℤ z) row ∙ t.0)
-      (length-map_lem (λ z. neg_ℤ c *ℤ z) (c ∷ b) ∙ e),
+  length-plus_lists (scale a row) (scale (neg_ℤ c) (c ∷ b)) (suc n) (length-map row (λ z. a *ℤ z) ∙ t.0)
+      (length-map (c ∷ b) (λ z. neg_ℤ c *ℤ z) ∙ e),
   triangle-schur a n b rest (omega arith) t.1,
 )
 

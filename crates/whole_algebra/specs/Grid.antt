@@ -1,5 +1,5 @@
 -- Matrices made of numbered unknowns, and their scaling onto a grid. This project's own words for the usual things.
-use Rattle.std.specs.Prelude.{ℕ, List, [], ◌∷◌, map, get_or, ◌-◌, zero, suc, ℤ, pos, ◌+ℤ◌, ◌*ℤ◌}
+use Rattle.std.specs.Prelude.{◌≡◌, ℕ, ◌<◌, List, [], ◌∷◌, map, get_or, ◌-◌, zero, suc, ℤ, pos, ◌+ℤ◌, ◌*ℤ◌}
 use Rattle.whole_algebra.specs.Matrices.{at, scale}
 
 -- the product place by place, as long as the shorter list
@@ -30,3 +30,7 @@ entry m i j = at (row_at m i) (j - i)
 abbrev pub above : List (List ℤ) → ℕ → ℕ → ℤ
 above m j zero = pos 0
 above m j (suc k) = above m j k +ℤ entry m k j
+
+-- the first rows of two matrices, so many of them, are the same: all entries with a row or a column among these
+abbrev pub SameFirstRows : ℕ → List (List ℤ) → List (List ℤ) → Type 0
+SameFirstRows count m o = (i : ℕ) → i < count → row_at m i ≡ row_at o i

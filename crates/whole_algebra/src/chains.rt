@@ -1,9 +1,9 @@
 //! Laws of interval chains: what a chain of rounded pivots shows of a quadratic form.
 
 ghost use Rattle.std.specs.Prelude.{◌≡◌, neg_ℤ, ◌*ℤ◌, ◌∷◌, ℕ, ◌+◌, ◌*◌, ◌<◌, ◌≤◌, ℤ, pos, ◌+ℤ◌, ◌≤ℤ◌, ◌<ℤ◌, List, length, IsTrue, IsFalse};
-ghost use Rattle.whole_algebra.specs.Matrices.{at, quad, diagonal, IsTriangle};
+ghost use Rattle.whole_algebra.specs.Matrices.{at, quad, diagonal, lower_over, upper_over, IsTriangle};
 ghost use Rattle.whole_algebra.specs.Rounding.{floor_over};
-ghost use Rattle.whole_algebra.specs.Chains.{size_limit, step_of, pivot, stops, lower_chain, upper_chain, met, refuted, open_at, verdict_of};
+ghost use Rattle.whole_algebra.specs.Chains.{size_limit, step_of, pivot, stops, lower_chain, upper_chain, met, refuted, open_at, verdict_of, matrix_after};
 
 /// Where the lower chain of a matrix doesn't stop, its form is negative on no list of whole numbers.
 #[tactic(auto, using(crate::proofs::VerdictLaws::lower_sound))]
@@ -45,4 +45,14 @@ pub fn pivot_keeps_sizes()
         → (v ≡ a) × (pos 0 <ℤ a)
         × (neg_ℤ size_limit ≤ℤ floor_over a (neg_ℤ (at b i *ℤ at b j)))
         × (floor_over a (neg_ℤ (at b i *ℤ at b j)) ≤ℤ size_limit) }
+{}
+
+/// In a lower chain the diagonal entries of the matrices stay at most as high as those of the first
+/// one. In an upper chain of at most 64 rows they grow by at most 64 a step.
+pub fn diagonals_stay_low()
+    ensures lower { (t : ℕ) (m : List (List ℤ)) (h : ℤ) → ((i : ℕ) → at (diagonal m) i ≤ℤ h)
+        → (i : ℕ) → at (diagonal (matrix_after lower_over t m)) i ≤ℤ h }
+    ensures upper { (n t : ℕ) (m : List (List ℤ)) (h : ℤ)
+        → IsTriangle n m → n ≤ 64 → ((i : ℕ) → at (diagonal m) i ≤ℤ h)
+        → (i : ℕ) → at (diagonal (matrix_after upper_over t m)) i ≤ℤ (h +ℤ pos (64 * t)) }
 {}

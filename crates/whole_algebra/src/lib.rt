@@ -10,8 +10,11 @@ mod laws;
 
 pub use certificates::{certificate_is_sound, lower_chain_is_a_certificate};
 pub use chains::{
-    lower_chain_is_sound, pivot_keeps_sizes, upper_chain_refutes, verdicts_are_sound,
+    diagonals_stay_low, lower_chain_is_sound, pivot_keeps_sizes, upper_chain_refutes,
+    verdicts_are_sound,
 };
-pub use forms::{pivot_completes_the_square, slack_covers_the_rounding};
+pub use forms::{
+    first_rows_are_rounded_alone, pivot_completes_the_square, slack_covers_the_rounding,
+};
 pub use grids::{grid_verdicts_are_sound, packed_forms_are_sums_of_squares};
 pub use laws::{products_keep_the_order, sums_go_together, whole_numbers_are_a_ring};

@@ -1,24 +1,18 @@
-use Rattle.std.proofs.Common.{◌≡◌, true, subst, sym}
-use Rattle.bound_log.specs.Grammar.{IsNumber}
-use Rattle.bound_log.proofs.NumberLemmas.{numeral_digits, numeral_of, number_of_numeral}
-use Rattle.text_num.proofs.Digits.{test-from_AllDigits}
+use Rattle.std.proofs.Common.{◌≡◌, ◌≤◌, length, get_or}
+use Rattle.bound_log.proofs.NumberLemmas.{no_leading_zero, no_number, number_read}
+use Rattle.bound_log.proofs.number.read_number.Goals.{else-text-gt1-via-then-text-gt1+else-text-eq48, else-text-gt1-via-else-text-gt1}
 use Rattle.bound_log.proofs.number.read_number.Goals as goal
 
-pub number_of-requires-clause-form : goal.number_of-requires-clause-form
-number_of-requires-clause-form c =
-    test-from_AllDigits c.args.text.now (numeral_digits c.args.text.now (c.is_short_numeral.ensures.0 c.if-is_short_numeral.true)).0
+pub returns-then-text-eq48-clause-none : goal.returns-then-text-eq48-clause-none
+returns-then-text-eq48-clause-none c = no_leading_zero c.args.text.now c.if-text-gt1.true c.if-text-eq48.true
 
-pub number_of-requires-clause-few : goal.number_of-requires-clause-few
-number_of-requires-clause-few c =
-    (numeral_digits c.args.text.now (c.is_short_numeral.ensures.0 c.if-is_short_numeral.true)).2
+pub returns-clause-some : goal.returns-clause-some
+returns-clause-some c =
+    let alone : get_or c.args.text.now 0 0 ≡ 48 → length c.args.text.now ≤ 1 = elim c.else-text-gt1.branch [
+      | else-text-gt1-via-then-text-gt1+else-text-eq48 w ↦ λ zero_first. absurd (w.if-text-eq48.false zero_first)
+      | else-text-gt1-via-else-text-gt1 w ↦ λ zero_first. w.if-text-gt1.false
+    ] in
+    number_read c.args.text.now c.read_digits.result c.read_digits.ensures.read alone
 
-pub returns-then-is_short_numeral-clause-some : goal.returns-then-is_short_numeral-clause-some
-returns-then-is_short_numeral-clause-some c =
-    subst (λ n. IsNumber c.args.text.now n) (sym c.number_of.ensures)
-    (number_of_numeral c.args.text.now (c.is_short_numeral.ensures.0 c.if-is_short_numeral.true))
-
-pub returns-else-is_short_numeral-clause-none : goal.returns-else-is_short_numeral-clause-none
-returns-else-is_short_numeral-clause-none c = λ number is.
-    let passes : c.is_short_numeral.result ≡ true = c.is_short_numeral.ensures.1 (numeral_of c.args.text.now number is) in
-    let fails = c.if-is_short_numeral.false in
-    absurd (cc)
+pub returns-clause-none : goal.returns-clause-none
+returns-clause-none c = no_number c.args.text.now c.read_digits.result c.read_digits.ensures.none

@@ -1,3 +1,4 @@
+use Rattle.std.proofs.lemmas.Result.{err_from_is_err_and}
 use Rattle.std.proofs.Common.{rules, ◌≡◌, ◌<◌, sym, ◌∙◌, subst, refl, Some}
 use Rattle.geo_model.specs.declared.plan.Node.{Node}
 use Rattle.bound_log.specs.LogTree.{with_chosen, without_chosen, IsOpenAt}
@@ -5,31 +6,36 @@ use Rattle.shelf_io.specs.States.{state_of}
 use Rattle.branch_bound.specs.Explored.{IsNode}
 use Rattle.branch_bound.specs.Found.{IsKept}
 use Rattle.branch_bound.proofs.ExploreLemmas.{BreaksOff-nothing, BreaksOff-line, BreaksOff-first, BreaksOff-second, Explores-leaf, Explores-split, IsNode-with, IsNode-without, IsNode-same, IsKept-same, IsOpenAt-line, IsKept-line, Adds-line, Counts-line, BreaksOff-same, Explores-same, child_with, child_without, node_back}
-use Rattle.branch_bound.proofs.OpenCount.{open_count, open_count-with, open_count-without}
+use Rattle.bound_log.specs.OpenCount.{open_count}
+use Rattle.bound_log.proofs.OpenLemmas.{open_count-with, open_count-without}
 use Rattle.branch_bound.proofs.run.+explore.Goals as goal
 
-pub returns-in-Err-clause-refused : goal.returns-in-Err-clause-refused
-returns-in-Err-clause-refused g t c =
+pub returns-in_err-line-clause-refused : goal.returns-in_err-line-clause-refused
+returns-in_err-line-clause-refused g t c =
     let started : g.H.Shelf.started c.args.shelf.now ≡ Some c.args.name.now = search rules in
-    BreaksOff-nothing c.args.network.now c.args.node.now c.args.name.now
+    let p = err_from_is_err_and c.from_residual.result c.from_residual.ensures.1 in
+    rw (p.1, p.2)
+    (BreaksOff-nothing c.args.network.now c.args.node.now c.args.name.now
     (state_of g.H.Shelf.held g.H.Shelf.faults g.H.Shelf.last_fault g.H.Shelf.started c.args.shelf.now)
-    (λ files held. g.met.H.Shelf.started_is_held c.args.shelf.now files c.args.name.now held started)
+    (λ files held. g.met.H.Shelf.started_is_held c.args.shelf.now files c.args.name.now held started))
 
-pub returns-in-Err-write_line-clause-refused : goal.returns-in-Err-write_line-clause-refused
-returns-in-Err-write_line-clause-refused g t c =
-    BreaksOff-line c.args.network.now c.args.node.now c.args.name.now c.args.progress.now.best c.line_at.new.best c.in-Err-write_line.why
+pub returns-in_err-write_line-clause-refused : goal.returns-in_err-write_line-clause-refused
+returns-in_err-write_line-clause-refused g t c =
+    let p = err_from_is_err_and c.from_residual-in_err-write_line.result c.from_residual-in_err-write_line.ensures.1 in
+    rw (p.1, p.2)
+    (BreaksOff-line c.args.network.now c.args.node.now c.args.name.now c.args.progress.now.best c.line_at.new.best c.in_err-write_line.field-0.0
     (state_of g.H.Shelf.held g.H.Shelf.faults g.H.Shelf.last_fault g.H.Shelf.started c.args.shelf.now)
     (state_of g.H.Shelf.held g.H.Shelf.faults g.H.Shelf.last_fault g.H.Shelf.started c.write_line.new.shelf)
-    c.in-Ok.line c.in-Ok.ensures.line c.in-Err-write_line.ensures.refused
+    c.in_ok-line.line c.in_ok-line.ensures.line c.in_err-write_line.ensures.refused)
 
-pub returns-in_default-line : goal.returns-in_default-line
-returns-in_default-line g t c = record {
+pub returns-in_default : goal.returns-in_default
+returns-in_default g t c = record {
   explored = Explores-leaf c.args.network.now c.args.node.now c.args.name.now c.args.progress.now.best c.line_at.new.best c.args.progress.now.counts c.write_line.new.counts
       (state_of g.H.Shelf.held g.H.Shelf.faults g.H.Shelf.last_fault g.H.Shelf.started c.args.shelf.now)
       (state_of g.H.Shelf.held g.H.Shelf.faults g.H.Shelf.last_fault g.H.Shelf.started c.write_line.new.shelf)
-      c.in-Ok.line c.in-Ok.ensures.line c.in_default-line.not-Split c.in_default.ensures.added c.in_default.ensures.counted;
+      c.in_ok-line.line c.in_ok-line.ensures.line c.in_default.not-Split c.in_ok-write_line.ensures.added c.in_ok-write_line.ensures.counted;
   node = refl;
-  room = c.in-Ok.ensures.room;
+  room = c.in_ok-line.ensures.room;
   refused = tt;
 }
 
@@ -37,52 +43,56 @@ pub explore-requires : goal.explore-requires
 explore-requires g t c κs within =
     let node : IsNode c.args.network.now c.args.node.now = search rules in
     let before : IsKept c.args.network.now c.args.progress.now.best = search rules in
-    let is_open : IsOpenAt c.args.network.now c.args.node.now c.in-Split.candidate = IsOpenAt-line c.args.network.now c.args.node.now c.args.progress.now.best c.line_at.new.best c.in-Ok.line c.in-Split.candidate c.in-Split.is c.in-Ok.ensures.line in
-    let same = IsKept-line c.args.network.now c.args.node.now c.args.progress.now.best c.line_at.new.best c.in-Ok.line c.in-Split.candidate c.in-Split.is c.in-Ok.ensures.line in
+    let is_open : IsOpenAt c.args.network.now c.args.node.now c.in-Split.candidate = IsOpenAt-line c.args.network.now c.args.node.now c.args.progress.now.best c.line_at.new.best c.in_ok-line.line c.in-Split.candidate c.in-Split.is c.in_ok-line.ensures.line in
+    let same = IsKept-line c.args.network.now c.args.node.now c.args.progress.now.best c.line_at.new.best c.in_ok-line.line c.in-Split.candidate c.in-Split.is c.in_ok-line.ensures.line in
     let first : (record { inside = c.set.new.self; upper = c.args.node.now.upper }) ≡ with_chosen c.args.node.now c.in-Split.candidate = child_with c.args.node.now c.in-Split.candidate c.set.new.self c.set.ensures in
     let kept : IsKept c.args.network.now c.line_at.new.best = IsKept-same c.args.network.now c.args.progress.now.best c.line_at.new.best same before in
     let falls : open_count c.set.new.self c.args.node.now.upper < open_count c.args.node.now.inside c.args.node.now.upper =
     rw c.set.ensures (open_count-with c.args.node.now.inside c.args.node.now.upper c.in-Split.candidate is_open.in_upper is_open.not_inside) in
     let child : IsNode c.args.network.now (record { inside = c.set.new.self; upper = c.args.node.now.upper }) = IsNode-same c.args.network.now (with_chosen c.args.node.now c.in-Split.candidate) (record { inside = c.set.new.self; upper = c.args.node.now.upper }) first (IsNode-with c.args.network.now c.args.node.now c.in-Split.candidate node is_open) in
-    (search rules, (within, (c.in_default.ensures.added.started, (child, (c.in-Ok.ensures.room, kept)))))
+    (search rules, (within, (c.in_ok-write_line.ensures.added.started, (child, (c.in_ok-line.ensures.room, kept)))))
 
 pub explore-requires-2 : goal.explore-requires-2
 explore-requires-2 g t c κs within =
     let node : IsNode c.args.network.now c.args.node.now = search rules in
-    let is_open : IsOpenAt c.args.network.now c.args.node.now c.in-Split.candidate = IsOpenAt-line c.args.network.now c.args.node.now c.args.progress.now.best c.line_at.new.best c.in-Ok.line c.in-Split.candidate c.in-Split.is c.in-Ok.ensures.line in
+    let is_open : IsOpenAt c.args.network.now c.args.node.now c.in-Split.candidate = IsOpenAt-line c.args.network.now c.args.node.now c.args.progress.now.best c.line_at.new.best c.in_ok-line.line c.in-Split.candidate c.in-Split.is c.in_ok-line.ensures.line in
     let first : (record { inside = c.set.new.self; upper = c.args.node.now.upper }) ≡ with_chosen c.args.node.now c.in-Split.candidate = child_with c.args.node.now c.in-Split.candidate c.set.new.self c.set.ensures in
     let second : (record { inside = c.set-2.new.self; upper = c.set-3.new.self }) ≡ without_chosen c.args.node.now c.in-Split.candidate =
-    child_without c.args.network.now c.args.node.now c.explore.new.node c.in-Split.candidate c.set-2.new.self c.set-3.new.self is_open (c.in_default-explore.ensures.node ∙ first) c.set-2.ensures c.set-3.ensures in
+    child_without c.args.network.now c.args.node.now c.explore.new.node c.in-Split.candidate c.set-2.new.self c.set-3.new.self is_open (c.in_ok-explore.ensures.node ∙ first) c.set-2.ensures c.set-3.ensures in
     let falls : open_count c.set-2.new.self c.set-3.new.self < open_count c.args.node.now.inside c.args.node.now.upper =
     subst (λ (n : Node). open_count n.inside n.upper < open_count c.args.node.now.inside c.args.node.now.upper) (sym second)
     (open_count-without c.args.node.now.inside c.args.node.now.upper c.in-Split.candidate is_open.in_upper is_open.not_inside) in
     let child : IsNode c.args.network.now (record { inside = c.set-2.new.self; upper = c.set-3.new.self }) = IsNode-same c.args.network.now (without_chosen c.args.node.now c.in-Split.candidate) (record { inside = c.set-2.new.self; upper = c.set-3.new.self }) second (IsNode-without c.args.network.now c.args.node.now c.in-Split.candidate node is_open) in
-    (search rules, (within, (c.in_default-explore.ensures.explored.added.started, (child, (c.in_default-explore.ensures.room, c.in_default-explore.ensures.explored.done.kept)))))
+    (search rules, (within, (c.in_ok-explore.ensures.explored.added.started, (child, (c.in_ok-explore.ensures.room, c.in_ok-explore.ensures.explored.done.kept)))))
 
-pub returns-in-Err-explore-clause-refused : goal.returns-in-Err-explore-clause-refused
-returns-in-Err-explore-clause-refused g t c =
-    let is_open : IsOpenAt c.args.network.now c.args.node.now c.in-Split.candidate = IsOpenAt-line c.args.network.now c.args.node.now c.args.progress.now.best c.line_at.new.best c.in-Ok.line c.in-Split.candidate c.in-Split.is c.in-Ok.ensures.line in
-    let added = Adds-line c.args.name.now c.in-Ok.line c.in-Split.candidate (state_of g.H.Shelf.held g.H.Shelf.faults g.H.Shelf.last_fault g.H.Shelf.started c.args.shelf.now) (state_of g.H.Shelf.held g.H.Shelf.faults g.H.Shelf.last_fault g.H.Shelf.started c.write_line.new.shelf) c.in-Split.is c.in_default.ensures.added in
+pub returns-in_err-explore-clause-refused : goal.returns-in_err-explore-clause-refused
+returns-in_err-explore-clause-refused g t c =
+    let is_open : IsOpenAt c.args.network.now c.args.node.now c.in-Split.candidate = IsOpenAt-line c.args.network.now c.args.node.now c.args.progress.now.best c.line_at.new.best c.in_ok-line.line c.in-Split.candidate c.in-Split.is c.in_ok-line.ensures.line in
+    let added = Adds-line c.args.name.now c.in_ok-line.line c.in-Split.candidate (state_of g.H.Shelf.held g.H.Shelf.faults g.H.Shelf.last_fault g.H.Shelf.started c.args.shelf.now) (state_of g.H.Shelf.held g.H.Shelf.faults g.H.Shelf.last_fault g.H.Shelf.started c.write_line.new.shelf) c.in-Split.is c.in_ok-write_line.ensures.added in
     let first : (record { inside = c.set.new.self; upper = c.args.node.now.upper }) ≡ with_chosen c.args.node.now c.in-Split.candidate = child_with c.args.node.now c.in-Split.candidate c.set.new.self c.set.ensures in
-    BreaksOff-first c.args.network.now c.args.node.now c.args.name.now c.in-Split.candidate c.in-Err-explore.why
+    let p = err_from_is_err_and c.from_residual-in_err-explore.result c.from_residual-in_err-explore.ensures.1 in
+    rw (p.1, p.2)
+    (BreaksOff-first c.args.network.now c.args.node.now c.args.name.now c.in-Split.candidate c.in_err-explore.field-0.0
     (state_of g.H.Shelf.held g.H.Shelf.faults g.H.Shelf.last_fault g.H.Shelf.started c.args.shelf.now)
     (state_of g.H.Shelf.held g.H.Shelf.faults g.H.Shelf.last_fault g.H.Shelf.started c.write_line.new.shelf)
     (state_of g.H.Shelf.held g.H.Shelf.faults g.H.Shelf.last_fault g.H.Shelf.started c.explore.new.shelf)
     is_open added
-    (BreaksOff-same c.args.network.now (with_chosen c.args.node.now c.in-Split.candidate) (record { inside = c.set.new.self; upper = c.args.node.now.upper }) c.args.name.now c.in-Err-explore.why
+    (BreaksOff-same c.args.network.now (with_chosen c.args.node.now c.in-Split.candidate) (record { inside = c.set.new.self; upper = c.args.node.now.upper }) c.args.name.now c.in_err-explore.field-0.0
     (state_of g.H.Shelf.held g.H.Shelf.faults g.H.Shelf.last_fault g.H.Shelf.started c.write_line.new.shelf)
     (state_of g.H.Shelf.held g.H.Shelf.faults g.H.Shelf.last_fault g.H.Shelf.started c.explore.new.shelf)
-    first c.in-Err-explore.ensures.refused)
+    first c.in_err-explore.ensures.refused))
 
-pub returns-in-Err-explore-2-clause-refused : goal.returns-in-Err-explore-2-clause-refused
-returns-in-Err-explore-2-clause-refused g t c =
-    let is_open : IsOpenAt c.args.network.now c.args.node.now c.in-Split.candidate = IsOpenAt-line c.args.network.now c.args.node.now c.args.progress.now.best c.line_at.new.best c.in-Ok.line c.in-Split.candidate c.in-Split.is c.in-Ok.ensures.line in
-    let added = Adds-line c.args.name.now c.in-Ok.line c.in-Split.candidate (state_of g.H.Shelf.held g.H.Shelf.faults g.H.Shelf.last_fault g.H.Shelf.started c.args.shelf.now) (state_of g.H.Shelf.held g.H.Shelf.faults g.H.Shelf.last_fault g.H.Shelf.started c.write_line.new.shelf) c.in-Split.is c.in_default.ensures.added in
-    let same = IsKept-line c.args.network.now c.args.node.now c.args.progress.now.best c.line_at.new.best c.in-Ok.line c.in-Split.candidate c.in-Split.is c.in-Ok.ensures.line in
+pub returns-in_err-explore-2-clause-refused : goal.returns-in_err-explore-2-clause-refused
+returns-in_err-explore-2-clause-refused g t c =
+    let is_open : IsOpenAt c.args.network.now c.args.node.now c.in-Split.candidate = IsOpenAt-line c.args.network.now c.args.node.now c.args.progress.now.best c.line_at.new.best c.in_ok-line.line c.in-Split.candidate c.in-Split.is c.in_ok-line.ensures.line in
+    let added = Adds-line c.args.name.now c.in_ok-line.line c.in-Split.candidate (state_of g.H.Shelf.held g.H.Shelf.faults g.H.Shelf.last_fault g.H.Shelf.started c.args.shelf.now) (state_of g.H.Shelf.held g.H.Shelf.faults g.H.Shelf.last_fault g.H.Shelf.started c.write_line.new.shelf) c.in-Split.is c.in_ok-write_line.ensures.added in
+    let same = IsKept-line c.args.network.now c.args.node.now c.args.progress.now.best c.line_at.new.best c.in_ok-line.line c.in-Split.candidate c.in-Split.is c.in_ok-line.ensures.line in
     let first : (record { inside = c.set.new.self; upper = c.args.node.now.upper }) ≡ with_chosen c.args.node.now c.in-Split.candidate = child_with c.args.node.now c.in-Split.candidate c.set.new.self c.set.ensures in
     let second : (record { inside = c.set-2.new.self; upper = c.set-3.new.self }) ≡ without_chosen c.args.node.now c.in-Split.candidate =
-    child_without c.args.network.now c.args.node.now c.explore.new.node c.in-Split.candidate c.set-2.new.self c.set-3.new.self is_open (c.in_default-explore.ensures.node ∙ first) c.set-2.ensures c.set-3.ensures in
-    BreaksOff-second c.args.network.now c.args.node.now c.args.name.now c.in-Split.candidate c.in-Err-explore-2.why
+    child_without c.args.network.now c.args.node.now c.explore.new.node c.in-Split.candidate c.set-2.new.self c.set-3.new.self is_open (c.in_ok-explore.ensures.node ∙ first) c.set-2.ensures c.set-3.ensures in
+    let p = err_from_is_err_and c.from_residual-in_err-explore-2.result c.from_residual-in_err-explore-2.ensures.1 in
+    rw (p.1, p.2)
+    (BreaksOff-second c.args.network.now c.args.node.now c.args.name.now c.in-Split.candidate c.in_err-explore-2.field-0.0
     c.args.progress.now.best c.explore.new.progress.best c.write_line.new.counts c.explore.new.progress.counts
     (state_of g.H.Shelf.held g.H.Shelf.faults g.H.Shelf.last_fault g.H.Shelf.started c.args.shelf.now)
     (state_of g.H.Shelf.held g.H.Shelf.faults g.H.Shelf.last_fault g.H.Shelf.started c.write_line.new.shelf)
@@ -93,21 +103,21 @@ returns-in-Err-explore-2-clause-refused g t c =
     c.line_at.new.best c.args.progress.now.best c.explore.new.progress.best c.write_line.new.counts c.explore.new.progress.counts
     (state_of g.H.Shelf.held g.H.Shelf.faults g.H.Shelf.last_fault g.H.Shelf.started c.write_line.new.shelf)
     (state_of g.H.Shelf.held g.H.Shelf.faults g.H.Shelf.last_fault g.H.Shelf.started c.explore.new.shelf)
-    first same c.in_default-explore.ensures.explored)
-    (BreaksOff-same c.args.network.now (without_chosen c.args.node.now c.in-Split.candidate) (record { inside = c.set-2.new.self; upper = c.set-3.new.self }) c.args.name.now c.in-Err-explore-2.why
+    first same c.in_ok-explore.ensures.explored)
+    (BreaksOff-same c.args.network.now (without_chosen c.args.node.now c.in-Split.candidate) (record { inside = c.set-2.new.self; upper = c.set-3.new.self }) c.args.name.now c.in_err-explore-2.field-0.0
     (state_of g.H.Shelf.held g.H.Shelf.faults g.H.Shelf.last_fault g.H.Shelf.started c.explore.new.shelf)
     (state_of g.H.Shelf.held g.H.Shelf.faults g.H.Shelf.last_fault g.H.Shelf.started c.explore-2.new.shelf)
-    second c.in-Err-explore-2.ensures.refused)
+    second c.in_err-explore-2.ensures.refused))
 
 pub returns-clause-explored : goal.returns-clause-explored
 returns-clause-explored g t c =
-    let is_open : IsOpenAt c.args.network.now c.args.node.now c.in-Split.candidate = IsOpenAt-line c.args.network.now c.args.node.now c.args.progress.now.best c.line_at.new.best c.in-Ok.line c.in-Split.candidate c.in-Split.is c.in-Ok.ensures.line in
-    let added = Adds-line c.args.name.now c.in-Ok.line c.in-Split.candidate (state_of g.H.Shelf.held g.H.Shelf.faults g.H.Shelf.last_fault g.H.Shelf.started c.args.shelf.now) (state_of g.H.Shelf.held g.H.Shelf.faults g.H.Shelf.last_fault g.H.Shelf.started c.write_line.new.shelf) c.in-Split.is c.in_default.ensures.added in
-    let same = IsKept-line c.args.network.now c.args.node.now c.args.progress.now.best c.line_at.new.best c.in-Ok.line c.in-Split.candidate c.in-Split.is c.in-Ok.ensures.line in
+    let is_open : IsOpenAt c.args.network.now c.args.node.now c.in-Split.candidate = IsOpenAt-line c.args.network.now c.args.node.now c.args.progress.now.best c.line_at.new.best c.in_ok-line.line c.in-Split.candidate c.in-Split.is c.in_ok-line.ensures.line in
+    let added = Adds-line c.args.name.now c.in_ok-line.line c.in-Split.candidate (state_of g.H.Shelf.held g.H.Shelf.faults g.H.Shelf.last_fault g.H.Shelf.started c.args.shelf.now) (state_of g.H.Shelf.held g.H.Shelf.faults g.H.Shelf.last_fault g.H.Shelf.started c.write_line.new.shelf) c.in-Split.is c.in_ok-write_line.ensures.added in
+    let same = IsKept-line c.args.network.now c.args.node.now c.args.progress.now.best c.line_at.new.best c.in_ok-line.line c.in-Split.candidate c.in-Split.is c.in_ok-line.ensures.line in
     let first : (record { inside = c.set.new.self; upper = c.args.node.now.upper }) ≡ with_chosen c.args.node.now c.in-Split.candidate = child_with c.args.node.now c.in-Split.candidate c.set.new.self c.set.ensures in
     let second : (record { inside = c.set-2.new.self; upper = c.set-3.new.self }) ≡ without_chosen c.args.node.now c.in-Split.candidate =
-    child_without c.args.network.now c.args.node.now c.explore.new.node c.in-Split.candidate c.set-2.new.self c.set-3.new.self is_open (c.in_default-explore.ensures.node ∙ first) c.set-2.ensures c.set-3.ensures in
-    let counted = Counts-line c.args.progress.now.counts c.write_line.new.counts c.in-Ok.line c.in-Split.candidate c.in-Split.is c.in_default.ensures.counted in
+    child_without c.args.network.now c.args.node.now c.explore.new.node c.in-Split.candidate c.set-2.new.self c.set-3.new.self is_open (c.in_ok-explore.ensures.node ∙ first) c.set-2.ensures c.set-3.ensures in
+    let counted = Counts-line c.args.progress.now.counts c.write_line.new.counts c.in_ok-line.line c.in-Split.candidate c.in-Split.is c.in_ok-write_line.ensures.counted in
     Explores-split c.args.network.now c.args.node.now c.args.name.now c.in-Split.candidate
     c.args.progress.now.best c.explore.new.progress.best c.explore-2.new.progress.best
     c.args.progress.now.counts c.write_line.new.counts c.explore.new.progress.counts c.explore-2.new.progress.counts
@@ -120,17 +130,17 @@ returns-clause-explored g t c =
     c.line_at.new.best c.args.progress.now.best c.explore.new.progress.best c.write_line.new.counts c.explore.new.progress.counts
     (state_of g.H.Shelf.held g.H.Shelf.faults g.H.Shelf.last_fault g.H.Shelf.started c.write_line.new.shelf)
     (state_of g.H.Shelf.held g.H.Shelf.faults g.H.Shelf.last_fault g.H.Shelf.started c.explore.new.shelf)
-    first same c.in_default-explore.ensures.explored)
+    first same c.in_ok-explore.ensures.explored)
     (Explores-same c.args.network.now (without_chosen c.args.node.now c.in-Split.candidate) (record { inside = c.set-2.new.self; upper = c.set-3.new.self }) c.args.name.now
     c.explore.new.progress.best c.explore.new.progress.best c.explore-2.new.progress.best c.explore.new.progress.counts c.explore-2.new.progress.counts
     (state_of g.H.Shelf.held g.H.Shelf.faults g.H.Shelf.last_fault g.H.Shelf.started c.explore.new.shelf)
     (state_of g.H.Shelf.held g.H.Shelf.faults g.H.Shelf.last_fault g.H.Shelf.started c.explore-2.new.shelf)
-    second refl c.in_default-explore-2.ensures.explored)
+    second refl c.in_ok-explore-2.ensures.explored)
 
 pub returns-clause-node : goal.returns-clause-node
 returns-clause-node g t c =
-    let is_open : IsOpenAt c.args.network.now c.args.node.now c.in-Split.candidate = IsOpenAt-line c.args.network.now c.args.node.now c.args.progress.now.best c.line_at.new.best c.in-Ok.line c.in-Split.candidate c.in-Split.is c.in-Ok.ensures.line in
+    let is_open : IsOpenAt c.args.network.now c.args.node.now c.in-Split.candidate = IsOpenAt-line c.args.network.now c.args.node.now c.args.progress.now.best c.line_at.new.best c.in_ok-line.line c.in-Split.candidate c.in-Split.is c.in_ok-line.ensures.line in
     let first : (record { inside = c.set.new.self; upper = c.args.node.now.upper }) ≡ with_chosen c.args.node.now c.in-Split.candidate = child_with c.args.node.now c.in-Split.candidate c.set.new.self c.set.ensures in
     let second : (record { inside = c.set-2.new.self; upper = c.set-3.new.self }) ≡ without_chosen c.args.node.now c.in-Split.candidate =
-    child_without c.args.network.now c.args.node.now c.explore.new.node c.in-Split.candidate c.set-2.new.self c.set-3.new.self is_open (c.in_default-explore.ensures.node ∙ first) c.set-2.ensures c.set-3.ensures in
-    node_back c.args.network.now c.args.node.now c.explore-2.new.node c.in-Split.candidate c.set-4.new.self is_open (c.in_default-explore-2.ensures.node ∙ second) c.set-4.ensures
+    child_without c.args.network.now c.args.node.now c.explore.new.node c.in-Split.candidate c.set-2.new.self c.set-3.new.self is_open (c.in_ok-explore.ensures.node ∙ first) c.set-2.ensures c.set-3.ensures in
+    node_back c.args.network.now c.args.node.now c.explore-2.new.node c.in-Split.candidate c.set-4.new.self is_open (c.in_ok-explore-2.ensures.node ∙ second) c.set-4.ensures

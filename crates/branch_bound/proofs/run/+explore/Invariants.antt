@@ -1,4 +1,4 @@
-use Rattle.branch_bound.proofs.OpenCount.{open_count}
+use Rattle.bound_log.specs.OpenCount.{open_count}
 use Rattle.branch_bound.proofs.run.+explore.Given as goal
 
 abbrev pub decreases-explore : goal.decreases-explore

@@ -1,36 +1,56 @@
+use Rattle.std.proofs.Common.{◌≡◌, ◌∙◌, ap, length}
+use Rattle.std.proofs.lemmas.Result.{err_from_is_err_and}
+use Rattle.geo_model.specs.Nodes.{all_plans}
+use Rattle.bound_log.specs.LogTree.{root_of}
 use Rattle.shelf_io.specs.States.{state_of}
+use Rattle.branch_bound.proofs.ExploreLemmas.{IsNode-root, IsNode-same}
 use Rattle.branch_bound.proofs.SearchLemmas.{BreaksLog-nothing, BreaksLog-head, BreaksLog-tree, Searches-done}
 use Rattle.branch_bound.proofs.run.search.Goals as goal
 
-pub returns-in-Err-clause-refused : goal.returns-in-Err-clause-refused
-returns-in-Err-clause-refused g c =
-    BreaksLog-nothing c.args.network.now c.args.name.now (state_of g.H.Shelf.held g.H.Shelf.faults g.H.Shelf.last_fault g.H.Shelf.started c.args.shelf.now)
-    (λ files held. g.met.H.Shelf.started_is_held c.args.shelf.now files c.args.name.now held c.requires.started)
+pub returns-in_err-node-clause-refused : goal.returns-in_err-node-clause-refused
+returns-in_err-node-clause-refused g c =
+    let p = err_from_is_err_and c.from_residual.result c.from_residual.ensures.1 in
+    rw (p.1, p.2)
+    (BreaksLog-nothing c.args.network.now c.args.name.now (state_of g.H.Shelf.held g.H.Shelf.faults g.H.Shelf.last_fault g.H.Shelf.started c.args.shelf.now)
+    (λ files held. g.met.H.Shelf.started_is_held c.args.shelf.now files c.args.name.now held c.requires.started))
 
-pub returns-in-Err-new-clause-refused : goal.returns-in-Err-new-clause-refused
-returns-in-Err-new-clause-refused g c =
-    BreaksLog-nothing c.args.network.now c.args.name.now (state_of g.H.Shelf.held g.H.Shelf.faults g.H.Shelf.last_fault g.H.Shelf.started c.args.shelf.now)
-    (λ files held. g.met.H.Shelf.started_is_held c.args.shelf.now files c.args.name.now held c.requires.started)
+pub returns-in_err-room-clause-refused : goal.returns-in_err-room-clause-refused
+returns-in_err-room-clause-refused g c =
+    let p = err_from_is_err_and c.from_residual-in_err-room.result c.from_residual-in_err-room.ensures.1 in
+    rw (p.1, p.2)
+    (BreaksLog-nothing c.args.network.now c.args.name.now (state_of g.H.Shelf.held g.H.Shelf.faults g.H.Shelf.last_fault g.H.Shelf.started c.args.shelf.now)
+    (λ files held. g.met.H.Shelf.started_is_held c.args.shelf.now files c.args.name.now held c.requires.started))
 
-pub returns-in-Err-begin_log-clause-refused : goal.returns-in-Err-begin_log-clause-refused
-returns-in-Err-begin_log-clause-refused g c =
-    BreaksLog-head c.args.network.now c.args.name.now c.in-Err-begin_log.why
+pub returns-in_err-begin_log-clause-refused : goal.returns-in_err-begin_log-clause-refused
+returns-in_err-begin_log-clause-refused g c =
+    let p = err_from_is_err_and c.from_residual-in_err-begin_log.result c.from_residual-in_err-begin_log.ensures.1 in
+    rw (p.1, p.2)
+    (BreaksLog-head c.args.network.now c.args.name.now c.in_err-begin_log.field-0.0
     (state_of g.H.Shelf.held g.H.Shelf.faults g.H.Shelf.last_fault g.H.Shelf.started c.args.shelf.now)
     (state_of g.H.Shelf.held g.H.Shelf.faults g.H.Shelf.last_fault g.H.Shelf.started c.begin_log.new.shelf)
-    c.in-Err-begin_log.ensures.refused
+    c.in_err-begin_log.ensures.refused)
 
-pub returns-in-Err-explore-clause-refused : goal.returns-in-Err-explore-clause-refused
-returns-in-Err-explore-clause-refused g c =
-    BreaksLog-tree c.args.network.now c.in-Ok.node c.args.name.now c.in-Err-explore.why
+pub returns-in_err-explore-clause-refused : goal.returns-in_err-explore-clause-refused
+returns-in_err-explore-clause-refused g c =
+    let root : c.in_ok-node.node ≡ root_of c.args.network.now = c.in_ok-node.ensures ∙ ap (λ cs. all_plans (length cs)) c.candidates.ensures.value in
+    let p = err_from_is_err_and c.from_residual-in_err-explore.result c.from_residual-in_err-explore.ensures.1 in
+    rw (p.1, p.2)
+    (BreaksLog-tree c.args.network.now c.in_ok-node.node c.args.name.now c.in_err-explore.field-0.0
     (state_of g.H.Shelf.held g.H.Shelf.faults g.H.Shelf.last_fault g.H.Shelf.started c.args.shelf.now)
     (state_of g.H.Shelf.held g.H.Shelf.faults g.H.Shelf.last_fault g.H.Shelf.started c.begin_log.new.shelf)
     (state_of g.H.Shelf.held g.H.Shelf.faults g.H.Shelf.last_fault g.H.Shelf.started c.explore.new.shelf)
-    c.in-Ok.ensures.root c.in_default.ensures.added c.in-Err-explore.ensures.refused
+    root c.in_ok-begin_log.ensures.added c.in_err-explore.ensures.refused)
 
 pub returns-clause-searched : goal.returns-clause-searched
 returns-clause-searched g c =
-    Searches-done c.args.network.now c.in-Ok.node c.args.name.now c.new-progress.result.best c.explore.new.progress.best c.new-progress.result.counts c.explore.new.progress.counts c.done.result
+    let root : c.in_ok-node.node ≡ root_of c.args.network.now = c.in_ok-node.ensures ∙ ap (λ cs. all_plans (length cs)) c.candidates.ensures.value in
+    Searches-done c.args.network.now c.in_ok-node.node c.args.name.now c.new-progress.result.best c.explore.new.progress.best c.new-progress.result.counts c.explore.new.progress.counts c.done.result
     (state_of g.H.Shelf.held g.H.Shelf.faults g.H.Shelf.last_fault g.H.Shelf.started c.args.shelf.now)
     (state_of g.H.Shelf.held g.H.Shelf.faults g.H.Shelf.last_fault g.H.Shelf.started c.begin_log.new.shelf)
     (state_of g.H.Shelf.held g.H.Shelf.faults g.H.Shelf.last_fault g.H.Shelf.started c.explore.new.shelf)
-    c.in-Ok.ensures.root c.new-progress.ensures.best c.new-progress.ensures.counts c.in_default.ensures.added c.in_default-explore.ensures.explored c.done.ensures.answer c.done.ensures.counts
+    root c.new-progress.ensures.best c.new-progress.ensures.counts c.in_ok-begin_log.ensures.added c.in_ok-explore.ensures.explored c.done.ensures.answer c.done.ensures.counts
+
+pub explore-requires-clause-node : goal.explore-requires-clause-node
+explore-requires-clause-node g c =
+    let root : c.in_ok-node.node ≡ root_of c.args.network.now = c.in_ok-node.ensures ∙ ap (λ cs. all_plans (length cs)) c.candidates.ensures.value in
+    IsNode-same c.args.network.now (root_of c.args.network.now) c.in_ok-node.node root (IsNode-root c.args.network.now)

@@ -4,9 +4,9 @@ use Rattle.std.specs.Int.{w64, w128, cast_signed, cast_unsigned}
 use Rattle.std.proofs.lemmas.Int.{ints, to_z-of_z}
 use Rattle.std.proofs.lemmas.Nat.{mul-le}
 use Rattle.geo_base.specs.Division.{IsNearest, nearest_of}
-use Rattle.geo_base.proofs.Rounding.{nearest_of-IsNearest}
+use Rattle.geo_base.proofs.Rounding.{nearest_of-IsNearest, IsNearest-unique}
 use Rattle.coefficient_round.specs.Coefficient.{square, weight_for}
-use Rattle.coefficient_round.proofs.Bounds.{IsWeightSize, weight-size}
+use Rattle.coefficient_round.proofs.Bounds.{IsWeightSize, weight-size, weight_for-IsNearest}
 use Rattle.coefficient_round.proofs.weight.weight_of.Goals as goal
 
 square_bounds : (u : ℕ) → 10 ≤ u → u ≤ 10000 → (100 ≤ u * u) × (u * u ≤ 100000000)
@@ -50,8 +50,10 @@ overflow_cast-result c =
     simp (to_z-of_z, wide) (fits_long c.nearest.result (size c))
 
 pub returns-clause-value : goal.returns-clause-value
-unfolding weight_for
-returns-clause-value c = answer c ∙ plain c
+returns-clause-value c =
+    let bounds = square_bounds c.args.u c.requires.least c.requires.most in
+    let some : pos 0 <ℤ pos (square c.args.u) = omega (arith, ints, bounds.0) in
+    answer c ∙ IsNearest-unique (pos (10 ^ 8)) (pos (square c.args.u)) c.nearest.result (weight_for c.args.u) some (is_nearest c) (weight_for-IsNearest c.args.u c.requires.least)
 
 pub returns-clause-nearest : goal.returns-clause-nearest
 returns-clause-nearest c = rw (answer c) (is_nearest c)

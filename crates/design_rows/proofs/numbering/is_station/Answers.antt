@@ -1,6 +1,7 @@
 use Rattle.std.proofs.Common.{◌∙◌, sym}
+use Rattle.point_tables.proofs.Places.{any-at}
 use Rattle.design_rows.specs.Unknowns.{is_direction_from}
-use Rattle.design_rows.proofs.NumberingFacts.{any-at, any-more}
+use Rattle.design_rows.proofs.NumberingFacts.{any-more}
 use Rattle.design_rows.proofs.numbering.is_station.Goals as goal
 
 pub returns-then-is_direction_from : goal.returns-then-is_direction_from

@@ -3,8 +3,8 @@ use Rattle.design_rows.proofs.RowFacts.{three, vector-rows}
 use Rattle.design_rows.proofs.rows.vector_rows.Goals as goal
 
 pub returns : goal.returns
-returns c =
+returns c points =
     three c.new-rows.result.items c.push.new.self.items c.push-2.new.self.items c.push-3.new.self.items c.in_ok-difference_row.field-0 c.in_ok-difference_row-2.field-0
     c.in_ok-difference_row-3.field-0 c.new-rows.ensures.items c.in_ok-push.ensures.items c.in_ok-push-2.ensures.items c.in_ok-push-3.ensures.items
-    ∙ vector-rows c.args.points.now c.args.columns.now c.args.candidate.now c.in_ok-difference_row.field-0 c.in_ok-difference_row-2.field-0 c.in_ok-difference_row-3.field-0
+    ∙ vector-rows points c.args.columns.now c.args.candidate.now c.in_ok-difference_row.field-0 c.in_ok-difference_row-2.field-0 c.in_ok-difference_row-3.field-0
     c.in-Some.height c.requires.kind c.in-Some.is c.in_ok-difference_row.ensures c.in_ok-difference_row-2.ensures c.in_ok-difference_row-3.ensures

@@ -4,7 +4,8 @@ use Rattle.std.specs.Prelude.{unsigned_abs}
 use Rattle.std.proofs.lemmas.Int.{to_z-of_z, fits_signed_from_abs}
 use Rattle.geo_model.specs.Row.{RowOf, IsRow, Entries}
 use Rattle.normal_matrix.specs.Entries.{coefficient, row_entry}
-use Rattle.normal_matrix.proofs.SumSteps.{size-mul, coefficient-size}
+use Rattle.whole_algebra.proofs.Order.{size-mul}
+use Rattle.normal_matrix.proofs.SumSteps.{coefficient-size}
 use Rattle.normal_matrix.proofs.RowSteps.{light, row_entry-size}
 use Rattle.limit_forms.proofs.exponents.row_diagonal.Goals as goal
 
@@ -25,7 +26,7 @@ step row i entries part weight bounds listed is heavy =
     let small : unsigned_abs weight ≤ 1000000 = rw heavy (light row.weight bounds.weight_low bounds.weight_high) in
     let square = size-mul part part (2 ^ 23) (2 ^ 23) size size in
     let same : weight *ℤ (part *ℤ part) ≡ row_entry row i i = ap₂ (λ s t. s *ℤ t) heavy (ap₂ (λ s t. s *ℤ t) part_is part_is) in
-    let whole : unsigned_abs (weight *ℤ (part *ℤ part)) ≤ 2 ^ 66 = rw same (row_entry-size row i i bounds) in
+    let whole : unsigned_abs (weight *ℤ (part *ℤ part)) ≤ 2 ^ 66 = rw same (let h = row_entry-size row i i bounds in omega arith) in
     record {
       narrow = fits_signed_from_abs w64 part (omega arith);
       wide = fits_signed_from_abs w128 part (omega arith);

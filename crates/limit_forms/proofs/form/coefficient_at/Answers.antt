@@ -3,7 +3,8 @@ use Rattle.std.specs.Prelude.{unsigned_abs}
 use Rattle.std.proofs.lemmas.Int.{to_z-of_z, fits_signed_from_abs}
 use Rattle.geo_model.specs.Row.{Entries, total_size}
 use Rattle.normal_matrix.specs.Entries.{coefficient}
-use Rattle.normal_matrix.proofs.SumSteps.{entry_size, coefficient-take-size, coefficient-more_here, coefficient-more_elsewhere, size-add}
+use Rattle.whole_algebra.proofs.Order.{size-add}
+use Rattle.normal_matrix.proofs.SumSteps.{entry_size, coefficient-take-size, coefficient-more_here, coefficient-more_elsewhere}
 use Rattle.limit_forms.proofs.form.coefficient_at.Goals as goal
 use Rattle.limit_forms.proofs.form.coefficient_at.Goals.{then-place-column, else-place-column}
 

@@ -10,8 +10,8 @@ use Rattle.geo_model.specs.Limit.{SquareOf, IsLoad}
 use Rattle.geo_model.specs.Network.{NetworkOf, IsNetwork}
 use Rattle.limit_forms.specs.Form.{form_of}
 use Rattle.limit_forms.specs.Grid.{GridOf, grid_of, on_grid, grid_step, scale_of, exponent_at}
-use Rattle.limit_forms.proofs.Sizes.{grid_number, number_within}
-use Rattle.limit_forms.proofs.GridEntries.{on_grid-within, floor_within}
+use Rattle.limit_forms.proofs.Sizes.{grid_number, form_limit, number_within}
+use Rattle.limit_forms.proofs.GridEntries.{on_grid-within, entry_limit, floor_within}
 use Rattle.limit_forms.proofs.Shifts.{shifted, gap_told, shift_size}
 use Rattle.limit_forms.proofs.GridReads.{IsRead, IsShift, read_unknown, read_exponent, read_shift, read_number, length-grid_of}
 use Rattle.limit_forms.proofs.row.grid_entry.Goals as goal
@@ -102,7 +102,13 @@ size_by network plan alpha squares row column i j e f number bounds limit p is =
     let within = number_within network plan alpha squares i j bounds limit p.first.below p.second.below in
     let same : scale_of network.candidates alpha i *ℤ (scale_of network.candidates alpha j *ℤ number) ≡ grid_number network plan alpha squares i j = ap (λ z. scale_of network.candidates alpha i *ℤ (scale_of network.candidates alpha j *ℤ z)) is in
     shift_size number (e +ℤ f) (unsigned_abs (pos 60 -ℤ exponent_at network.candidates alpha i)) (unsigned_abs (pos 60 -ℤ exponent_at network.candidates alpha j)) p.shift.sum
-    (rw same within.0) (rw same within.1)
+    (rw same (lower_end (grid_number network plan alpha squares i j) within.low)) (rw same (upper_end (grid_number network plan alpha squares i j) within.high))
+  where
+    lower_end : (z : ℤ) → neg_ℤ form_limit ≤ℤ z → neg_ℤ (pos (2 ^ 229)) ≤ℤ z
+    lower_end z h = omega (arith, ints)
+
+    upper_end : (z : ℤ) → z ≤ℤ form_limit → z ≤ℤ pos (2 ^ 229)
+    upper_end z h = omega (arith, ints)
 
 pub shift_floor-requires-clause-size : goal.shift_floor-requires-clause-size
 shift_floor-requires-clause-size c =
@@ -162,12 +168,12 @@ returns-clause-whole c =
     whole_by c.args.network.now c.args.normal.now.plan c.args.alpha c.args.squares.now c.args.row c.args.column c.unknown-first.result c.unknown-second.result c.exponent.result c.exponent-2.result c.form_entry.result c.shift_floor.result.1 c.requires.order c.requires.inside p is tells
 
 floor_size : (network : NetworkOf) (plan : List Bool) (alpha : ℤ) (squares : List SquareOf) (i k : ℕ) (z : ℤ) → IsNetwork network → IsLoad (length network.unknowns) network.candidates alpha squares
-    → z ≡ floor_over grid_step (at (row_at (on_grid network plan alpha squares) i) k) → unsigned_abs z ≤ 2 ^ 109
+    → z ≡ floor_over grid_step (at (row_at (on_grid network plan alpha squares) i) k) → unsigned_abs z < 2 ^ 109
 floor_size network plan alpha squares i k z bounds limit is =
     let f = floor_within (at (row_at (on_grid network plan alpha squares) i) k) (on_grid-within network plan alpha squares i k bounds limit) in
-    by z (floor_over grid_step (at (row_at (on_grid network plan alpha squares) i) k)) is f.0 f.1
+    by z (floor_over grid_step (at (row_at (on_grid network plan alpha squares) i) k)) is f.low f.high
   where
-    by : (z f : ℤ) → z ≡ f → neg_ℤ (pos (2 ^ 109)) ≤ℤ f → f ≤ℤ pos (2 ^ 109) → unsigned_abs z ≤ 2 ^ 109
+    by : (z f : ℤ) → z ≡ f → neg_ℤ entry_limit ≤ℤ f → f ≤ℤ entry_limit → unsigned_abs z < 2 ^ 109
     by z f e h k = omega (arith, ints)
 
 pub returns-clause-size : goal.returns-clause-size

@@ -1,4 +1,4 @@
-use Rattle.std.proofs.Common.{◌≡◌, ℕ, ◌+◌, ◌-◌, ◌≤◌, ◌^◌, ℤ, pos, ◌+ℤ◌, ◌-ℤ◌, ◌≤ℤ◌, Bool, true, false, if◌then◌else◌, length, w64, FitsSigned, ◌∙◌, sym, arith}
+use Rattle.std.proofs.Common.{◌≡◌, ℕ, ◌+◌, ◌-◌, ◌<◌, ◌≤◌, ◌^◌, ℤ, pos, ◌+ℤ◌, ◌-ℤ◌, ◌≤ℤ◌, Bool, true, false, if◌then◌else◌, length, w64, FitsSigned, ◌∙◌, sym, arith}
 use mir.Syntax.{w128}
 use Rattle.std.specs.Prelude.{unsigned_abs}
 use Rattle.std.proofs.lemmas.Int.{ints, to_z-of_z, fits_signed_from_abs}
@@ -18,7 +18,7 @@ record IsHead (number gap left right : ℤ) : Type 0 where
   pub middle_fits : FitsSigned w128 (number +ℤ gap)
   pub upper_fits : FitsSigned w128 ((number +ℤ gap) +ℤ (left +ℤ right))
 
-head : (number gap left right : ℤ) (k len : ℕ) → unsigned_abs number ≤ 2 ^ 109 → pos 0 ≤ℤ gap → gap ≤ℤ pos 1 → pos 0 ≤ℤ left → left ≤ℤ pos k → pos 0 ≤ℤ right → right ≤ℤ pos len
+head : (number gap left right : ℤ) (k len : ℕ) → unsigned_abs number < 2 ^ 109 → pos 0 ≤ℤ gap → gap ≤ℤ pos 1 → pos 0 ≤ℤ left → left ≤ℤ pos k → pos 0 ≤ℤ right → right ≤ℤ pos len
     → k ≤ 64 → len ≤ 64 → IsHead number gap left right
 head number gap left right k len size g0 g1 l0 l1 r0 r1 few short = record {
   number_fits = fits_signed_from_abs w128 number (omega (arith, ints));

@@ -1,7 +1,7 @@
 use Rattle.std.proofs.Common.{length, sym, subst}
 use Rattle.std.proofs.lemmas.Bool.{false≢true}
 use Rattle.geo_model.specs.declared.plan.Node.{Node}
-use Rattle.bound_log.specs.LogLines.{line_of}
+use Rattle.bound_log.specs.LogLines.{log_line_of}
 use Rattle.bound_log.specs.LogTree.{IsAllowedLine}
 use Rattle.log_check.specs.Places.{HasEntries}
 use Rattle.log_check.specs.Rules.{IsFirstBroken}
@@ -19,7 +19,7 @@ broken_rule-requires-clause-node c =
 pub returns-in-Some-broken_rule-clause-stopped : goal.returns-in-Some-broken_rule-clause-stopped
 returns-in-Some-broken_rule-clause-stopped c =
     let stack = c.args.progress.now.stack in
-    let line = line_of c.in-Some.line in
+    let line = log_line_of c.in-Some.line in
     let top = not_empty stack.nodes (λ none. false≢true (c.if-is_empty.ensures.1 none)) in
     no_rule top.first top.rest line top.is c.if-not-ended.false c.in-Some.ensures.some
     (subst (λ (n : Node). IsFirstBroken c.args.network.now n line c.in-Some-broken_rule.kind) (c.top.ensures top.first top.rest top.is) c.in-Some-broken_rule.ensures.broken)
@@ -27,7 +27,7 @@ returns-in-Some-broken_rule-clause-stopped c =
 pub returns-clause-taken : goal.returns-clause-taken
 returns-clause-taken c =
     let stack = c.args.progress.now.stack in
-    let line = line_of c.in-Some.line in
+    let line = log_line_of c.in-Some.line in
     let top = not_empty stack.nodes (λ none. false≢true (c.if-is_empty.ensures.1 none)) in
     record {
       node = top.first;

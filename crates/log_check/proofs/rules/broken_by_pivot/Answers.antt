@@ -2,6 +2,7 @@ use Rattle.std.proofs.Common.{◌≡◌, ◌≢◌, ◌≤◌, length, arith, re
 use Rattle.std.proofs.lemmas.Bool.{false≢true}
 use Rattle.std.proofs.lemmas.Option.{slice_get_read}
 use Rattle.geo_model.specs.declared.verdict.Verdict.TheVariants.{Refuted}
+use Rattle.bound_log.proofs.AllowedLemmas.{pivot_allowed}
 use Rattle.log_check.proofs.RuleLemmas.{pivot_out_of_range, owner_broken, verdict_broken}
 use Rattle.log_check.proofs.rules.broken_by_pivot.Goals as goal
 
@@ -34,9 +35,10 @@ returns-clause-allowed c =
     let named = slice_get_read limits (length limits) c.args.number c.index-limits-number.result refl
     (rw (← c.limits-limits.ensures.value) c.if-number-limits.false) (rw (← c.limits-limits.ensures.value) c.index-limits-number.is) in
     let same : c.verdict.result ≡ Refuted = search rules in
-    record {
+    pivot_allowed c.args.network.now c.args.node.now c.args.number
+    (record {
       limit = c.index-limits-number.result;
       named = named;
       owned = c.if-not-is_in_force.ensures.0 refl;
       refuted = sym (c.verdict.ensures.exact c.index-limits-number.result named) ∙ same;
-    }
+    })

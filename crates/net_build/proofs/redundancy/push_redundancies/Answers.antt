@@ -3,18 +3,16 @@ use Rattle.std.specs.List.{enumerate_from, flat_map}
 use Rattle.std.proofs.lemmas.List.{take_all}
 use Rattle.std.proofs.lemmas.Option.{slice_get-get_or}
 use Rattle.geo_model.specs.Candidate.{CandidateOf}
-use Rattle.geo_model.specs.Limit.{LimitOf}
 use Rattle.net_build.specs.Build.{limits_of_candidate, redundancy_limits}
-use Rattle.net_build.proofs.StepFacts.{parts-one}
+use Rattle.design_rows.proofs.NumberingFacts.{mapped-more}
 use Rattle.net_build.proofs.redundancy.push_redundancies.Goals as goal
 
 pub candidates-preserved : goal.candidates-preserved
 candidates-preserved c =
     let at : slice_get c.args.candidates.now c.candidates.place ≡ Some c.index-candidates-place.result =
     slice_get-get_or c.args.candidates.now c.candidates.place c.index-candidates-place.result c.candidates-test.true ∙ ap Some (sym c.index-candidates-place.is) in
-    c.in_ok-push_limits.ensures
-    ∙ ap (λ (l : List LimitOf). l ++ limits_of_candidate c.args.q (c.candidates.place, c.index-candidates-place.result)) c.candidates.invariant
-    ∙ parts-one (limits_of_candidate c.args.q) c.args.limits.now.items c.args.candidates.now c.candidates.place c.index-candidates-place.result at
+    mapped-more (limits_of_candidate c.args.q) c.args.limits.now.items c.candidates.limits.items c.push_limits.new.limits.items c.args.candidates.now
+    c.candidates.place c.index-candidates-place.result at c.candidates.invariant c.in_ok-push_limits.ensures
 
 pub returns : goal.returns
 unfolding redundancy_limits

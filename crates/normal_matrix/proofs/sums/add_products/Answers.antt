@@ -5,7 +5,8 @@ use Rattle.std.proofs.lemmas.Int.{to_z-of_z, fits_signed_mul, fits_signed_from_a
 use Rattle.whole_algebra.specs.Matrices.{at}
 use Rattle.geo_model.specs.Row.{Entries, total_size}
 use Rattle.normal_matrix.specs.Entries.{coefficient}
-use Rattle.normal_matrix.proofs.SumSteps.{line_step, line_kept, entry_size, coefficient-take-size, size-add, size-mul}
+use Rattle.whole_algebra.proofs.Order.{size-add, size-mul}
+use Rattle.normal_matrix.proofs.SumSteps.{line_step, line_kept, entry_size, coefficient-take-size}
 use Rattle.normal_matrix.proofs.sums.add_products.Goals as goal
 use Rattle.normal_matrix.proofs.sums.add_products.Goals.{then-column-first, else-column-first}
 

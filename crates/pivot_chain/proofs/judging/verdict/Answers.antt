@@ -1,11 +1,13 @@
-use Rattle.std.proofs.Common.{rules, ◌≡◌, length, sym, ◌∙◌, ap, subst, w64, FitsSigned}
+use Rattle.std.proofs.Common.{rules, ◌≡◌, get_or, length, sym, ◌∙◌, ap, subst, w64, FitsSigned}
 use Rattle.std.proofs.lemmas.Int.{to_z-of_z}
+use Rattle.std.proofs.lemmas.Option.{slice_get-get_or}
 use Rattle.lent_parts.specs.Triangle.{IsTri}
 use Rattle.geo_model.specs.Limit.{LimitOf}
 use Rattle.limit_forms.proofs.GridReads.{length-grid_of}
 use Rattle.pivot_chain.specs.Room.{RoomOf}
 use Rattle.pivot_chain.specs.Chain.{IsSmall}
 use Rattle.pivot_chain.proofs.Judged.{small_lower, small_upper, tall_lower, tall_upper, limit_at, same_limit, load_of, verdict_is}
+use Rattle.pivot_chain.proofs.Verdicts.{open_interval, met_holds, refuted_breaks, met_grows}
 use Rattle.pivot_chain.proofs.judging.verdict.Goals as goal
 
 pub judge-requires-clause-lower : goal.judge-requires-clause-lower
@@ -40,8 +42,8 @@ judge-requires-clause-room c =
     let tall = tall_lower _ _ _ _ c.write_grids.new.lower c.write_grids.ensures.lower in
     subst (λ n. IsTri n c.room.inside.rows) (sym tall) (subst (IsTri (length c.args.network.now.unknowns)) (sym rows) c.requires.room.rows)
 
-pub returns-clause-exact : goal.returns-clause-exact
-returns-clause-exact c = λ l e.
+exact : goal.returns-clause-exact
+exact c = λ l e.
     let f : FitsSigned w64 c.form.inside.alpha = search rules in
     let alpha : c.form.inside.alpha ≡ c.index-limits-limit.result.alpha = ap (λ (v : LimitOf). v.alpha) c.form.view_is in
     let squares : c.as_slice-squares.result.now ≡ c.index-limits-limit.result.squares = c.as_slice-squares.ensures.value ∙ ap (λ (v : LimitOf). v.squares) c.form.view_is in
@@ -49,6 +51,25 @@ returns-clause-exact c = λ l e.
     c.judge.ensures.exact
     ∙ verdict_is c.args.network.now c.args.plan.now c.bring_to.new.normal.plan c.index-limits-limit.result l c.form.inside.alpha c.as_slice-squares.result.now c.write_grids.new.lower c.write_grids.new.upper
     (simp (to_z-of_z, f) at c.write_grids.ensures.lower) (simp (to_z-of_z, f) at c.write_grids.ensures.upper) c.bring_to.ensures.plan alpha squares same
+
+pub returns-clause-exact : goal.returns-clause-exact
+returns-clause-exact c = exact c
+
+pub returns-clause-met : goal.returns-clause-met
+returns-clause-met c = λ l found e. met_holds c.args.network.now c.args.plan.now c.args.limit l c.judge.result c.limits.ensures.bounds found (exact c l found) e
+
+pub returns-clause-refuted : goal.returns-clause-refuted
+returns-clause-refuted c = λ l found e. refuted_breaks c.args.network.now c.args.plan.now c.args.limit l c.judge.result c.limits.ensures.bounds found (exact c l found) e
+
+pub returns-clause-interval : goal.returns-clause-interval
+returns-clause-interval c = λ step lo hi e.
+    let limits = c.args.network.now.limits in
+    let l = get_or limits c.args.limit c.index-limits-limit.result in
+    open_interval c.args.network.now c.args.plan.now l step lo hi (sym (exact c l (slice_get-get_or limits c.args.limit c.index-limits-limit.result c.requires.limit)) ∙ e)
+
+pub returns-clause-larger : goal.returns-clause-larger
+returns-clause-larger c = λ l large found e within.
+    met_grows c.args.network.now c.args.plan.now large c.args.limit l c.judge.result c.limits.ensures.bounds found (exact c l found) e within
 
 pub returns-clause-kept : goal.returns-clause-kept
 returns-clause-kept c =

@@ -4,7 +4,8 @@ use Rattle.std.proofs.lemmas.Int.{to_z-of_z}
 use Rattle.whole_algebra.specs.Matrices.{at}
 use Rattle.psd_cert.proofs.Products.{in_range}
 use Rattle.pivot_chain.specs.Step.{gap_at, taken}
-use Rattle.pivot_chain.proofs.Gaps.{right_more, added_low, added_high, added_size, gap_size}
+use Rattle.psd_cert.proofs.Quotients.{gap_size}
+use Rattle.pivot_chain.proofs.Gaps.{right_more, added_low, added_high, added_size}
 use Rattle.pivot_chain.proofs.RowWrites.{written, unwritten, sum_size}
 use Rattle.pivot_chain.proofs.step.divide_right.Goals as goal
 

@@ -1,5 +1,5 @@
 use Rattle.std.proofs.Common.{◌≡◌, replicate}
-use Rattle.log_check.specs.Places.{all_plans}
+use Rattle.geo_model.specs.Nodes.{all_plans}
 use Rattle.log_check.proofs.open_nodes.OpenNodes.new.Given as goal
 
 abbrev pub invariant-loop-place : goal.invariant-loop-place

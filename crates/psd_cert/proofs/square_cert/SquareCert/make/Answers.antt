@@ -25,10 +25,10 @@ returns-then-not-fits-clause-remainders c =
     (subst (λ m. Leaves m c.in-Some.left) e left.0) left.1
     (λ fit. false_is_not_true (sym c.if-not-fits.true ∙ c.fits.ensures.1 fit))
 
-pub returns-in-None-clause-remainders : goal.returns-in-None-clause-remainders
-returns-in-None-clause-remainders c =
+pub returns-in_default-clause-remainders : goal.returns-in_default-clause-remainders
+returns-in_default-clause-remainders c =
     let e = c.last_matrix.ensures ∙ ap (last_matrix c.args.first.now) c.deref.ensures.value in
-    let none = rw c.in-None.is at c.in_ok-left.ensures in
+    let none = rw c.in_default.is at c.in_ok-left.ensures in
     begun_stops (length c.args.first.now) c.args.first.now c.loop-step.remainders.items c.loop-step.invariant.0
     (omega (arith, c.loop-step.invariant.1, c.loop-step-test.true, c.size-step-end.ensures.rows))
     (subst StopsHere e none)
@@ -41,7 +41,7 @@ loop-step-preserved c =
     (omega (arith, c.loop-step.invariant.1, c.loop-step-test.true, c.size-step-end.ensures.rows))
     (subst (λ m. Leaves m c.in-Some.left) e left.0) (c.fits.ensures.0 c.if-not-fits.false) in
     let l = length-append c.loop-step.remainders.items (c.in-Some.left ∷ []) in
-    rw c.in_ok-push-in-Some.ensures.items (b, omega (arith, l, c.loop-step.invariant.1))
+    rw c.in_ok-push.ensures.items (b, omega (arith, l, c.loop-step.invariant.1))
 
 pub invariant_of-result : goal.invariant_of-result
 invariant_of-result c =

@@ -1,5 +1,5 @@
 use Rattle.std.proofs.Common.{◌≡◌, length}
-use Rattle.psd_cert.specs.Lower.{IsBegun}
+use Rattle.psd_cert.proofs.ChainSoFar.{IsBegun}
 use Rattle.psd_cert.proofs.square_cert.SquareCert.make.Given as goal
 
 abbrev pub invariant-loop-step : goal.invariant-loop-step

@@ -1,0 +1,11 @@
+use Rattle.bound_log.proofs.AllowedLemmas.{cost_allowed, pivot_allowed, pivot_refuted, split_allowed, split_open}
+use Rattle.bound_log.proofs.tree_laws.lines_are_allowed_by_their_kinds.Goals as goal
+
+pub returns-clause-split : goal.returns-clause-split
+returns-clause-split c = λ network node candidate. (split_open network node candidate, split_allowed network node candidate)
+
+pub returns-clause-cost : goal.returns-clause-cost
+returns-clause-cost c = cost_allowed
+
+pub returns-clause-pivot : goal.returns-clause-pivot
+returns-clause-pivot c = λ network node number. (pivot_refuted network node number, pivot_allowed network node number)
