@@ -5,6 +5,8 @@ use Rattle.shelf_io.specs.Faults.{Rose, KeepsFaults, write_of}
 use Rattle.shelf_io.proofs.FileLaws.{with_piece-with_bytes}
 use Rattle.geo_model.specs.declared.answer.SearchDone.{SearchDone}
 use Rattle.bound_log.specs.LogText.{log_text}
+use Rattle.bound_log.proofs.AllowedLemmas.{cost_allowed}
+use Rattle.bound_log.specs.LogTree.{root_of}
 use Rattle.bound_log.specs.Tree.{tip, cost}
 use Rattle.branch_bound.specs.declared.search_fault.SearchFault.{SearchFault}
 use Rattle.branch_bound.specs.declared.search_fault.SearchFault.TheVariants as search
@@ -42,7 +44,7 @@ FailsSolve-after tables log why before middle now started quiet found = record {
 -- a log that could not be started stands as before, or empty
 started_or_not : (tables : TablesOf) (log : List ℕ) (before now : Option Files) → (now ≡ before) ⊎ (now ≡ with_bytes before log []) → (now ≡ before) ⊎ HoldsBeginning tables log before now
 started_or_not tables log before now (inl same) = inl same
-started_or_not tables log before now (inr empty) = inr (record { tree = tip cost; piece = []; rest = log_text (tip cost); allowed = tt; begins = refl; written = empty })
+started_or_not tables log before now (inr empty) = inr (record { tree = tip cost; piece = []; rest = log_text (tip cost); allowed = cost_allowed tables.network (root_of tables.network); begins = refl; written = empty })
 
 pub FailsSolve-start : (tables : TablesOf) (log : List ℕ) (why : SearchFault) (before now : ShelfState) → (now.held ≡ before.held) ⊎ (now.held ≡ with_bytes before.held log []) → before.faults ≤ now.faults → (why ≡ search.WriteFault → Rose before.faults now.faults × (now.last_fault ≡ Some (write_of log))) → FailsSolve tables log why before now
 FailsSolve-start tables log why before now held later failed = record {
