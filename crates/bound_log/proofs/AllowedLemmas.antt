@@ -37,11 +37,11 @@ pivot_allowed network node number by = record {
 }
 
 -- the element at a place within a list
-record Found {X : Type 0} (xs : List X) (i : ℕ) : Type 0 where
-  item : X
-  named : slice_get xs i ≡ Some item
+pub record Found {X : Type 0} (xs : List X) (i : ℕ) : Type 0 where
+  pub item : X
+  pub named : slice_get xs i ≡ Some item
 
-item_at : {X : Type 0} (xs : List X) (i : ℕ) → i < length xs → Found xs i
+pub item_at : {X : Type 0} (xs : List X) (i : ℕ) → i < length xs → Found xs i
 item_at [] i inside = absurd (omega arith)
 item_at (x ∷ xs) zero inside = record { item = x; named = refl }
 item_at (x ∷ xs) (suc i) inside =

@@ -1,6 +1,7 @@
 pub mod AllowedLemmas
 pub mod BoundLemmas
 pub mod CountLemmas
+pub mod Decisions
 pub mod GrammarLemmas
 pub mod NumberLemmas
 pub mod OpenLemmas

@@ -83,22 +83,24 @@ number_of_numeral text numeral =
 
 -- ---- how the code reads a number
 
-no_more : (rest : List ℕ) → length rest ≡ 0 → rest ≡ []
-no_more [] none = refl
-no_more (x ∷ rest) none = absurd (omega arith)
-
 -- digits are a numeral unless a zero stands at their front before others
-pub numeral_from : (text : List ℕ) → IsNumeralUpTo 19 text → (get_or text 0 0 ≡ 48 → length text ≤ 1) → IsShortNumeral text
+pub numeral_from : (text : List ℕ) → IsNumeralUpTo 19 text → ((1 < length text) × (get_or text 0 0 ≡ 48) → ⊥) → IsShortNumeral text
 numeral_from [] digits alone = absurd (omega (arith, digits.some))
-numeral_from (c ∷ rest) digits alone =
+numeral_from (c ∷ []) digits alone =
     let first : IsInRange 48 57 c = digit_from_value c digits.only_digits.0 in
     elim (eq-or-lt_of_le first.0) [
-      | inl zero_first ↦ inl (sym zero_first, no_more rest (omega (arith, alone (sym zero_first))))
+      | inl zero_first ↦ inl (sym zero_first, refl)
+      | inr above ↦ inr ((omega (arith, above), first.1), digits.only_digits.1, omega (arith, digits.few))
+    ]
+numeral_from (c ∷ d ∷ rest) digits alone =
+    let first : IsInRange 48 57 c = digit_from_value c digits.only_digits.0 in
+    elim (eq-or-lt_of_le first.0) [
+      | inl zero_first ↦ absurd (alone (omega arith, sym zero_first))
       | inr above ↦ inr ((omega (arith, above), first.1), digits.only_digits.1, omega (arith, digits.few))
     ]
 
 -- what is read is the number
-pub number_read : (text : List ℕ) (found : Option ℕ) → IfSome found (λ value. IsNumeralUpTo 19 text × (value ≡ digits_value 10 text)) → (get_or text 0 0 ≡ 48 → length text ≤ 1) → IfSome found (λ number. IsNumber text number)
+pub number_read : (text : List ℕ) (found : Option ℕ) → IfSome found (λ value. IsNumeralUpTo 19 text × (value ≡ digits_value 10 text)) → ((1 < length text) × (get_or text 0 0 ≡ 48) → ⊥) → IfSome found (λ number. IsNumber text number)
 number_read text None is alone = tt
 number_read text (Some value) is alone = subst (IsNumber text) (sym is.1) (number_of_numeral text (numeral_from text is.0 alone))
 
@@ -110,8 +112,8 @@ no_number text None other = λ number is.
     other (record { only_digits = parts.0; some = omega (arith, parts.1); few = parts.2 })
 
 -- a zero before other digits begins no number
-pub no_leading_zero : (text : List ℕ) → 1 < length text → get_or text 0 0 ≡ 48 → (number : ℕ) → IsNumber text number → ⊥
-no_leading_zero text more zero_first number is =
+pub no_leading_zero : (text : List ℕ) → (1 < length text) × (get_or text 0 0 ≡ 48) → (number : ℕ) → IsNumber text number → ⊥
+no_leading_zero text zero_first number is =
     let parts = numeral_digits text (numeral_of text number is) in
-    let one : length text ≡ 1 = parts.3 zero_first in
-    absurd (omega arith)
+    let one : length text ≡ 1 = parts.3 zero_first.1 in
+    absurd (omega (arith, zero_first.0))

@@ -39,18 +39,21 @@ less_than_bound : (a b : ℕ) → a < b → a ≤ b
 less_than_bound a b less = omega arith
 
 -- a plan that costs no less than a covered one is covered
-IsCovered-dearer : (network : NetworkOf) (found : Best) (plan other : List Bool) → cost_of network.candidates plan ≤ cost_of network.candidates other → IsCovered network found plan → IsCovered network found other
+IsCovered-dearer : (network : NetworkOf) (found : Best) (plan other : List Bool) → cost_of network.candidates plan ≤ cost_of network.candidates other →
+    IsCovered network found plan → IsCovered network found other
 IsCovered-dearer network best.NoPlan plan other le covered = covered
 IsCovered-dearer network (best.Certified kept) plan other le covered = omega arith
 IsCovered-dearer network (best.Unsettled kept) plan other le covered = omega arith
 
-covered_price : (network : NetworkOf) (found : Best) (plan : List Bool) → IsCovered network found plan → best_bound network found ≡ lesser (best_bound network found) (AtLeast (cost_of network.candidates plan))
+covered_price : (network : NetworkOf) (found : Best) (plan : List Bool) → IsCovered network found plan →
+    best_bound network found ≡ lesser (best_bound network found) (AtLeast (cost_of network.candidates plan))
 covered_price network best.NoPlan plan covered = absurd covered
 covered_price network (best.Certified kept) plan covered = first_least (cost_of network.candidates kept) (cost_of network.candidates plan) covered
 covered_price network (best.Unsettled kept) plan covered =
     first_least (cost_of network.candidates kept) (cost_of network.candidates plan) (less_than_bound (cost_of network.candidates kept) (cost_of network.candidates plan) covered)
 
-uncovered_price : (network : NetworkOf) (found : Best) (plan : List Bool) → (IsCovered network found plan → ⊥) → AtLeast (cost_of network.candidates plan) ≡ lesser (best_bound network found) (AtLeast (cost_of network.candidates plan))
+uncovered_price : (network : NetworkOf) (found : Best) (plan : List Bool) → (IsCovered network found plan → ⊥) →
+    AtLeast (cost_of network.candidates plan) ≡ lesser (best_bound network found) (AtLeast (cost_of network.candidates plan))
 uncovered_price network best.NoPlan plan uncovered = refl
 uncovered_price network (best.Certified kept) plan uncovered =
     let less = not_le (cost_of network.candidates kept) (cost_of network.candidates plan) uncovered in
@@ -59,14 +62,16 @@ uncovered_price network (best.Unsettled kept) plan uncovered =
     second_least (cost_of network.candidates kept) (cost_of network.candidates plan) (not_lt (cost_of network.candidates kept) (cost_of network.candidates plan) uncovered)
 
 -- a plan that isn't covered costs less than each one that is
-uncovered_less : (network : NetworkOf) (found : Best) (plan other : List Bool) → (IsCovered network found plan → ⊥) → IsCovered network found other → cost_of network.candidates plan < cost_of network.candidates other
+uncovered_less : (network : NetworkOf) (found : Best) (plan other : List Bool) → (IsCovered network found plan → ⊥) → IsCovered network found other →
+    cost_of network.candidates plan < cost_of network.candidates other
 uncovered_less network best.NoPlan plan other uncovered covered = absurd covered
 uncovered_less network (best.Certified kept) plan other uncovered covered =
     let less = not_le (cost_of network.candidates kept) (cost_of network.candidates plan) uncovered in omega arith
 uncovered_less network (best.Unsettled kept) plan other uncovered covered =
     let less = not_lt (cost_of network.candidates kept) (cost_of network.candidates plan) uncovered in omega arith
 
-above_price : (network : NetworkOf) (found : Best) (plan : List Bool) → (IsBelow (cost_of network.candidates plan) (best_bound network found) → ⊥) → best_bound network found ≡ lesser (best_bound network found) (AtLeast (cost_of network.candidates plan))
+above_price : (network : NetworkOf) (found : Best) (plan : List Bool) → (IsBelow (cost_of network.candidates plan) (best_bound network found) → ⊥) →
+    best_bound network found ≡ lesser (best_bound network found) (AtLeast (cost_of network.candidates plan))
 above_price network best.NoPlan plan above = absurd (above tt)
 above_price network (best.Certified kept) plan above =
     first_least (cost_of network.candidates kept) (cost_of network.candidates plan) (not_lt (cost_of network.candidates plan) (cost_of network.candidates kept) above)
@@ -74,7 +79,8 @@ above_price network (best.Unsettled kept) plan above =
     first_least (cost_of network.candidates kept) (cost_of network.candidates plan) (not_lt (cost_of network.candidates plan) (cost_of network.candidates kept) above)
 
 -- a node is cut off by its price
-pub IsDone-cut_off : (network : NetworkOf) (node : Node) (found : Best) → IsKept network found → IsCovered network found node.inside → IsDone network node (AtLeast (cost_of network.candidates node.inside)) found found
+pub IsDone-cut_off : (network : NetworkOf) (node : Node) (found : Best) → IsKept network found → IsCovered network found node.inside →
+    IsDone network node (AtLeast (cost_of network.candidates node.inside)) found found
 IsDone-cut_off network node found kept cut = record {
   price = covered_price network found node.inside cut;
   kept = kept;
@@ -83,7 +89,8 @@ IsDone-cut_off network node found kept cut = record {
 }
 
 -- no plan of a node that a limit refutes is certified
-refuted_empty : (network : NetworkOf) (node : Node) (number : ℕ) (other : List Bool) → IsNetwork network → IsRefutedBy network node number → IsCertified network other → IsWithin node.inside other → IsWithin other node.upper → ⊥
+refuted_empty : (network : NetworkOf) (node : Node) (number : ℕ) (other : List Bool) → IsNetwork network → IsRefutedBy network node number →
+    IsCertified network other → IsWithin node.inside other → IsWithin other node.upper → ⊥
 refuted_empty network node number other bounds refuted certified above below =
     let met : verdict_of network other refuted.limit ≡ Met =
     at_place (λ l. IsInForce l other → verdict_of network other l ≡ Met) network.limits number refuted.limit certified.certified refuted.named (IsInForce-grows refuted.limit node.inside other above refuted.owned) in
@@ -91,7 +98,8 @@ refuted_empty network node number other bounds refuted certified above below =
     refuted_fails network other node.upper refuted.limit bounds kept below refuted.refuted (met_sound network other refuted.limit bounds kept met)
 
 -- a limit refutes a node
-pub IsDone-refuted : (network : NetworkOf) (node : Node) (number : ℕ) (found : Best) → IsNetwork network → IsKept network found → IsRefutedBy network node number → IsDone network node NoPlan found found
+pub IsDone-refuted : (network : NetworkOf) (node : Node) (number : ℕ) (found : Best) → IsNetwork network → IsKept network found →
+    IsRefutedBy network node number → IsDone network node NoPlan found found
 IsDone-refuted network node number found bounds kept refuted = record {
   price = sym (lesser_none (best_bound network found));
   kept = kept;
@@ -100,7 +108,8 @@ IsDone-refuted network node number found bounds kept refuted = record {
 }
 
 -- the inner plan is certified, and becomes the best one
-pub IsDone-certified : (network : NetworkOf) (node : Node) (found : Best) (plan : List Bool) → plan ≡ node.inside → IsCertified network node.inside → (IsCovered network found node.inside → ⊥) → IsDone network node (AtLeast (cost_of network.candidates node.inside)) found (best.Certified plan)
+pub IsDone-certified : (network : NetworkOf) (node : Node) (found : Best) (plan : List Bool) → plan ≡ node.inside → IsCertified network node.inside →
+    (IsCovered network found node.inside → ⊥) → IsDone network node (AtLeast (cost_of network.candidates node.inside)) found (best.Certified plan)
 IsDone-certified network node found plan same certified uncovered =
     subst (λ (p : List Bool). IsDone network node (AtLeast (cost_of network.candidates node.inside)) found (best.Certified p)) (sym same)
     (record {
@@ -121,13 +130,16 @@ within_both (false ∷ a) (true ∷ b) below above = absurd (false≢true (above
 within_both (false ∷ a) (false ∷ b) below above = ap (λ rest. false ∷ rest) (within_both a b below.1 above.1)
 
 -- a node of one plan that is unsettled has no certified one
-unsettled_empty : (network : NetworkOf) (node : Node) (other : List Bool) → node.inside ≡ node.upper → IsUnsettled network node.inside → IsCertified network other → IsWithin node.inside other → IsWithin other node.upper → ⊥
+unsettled_empty : (network : NetworkOf) (node : Node) (other : List Bool) → node.inside ≡ node.upper → IsUnsettled network node.inside →
+    IsCertified network other → IsWithin node.inside other → IsWithin other node.upper → ⊥
 unsettled_empty network node other same unsettled certified above below =
     let alike : other ≡ node.inside = within_both other node.inside (subst (λ (p : List Bool). IsWithin other p) (sym same) below) above in
     unsettled.unsettled.0 (subst (λ (p : List Bool). IsCertified network p) alike certified).certified
 
 -- the inner plan is the node's only one and unsettled, and becomes the best one
-pub IsDone-unsettled : (network : NetworkOf) (node : Node) (found : Best) (plan : List Bool) → plan ≡ node.inside → node.inside ≡ node.upper → IsUnsettled network node.inside → (IsCovered network found node.inside → ⊥) → IsDone network node (AtLeast (cost_of network.candidates node.inside)) found (best.Unsettled plan)
+pub IsDone-unsettled : (network : NetworkOf) (node : Node) (found : Best) (plan : List Bool) → plan ≡ node.inside → node.inside ≡ node.upper →
+    IsUnsettled network node.inside → (IsCovered network found node.inside → ⊥) →
+    IsDone network node (AtLeast (cost_of network.candidates node.inside)) found (best.Unsettled plan)
 IsDone-unsettled network node found plan copied same unsettled uncovered =
     subst (λ (p : List Bool). IsDone network node (AtLeast (cost_of network.candidates node.inside)) found (best.Unsettled p)) (sym copied)
     (record {
@@ -138,7 +150,9 @@ IsDone-unsettled network node found plan copied same unsettled uncovered =
     })
 
 -- .. or stays behind one that is as cheap
-pub IsDone-undercut : (network : NetworkOf) (node : Node) (found : Best) → IsKept network found → node.inside ≡ node.upper → IsUnsettled network node.inside → (IsBelow (cost_of network.candidates node.inside) (best_bound network found) → ⊥) → IsDone network node (AtLeast (cost_of network.candidates node.inside)) found found
+pub IsDone-undercut : (network : NetworkOf) (node : Node) (found : Best) → IsKept network found → node.inside ≡ node.upper →
+    IsUnsettled network node.inside → (IsBelow (cost_of network.candidates node.inside) (best_bound network found) → ⊥) →
+    IsDone network node (AtLeast (cost_of network.candidates node.inside)) found found
 IsDone-undercut network node found kept same unsettled above_it = record {
   price = above_price network found node.inside above_it;
   kept = kept;
@@ -154,12 +168,15 @@ has_or_lacks plan i inside = elim (cases_Bool (get_or plan i false)) [
 ]
 
 -- both children are done
-pub IsDone-split : (network : NetworkOf) (node : Node) (candidate : ℕ) (first second : Bound) (before middle now : Best) → IsOpenAt network node candidate → IsDone network (with_chosen node candidate) first before middle → IsDone network (without_chosen node candidate) second middle now → IsDone network node (lesser first second) before now
+pub IsDone-split : (network : NetworkOf) (node : Node) (candidate : ℕ) (first second : Bound) (before middle now : Best) →
+    IsOpenAt network node candidate → IsDone network (with_chosen node candidate) first before middle →
+    IsDone network (without_chosen node candidate) second middle now → IsDone network node (lesser first second) before now
 IsDone-split network node candidate first second before middle now is_open one two = record {
   price = two.price ∙ ap (λ b. lesser b second) one.price ∙ lesser_assoc (best_bound network before) first second;
   kept = two.kept;
   covered = λ other certified above below.
-      let inside : candidate < length other = omega (arith, IsWithin-length other node.upper below, slice_get_within node.upper candidate true is_open.in_upper) in
+      let inside : candidate < length other =
+      omega (arith, IsWithin-length other node.upper below, slice_get_within node.upper candidate true is_open.in_upper) in
       elim (has_or_lacks other candidate inside) [
         | inl has ↦ two.still other (one.covered other certified (IsWithin-with node.inside other candidate above has) below)
         | inr lacks ↦ two.covered other certified above (IsWithin-without other node.upper candidate below lacks)

@@ -8,10 +8,11 @@ use Rattle.geo_model.specs.Network.{NetworkOf}
 use Rattle.geo_model.specs.declared.answer.Counts.{Counts}
 use Rattle.geo_model.specs.declared.plan.Node.{Node}
 use Rattle.bound_log.specs.Counted.{counts_with}
+use Rattle.bound_log.proofs.AllowedLemmas.{split_allowed, cost_allowed}
 use Rattle.bound_log.proofs.CountLemmas.{counts_with-then}
 use Rattle.geo_model.proofs.PlanLemmas.{IsWithin-with, IsWithin-without, IsWithin-none}
 use Rattle.bound_log.specs.LogText.{line_text, lines_text}
-use Rattle.bound_log.specs.LogTree.{root_of, IsOpenAt, with_chosen, without_chosen, bound_at}
+use Rattle.bound_log.specs.LogTree.{root_of, IsOpenAt, IsRefutedBy, with_chosen, without_chosen, bound_at}
 use Rattle.bound_log.specs.Tree.{split, leaf, Leaf, cost, pivot, Tree, fork, tip, tree_lines}
 use Rattle.branch_bound.specs.declared.best.Best.{Best}
 use Rattle.branch_bound.specs.declared.line.Line.{Line}
@@ -27,10 +28,11 @@ use Rattle.branch_bound.proofs.PieceLemmas.{Breaks-nothing, Adds-then, Breaks-af
 -- How the parts of an exploration make the whole.
 
 -- memory ran out before a line was written
-pub BreaksOff-nothing : (network : NetworkOf) (node : Node) (name : List ℕ) (state : ShelfState) → ((files : Files) → state.held ≡ Some files → IsHeld files name) → BreaksOff network node name fault.NoMemory state state
+pub BreaksOff-nothing : (network : NetworkOf) (node : Node) (name : List ℕ) (state : ShelfState) →
+    ((files : Files) → state.held ≡ Some files → IsHeld files name) → BreaksOff network node name fault.NoMemory state state
 BreaksOff-nothing network node name state told = record {
   tree = tip cost;
-  allowed = tt;
+  allowed = cost_allowed network node;
   broken = Breaks-nothing name (lines_text (tree_lines (tip cost))) state told;
 }
 
@@ -39,7 +41,10 @@ tip_text : (end : Leaf) → line_text (leaf end) ≡ lines_text (tree_lines (tip
 tip_text end = sym (append-nil (line_text (leaf end)))
 
 -- a leaf was written
-pub Explores-leaf : (network : NetworkOf) (node : Node) (name : List ℕ) (best best_now : Best) (counts counts_now : Counts) (before now : ShelfState) (found : Line) → IsLineAt network node best best_now found → ((candidate : ℕ) → found ≡ line.Split candidate → ⊥) → Adds name (line_text (line_of found)) before now → counts_now ≡ counts_with counts (line_of found ∷ []) → Explores network node name best best_now counts counts_now before now
+pub Explores-leaf : (network : NetworkOf) (node : Node) (name : List ℕ) (best best_now : Best) (counts counts_now : Counts) (before now : ShelfState) (found : Line) →
+    IsLineAt network node best best_now found → ((candidate : ℕ) → found ≡ line.Split candidate → ⊥) →
+    Adds name (line_text (line_of found)) before now → counts_now ≡ counts_with counts (line_of found ∷ []) →
+    Explores network node name best best_now counts counts_now before now
 Explores-leaf network node name best best_now counts counts_now before now (line.Split candidate) here not_split added counted = absurd (not_split candidate refl)
 Explores-leaf network node name best best_now counts counts_now before now line.Cost here not_split added counted = record {
   tree = tip cost;
@@ -57,19 +62,22 @@ Explores-leaf network node name best best_now counts counts_now before now (line
 }
 
 -- the lines of a split
-split_text : (candidate : ℕ) (with_it without_it : Tree) → lines_text (tree_lines (fork candidate with_it without_it)) ≡ line_text (split candidate) ++ (lines_text (tree_lines with_it) ++ lines_text (tree_lines without_it))
+split_text : (candidate : ℕ) (with_it without_it : Tree) →
+    lines_text (tree_lines (fork candidate with_it without_it)) ≡ line_text (split candidate) ++ (lines_text (tree_lines with_it) ++ lines_text (tree_lines without_it))
 split_text candidate with_it without_it = ap (λ text. line_text (split candidate) ++ text) (flat_map-append line_text (tree_lines with_it) (tree_lines without_it))
 
 -- a split was begun
-BreaksOff-split : (network : NetworkOf) (node : Node) (name : List ℕ) (candidate : ℕ) (why : SearchFault) (before now : ShelfState) → IsOpenAt network node candidate → Breaks name (line_text (split candidate)) why before now → BreaksOff network node name why before now
+BreaksOff-split : (network : NetworkOf) (node : Node) (name : List ℕ) (candidate : ℕ) (why : SearchFault) (before now : ShelfState) →
+    IsOpenAt network node candidate → Breaks name (line_text (split candidate)) why before now → BreaksOff network node name why before now
 BreaksOff-split network node name candidate why before now is_open broken = record {
   tree = fork candidate (tip cost) (tip cost);
-  allowed = (is_open, tt, tt);
+  allowed = (split_allowed network node candidate is_open, cost_allowed network (with_chosen node candidate), cost_allowed network (without_chosen node candidate));
   broken = Breaks-longer name (line_text (split candidate)) (lines_text (tree_lines (tip cost) ++ tree_lines (tip cost))) why before now broken;
 }
 
 -- a line of a node was begun
-pub BreaksOff-line : (network : NetworkOf) (node : Node) (name : List ℕ) (best best_now : Best) (why : SearchFault) (before now : ShelfState) (found : Line) → IsLineAt network node best best_now found → Breaks name (line_text (line_of found)) why before now → BreaksOff network node name why before now
+pub BreaksOff-line : (network : NetworkOf) (node : Node) (name : List ℕ) (best best_now : Best) (why : SearchFault) (before now : ShelfState) (found : Line) →
+    IsLineAt network node best best_now found → Breaks name (line_text (line_of found)) why before now → BreaksOff network node name why before now
 BreaksOff-line network node name best best_now why before now (line.Split candidate) here broken = BreaksOff-split network node name candidate why before now here.0 broken
 BreaksOff-line network node name best best_now why before now line.Cost here broken = record {
   tree = tip cost;
@@ -83,30 +91,39 @@ BreaksOff-line network node name best best_now why before now (line.Pivot limit)
 }
 
 -- the first child was begun
-pub BreaksOff-first : (network : NetworkOf) (node : Node) (name : List ℕ) (candidate : ℕ) (why : SearchFault) (before middle now : ShelfState) → IsOpenAt network node candidate → Adds name (line_text (split candidate)) before middle → BreaksOff network (with_chosen node candidate) name why middle now → BreaksOff network node name why before now
+pub BreaksOff-first : (network : NetworkOf) (node : Node) (name : List ℕ) (candidate : ℕ) (why : SearchFault) (before middle now : ShelfState) →
+    IsOpenAt network node candidate → Adds name (line_text (split candidate)) before middle →
+    BreaksOff network (with_chosen node candidate) name why middle now → BreaksOff network node name why before now
 BreaksOff-first network node name candidate why before middle now is_open added first = record {
   tree = fork candidate first.tree (tip cost);
-  allowed = (is_open, first.allowed, tt);
+  allowed = (split_allowed network node candidate is_open, first.allowed, cost_allowed network (without_chosen node candidate));
   broken = subst (λ text. Breaks name text why before now) (sym (split_text candidate first.tree (tip cost)))
       (Breaks-after name (line_text (split candidate)) (lines_text (tree_lines first.tree) ++ lines_text (tree_lines (tip cost))) why before middle now added
       (Breaks-longer name (lines_text (tree_lines first.tree)) (lines_text (tree_lines (tip cost))) why middle now first.broken));
 }
 
 -- the second child was begun
-pub BreaksOff-second : (network : NetworkOf) (node : Node) (name : List ℕ) (candidate : ℕ) (why : SearchFault) (best best_now : Best) (counts counts_now : Counts) (before middle later now : ShelfState) → IsOpenAt network node candidate → Adds name (line_text (split candidate)) before middle → Explores network (with_chosen node candidate) name best best_now counts counts_now middle later → BreaksOff network (without_chosen node candidate) name why later now → BreaksOff network node name why before now
+pub BreaksOff-second : (network : NetworkOf) (node : Node) (name : List ℕ) (candidate : ℕ) (why : SearchFault) (best best_now : Best) (counts counts_now : Counts) (before middle later now : ShelfState) →
+    IsOpenAt network node candidate → Adds name (line_text (split candidate)) before middle →
+    Explores network (with_chosen node candidate) name best best_now counts counts_now middle later →
+    BreaksOff network (without_chosen node candidate) name why later now → BreaksOff network node name why before now
 BreaksOff-second network node name candidate why best best_now counts counts_now before middle later now is_open added first second = record {
   tree = fork candidate first.tree second.tree;
-  allowed = (is_open, first.allowed, second.allowed);
+  allowed = (split_allowed network node candidate is_open, first.allowed, second.allowed);
   broken = subst (λ text. Breaks name text why before now) (sym (split_text candidate first.tree second.tree))
       (Breaks-after name (line_text (split candidate)) (lines_text (tree_lines first.tree) ++ lines_text (tree_lines second.tree)) why before middle now added
       (Breaks-after name (lines_text (tree_lines first.tree)) (lines_text (tree_lines second.tree)) why middle later now first.added second.broken));
 }
 
 -- both children were explored
-pub Explores-split : (network : NetworkOf) (node : Node) (name : List ℕ) (candidate : ℕ) (best middle_best best_now : Best) (counts counts_split counts_first counts_now : Counts) (before middle later now : ShelfState) → IsOpenAt network node candidate → Adds name (line_text (split candidate)) before middle → counts_split ≡ counts_with counts (split candidate ∷ []) → Explores network (with_chosen node candidate) name best middle_best counts_split counts_first middle later → Explores network (without_chosen node candidate) name middle_best best_now counts_first counts_now later now → Explores network node name best best_now counts counts_now before now
+pub Explores-split : (network : NetworkOf) (node : Node) (name : List ℕ) (candidate : ℕ) (best middle_best best_now : Best) (counts counts_split counts_first counts_now : Counts) (before middle later now : ShelfState) →
+    IsOpenAt network node candidate → Adds name (line_text (split candidate)) before middle → counts_split ≡ counts_with counts (split candidate ∷ []) →
+    Explores network (with_chosen node candidate) name best middle_best counts_split counts_first middle later →
+    Explores network (without_chosen node candidate) name middle_best best_now counts_first counts_now later now →
+    Explores network node name best best_now counts counts_now before now
 Explores-split network node name candidate best middle_best best_now counts counts_split counts_first counts_now before middle later now is_open added counted first second = record {
   tree = fork candidate first.tree second.tree;
-  allowed = (is_open, first.allowed, second.allowed);
+  allowed = (split_allowed network node candidate is_open, first.allowed, second.allowed);
   added = subst (λ text. Adds name text before now) (sym (split_text candidate first.tree second.tree))
       (Adds-then name (line_text (split candidate)) (lines_text (tree_lines first.tree) ++ lines_text (tree_lines second.tree)) before middle now added
       (Adds-then name (lines_text (tree_lines first.tree)) (lines_text (tree_lines second.tree)) middle later now first.added second.added));
@@ -118,14 +135,16 @@ Explores-split network node name candidate best middle_best best_now counts coun
 }
 
 -- the children of a node are nodes
-pub IsNode-with : (network : NetworkOf) (node : Node) (candidate : ℕ) → IsNode network node → IsOpenAt network node candidate → IsNode network (with_chosen node candidate)
+pub IsNode-with : (network : NetworkOf) (node : Node) (candidate : ℕ) → IsNode network node → IsOpenAt network node candidate →
+    IsNode network (with_chosen node candidate)
 IsNode-with network node candidate is is_open = record {
   inside_long = length-set node.inside candidate true ∙ is.inside_long;
   upper_long = is.upper_long;
   within = IsWithin-with node.inside node.upper candidate is.within is_open.in_upper;
 }
 
-pub IsNode-without : (network : NetworkOf) (node : Node) (candidate : ℕ) → IsNode network node → IsOpenAt network node candidate → IsNode network (without_chosen node candidate)
+pub IsNode-without : (network : NetworkOf) (node : Node) (candidate : ℕ) → IsNode network node → IsOpenAt network node candidate →
+    IsNode network (without_chosen node candidate)
 IsNode-without network node candidate is is_open = record {
   inside_long = is.inside_long;
   upper_long = length-set node.upper candidate false ∙ is.upper_long;
@@ -139,34 +158,46 @@ set_back (x ∷ plan) zero b other is = let same : x ≡ b = cc in ap (λ v. v �
 set_back (x ∷ plan) (suc i) b other is = ap (λ rest. x ∷ rest) (set_back plan i b other is)
 
 -- a node whose inner plan has the candidate set is the child that chooses it
-pub child_with : (node : Node) (candidate : ℕ) (inside : List Bool) → inside ≡ slice_set node.inside candidate true → (record { inside = inside; upper = node.upper }) ≡ with_chosen node candidate
+pub child_with : (node : Node) (candidate : ℕ) (inside : List Bool) → inside ≡ slice_set node.inside candidate true →
+    (record { inside = inside; upper = node.upper }) ≡ with_chosen node candidate
 child_with node candidate inside set = ap (λ (plan : List Bool). record { inside = plan; upper = node.upper }) set
 
 -- that child with the candidate taken back and left out of the upper plan is the child that leaves it out
-pub child_without : (network : NetworkOf) (node middle : Node) (candidate : ℕ) (inside upper : List Bool) → IsOpenAt network node candidate → middle ≡ with_chosen node candidate → inside ≡ slice_set middle.inside candidate false → upper ≡ slice_set middle.upper candidate false → (record { inside = inside; upper = upper }) ≡ without_chosen node candidate
+pub child_without : (network : NetworkOf) (node middle : Node) (candidate : ℕ) (inside upper : List Bool) → IsOpenAt network node candidate →
+    middle ≡ with_chosen node candidate → inside ≡ slice_set middle.inside candidate false → upper ≡ slice_set middle.upper candidate false →
+    (record { inside = inside; upper = upper }) ≡ without_chosen node candidate
 child_without network node middle candidate inside upper is_open same set_inside set_upper =
     ap₂ (λ (a b : List Bool). record { inside = a; upper = b })
     (set_inside ∙ ap (λ (n : Node). slice_set n.inside candidate false) same ∙ set_back node.inside candidate false true is_open.not_inside)
     (set_upper ∙ ap (λ (n : Node). slice_set n.upper candidate false) same)
 
 -- and with the candidate back in the upper plan it is the node again
-pub node_back : (network : NetworkOf) (node later : Node) (candidate : ℕ) (upper : List Bool) → IsOpenAt network node candidate → later ≡ without_chosen node candidate → upper ≡ slice_set later.upper candidate true → (record { inside = later.inside; upper = upper }) ≡ node
+pub node_back : (network : NetworkOf) (node later : Node) (candidate : ℕ) (upper : List Bool) → IsOpenAt network node candidate →
+    later ≡ without_chosen node candidate → upper ≡ slice_set later.upper candidate true → (record { inside = later.inside; upper = upper }) ≡ node
 node_back network node later candidate upper is_open same set_upper =
     ap₂ (λ (a b : List Bool). record { inside = a; upper = b })
     (ap (λ (n : Node). n.inside) same)
     (set_upper ∙ ap (λ (n : Node). slice_set n.upper candidate true) same ∙ set_back node.upper candidate true false is_open.in_upper)
 
 -- what a line that is a split says
-pub IsOpenAt-line : (network : NetworkOf) (node : Node) (best best_now : Best) (found : Line) (candidate : ℕ) → found ≡ line.Split candidate → IsLineAt network node best best_now found → IsOpenAt network node candidate
+pub IsOpenAt-line : (network : NetworkOf) (node : Node) (best best_now : Best) (found : Line) (candidate : ℕ) → found ≡ line.Split candidate →
+    IsLineAt network node best best_now found → IsOpenAt network node candidate
 IsOpenAt-line network node best best_now found candidate is here = (subst (λ (l : Line). IsLineAt network node best best_now l) is here).0
 
-pub IsKept-line : (network : NetworkOf) (node : Node) (best best_now : Best) (found : Line) (candidate : ℕ) → found ≡ line.Split candidate → IsLineAt network node best best_now found → best_now ≡ best
+pub IsKept-line : (network : NetworkOf) (node : Node) (best best_now : Best) (found : Line) (candidate : ℕ) → found ≡ line.Split candidate →
+    IsLineAt network node best best_now found → best_now ≡ best
 IsKept-line network node best best_now found candidate is here = (subst (λ (l : Line). IsLineAt network node best best_now l) is here).1
 
-pub Adds-line : (name : List ℕ) (found : Line) (candidate : ℕ) (before now : ShelfState) → found ≡ line.Split candidate → Adds name (line_text (line_of found)) before now → Adds name (line_text (split candidate)) before now
+pub unrefuted-line : (network : NetworkOf) (node : Node) (best best_now : Best) (found : Line) (candidate : ℕ) → found ≡ line.Split candidate →
+    IsLineAt network node best best_now found → (k : ℕ) → IsRefutedBy network node k → ⊥
+unrefuted-line network node best best_now found candidate is here = (subst (λ (l : Line). IsLineAt network node best best_now l) is here).2
+
+pub Adds-line : (name : List ℕ) (found : Line) (candidate : ℕ) (before now : ShelfState) → found ≡ line.Split candidate →
+    Adds name (line_text (line_of found)) before now → Adds name (line_text (split candidate)) before now
 Adds-line name found candidate before now is added = subst (λ (l : Line). Adds name (line_text (line_of l)) before now) is added
 
-pub Counts-line : (counts counts_now : Counts) (found : Line) (candidate : ℕ) → found ≡ line.Split candidate → counts_now ≡ counts_with counts (line_of found ∷ []) → counts_now ≡ counts_with counts (split candidate ∷ [])
+pub Counts-line : (counts counts_now : Counts) (found : Line) (candidate : ℕ) → found ≡ line.Split candidate →
+    counts_now ≡ counts_with counts (line_of found ∷ []) → counts_now ≡ counts_with counts (split candidate ∷ [])
 Counts-line counts counts_now found candidate is counted = subst (λ (l : Line). counts_now ≡ counts_with counts (line_of l ∷ [])) is counted
 
 -- what is known of the best plan stays known of an equal one
@@ -176,10 +207,13 @@ IsKept-same network before now same kept = subst (λ best. IsKept network best) 
 pub IsNode-same : (network : NetworkOf) (node same_node : Node) → same_node ≡ node → IsNode network node → IsNode network same_node
 IsNode-same network node same_node same is = subst (λ n. IsNode network n) (sym same) is
 
-pub BreaksOff-same : (network : NetworkOf) (node same_node : Node) (name : List ℕ) (why : SearchFault) (before now : ShelfState) → same_node ≡ node → BreaksOff network same_node name why before now → BreaksOff network node name why before now
+pub BreaksOff-same : (network : NetworkOf) (node same_node : Node) (name : List ℕ) (why : SearchFault) (before now : ShelfState) → same_node ≡ node →
+    BreaksOff network same_node name why before now → BreaksOff network node name why before now
 BreaksOff-same network node same_node name why before now same broken = subst (λ n. BreaksOff network n name why before now) same broken
 
-pub Explores-same : (network : NetworkOf) (node same_node : Node) (name : List ℕ) (old_best best best_now : Best) (counts counts_now : Counts) (before now : ShelfState) → same_node ≡ node → old_best ≡ best → Explores network same_node name old_best best_now counts counts_now before now → Explores network node name best best_now counts counts_now before now
+pub Explores-same : (network : NetworkOf) (node same_node : Node) (name : List ℕ) (old_best best best_now : Best) (counts counts_now : Counts) (before now : ShelfState) →
+    same_node ≡ node → old_best ≡ best → Explores network same_node name old_best best_now counts counts_now before now →
+    Explores network node name best best_now counts counts_now before now
 Explores-same network node same_node name old_best best best_now counts counts_now before now same same_best explored =
     subst (λ b. Explores network node name b best_now counts counts_now before now) same_best
     (subst (λ n. Explores network n name old_best best_now counts counts_now before now) same explored)

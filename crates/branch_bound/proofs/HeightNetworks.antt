@@ -1,5 +1,5 @@
 -- The bounds of the networks of the tests: one new height and levels to it.
-use Rattle.std.proofs.Common.{◌≡◌, ◌≢◌, ℕ, ◌+◌, ◌^◌, ◌<◌, ◌≤◌, Bool, true, false, if◌then◌else◌, ◌==◌, List, [], ◌∷◌, length, Some, None, refl, sym, subst, arith, ℤ, pos, ◌+ℤ◌, ◌*ℤ◌, ◌≤ℤ◌, unsigned_abs}
+use Rattle.std.proofs.Common.{◌≡◌, ◌≢◌, ℕ, ◌^◌, ◌<◌, ◌≤◌, Bool, true, false, if◌then◌else◌, ◌==◌, List, [], ◌∷◌, length, Some, None, refl, sym, subst, arith, ℤ, pos, ◌+ℤ◌, ◌*ℤ◌, ◌≤ℤ◌, unsigned_abs}
 use Rattle.std.specs.Prelude.{All}
 use Rattle.std.specs.Int.{int_max}
 use Rattle.std.proofs.lemmas.Bool.{false≢true}
@@ -59,7 +59,8 @@ above_greater x y z h = omega (arith, ints, clamps)
 abbrev pub height_limit : LimitOf
 height_limit = record { kind = Added 1; owner = None; alpha = pos 100; squares = square (pos (10 ^ 14)) (pos 1) ∷ [] }
 
-height_units : (b : Bool) → (pos (10 ^ 14) *ℤ ((pos 1 *ℤ (if b then pos 1 else pos 0) +ℤ pos 0) *ℤ (pos 1 *ℤ (if b then pos 1 else pos 0) +ℤ pos 0)) +ℤ pos 0) ≤ℤ pos (2 ^ 50)
+height_units : (b : Bool) →
+    (pos (10 ^ 14) *ℤ ((pos 1 *ℤ (if b then pos 1 else pos 0) +ℤ pos 0) *ℤ (pos 1 *ℤ (if b then pos 1 else pos 0) +ℤ pos 0)) +ℤ pos 0) ≤ℤ pos (2 ^ 50)
 height_units true = omega (arith, ints)
 height_units false = omega (arith, ints)
 
@@ -86,14 +87,16 @@ height_bounds network inside = record {
 abbrev pub redundancy_limit : ℤ → ℕ → LimitOf
 redundancy_limit alpha candidate = record { kind = Redundancy candidate 0; owner = Some candidate; alpha = alpha; squares = square (pos (10 ^ 7)) (pos 10000) ∷ [] }
 
-redundancy_units : (b : Bool) → (pos (10 ^ 7) *ℤ ((pos 10000 *ℤ (if b then pos 1 else pos 0) +ℤ pos 0) *ℤ (pos 10000 *ℤ (if b then pos 1 else pos 0) +ℤ pos 0)) +ℤ pos 0) ≤ℤ pos (2 ^ 50)
+redundancy_units : (b : Bool) →
+    (pos (10 ^ 7) *ℤ ((pos 10000 *ℤ (if b then pos 1 else pos 0) +ℤ pos 0) *ℤ (pos 10000 *ℤ (if b then pos 1 else pos 0) +ℤ pos 0)) +ℤ pos 0) ≤ℤ pos (2 ^ 50)
 redundancy_units true = omega (arith, ints)
 redundancy_units false = omega (arith, ints)
 
 owned_within : (candidate count owner : ℕ) → candidate < count → Some candidate ≡ Some owner → owner < count
 owned_within candidate count owner inside e = let same : candidate ≡ owner = cc in omega arith
 
-redundancy_bounds : (network : NetworkOf) (alpha : ℤ) (candidate : ℕ) → 0 < length network.unknowns → pos 1 ≤ℤ alpha → alpha ≤ℤ pos 1000000 → candidate < length network.candidates → IsLimit network (redundancy_limit alpha candidate)
+redundancy_bounds : (network : NetworkOf) (alpha : ℤ) (candidate : ℕ) → 0 < length network.unknowns → pos 1 ≤ℤ alpha → alpha ≤ℤ pos 1000000 →
+    candidate < length network.candidates → IsLimit network (redundancy_limit alpha candidate)
 redundancy_bounds network alpha candidate inside low high owned = record {
   bounded = record {
     alpha_low = low;
@@ -113,7 +116,8 @@ redundancy_bounds network alpha candidate inside low high owned = record {
 abbrev pub missed_limit : LimitOf
 missed_limit = record { kind = Added 1; owner = None; alpha = pos 1000000; squares = square (pos (10 ^ 14)) (pos 1000) ∷ square (pos 1) (pos 1) ∷ [] }
 
-missed_units : (b : Bool) → (pos (10 ^ 14) *ℤ ((pos 1000 *ℤ (if b then pos 1 else pos 0) +ℤ pos 0) *ℤ (pos 1000 *ℤ (if b then pos 1 else pos 0) +ℤ pos 0)) +ℤ (pos 1 *ℤ ((pos 1 *ℤ (if b then pos 1 else pos 0) +ℤ pos 0) *ℤ (pos 1 *ℤ (if b then pos 1 else pos 0) +ℤ pos 0)) +ℤ pos 0))
+missed_units : (b : Bool) →
+    (pos (10 ^ 14) *ℤ ((pos 1000 *ℤ (if b then pos 1 else pos 0) +ℤ pos 0) *ℤ (pos 1000 *ℤ (if b then pos 1 else pos 0) +ℤ pos 0)) +ℤ (pos 1 *ℤ ((pos 1 *ℤ (if b then pos 1 else pos 0) +ℤ pos 0) *ℤ (pos 1 *ℤ (if b then pos 1 else pos 0) +ℤ pos 0)) +ℤ pos 0))
     ≤ℤ (pos (2 ^ 12) *ℤ (pos 1000000 *ℤ ((pos 1000000 *ℤ ((pos 10000 *ℤ (if b then pos 1 else pos 0) +ℤ pos 0) *ℤ (pos 10000 *ℤ (if b then pos 1 else pos 0) +ℤ pos 0)) +ℤ pos 0) +ℤ pos 0)))
 missed_units true = omega (arith, ints)
 missed_units false = omega (arith, ints)
@@ -137,14 +141,19 @@ missed_bounds network inside is = record {
 
 -- ---- the networks
 
-same_lists : (unknowns : List Unknown) (candidates cs : List CandidateOf) (limits ls : List LimitOf) → candidates ≡ cs → limits ≡ ls → IsNetwork (record { unknowns = unknowns; candidates = cs; limits = ls }) → IsNetwork (record { unknowns = unknowns; candidates = candidates; limits = limits })
+same_lists : (unknowns : List Unknown) (candidates cs : List CandidateOf) (limits ls : List LimitOf) → candidates ≡ cs → limits ≡ ls →
+    IsNetwork (record { unknowns = unknowns; candidates = cs; limits = ls }) →
+    IsNetwork (record { unknowns = unknowns; candidates = candidates; limits = limits })
 same_lists unknowns candidates cs limits ls is limited whole =
     subst (λ (c : List CandidateOf). IsNetwork (record { unknowns = unknowns; candidates = c; limits = limits })) (sym is)
     (subst (λ (l : List LimitOf). IsNetwork (record { unknowns = unknowns; candidates = cs; limits = l })) (sym limited) whole)
 
-pub two_levels : (unknowns : List Unknown) (candidates : List CandidateOf) (limits : List LimitOf) (alpha : ℤ) → length unknowns ≡ 1 → candidates ≡ level (pos 10000) 5 ∷ level (pos 10000) 7 ∷ [] → limits ≡ height_limit ∷ redundancy_limit alpha 0 ∷ redundancy_limit alpha 1 ∷ [] → pos 1 ≤ℤ alpha → alpha ≤ℤ pos 1000000 → IsNetwork (record { unknowns = unknowns; candidates = candidates; limits = limits })
+pub two_levels : (unknowns : List Unknown) (candidates : List CandidateOf) (limits : List LimitOf) (alpha : ℤ) → length unknowns ≡ 1 →
+    candidates ≡ level (pos 10000) 5 ∷ level (pos 10000) 7 ∷ [] → limits ≡ height_limit ∷ redundancy_limit alpha 0 ∷ redundancy_limit alpha 1 ∷ [] →
+    pos 1 ≤ℤ alpha → alpha ≤ℤ pos 1000000 → IsNetwork (record { unknowns = unknowns; candidates = candidates; limits = limits })
 two_levels unknowns candidates limits alpha tall is limited low high =
-    let network : NetworkOf = record { unknowns = unknowns; candidates = level (pos 10000) 5 ∷ level (pos 10000) 7 ∷ []; limits = height_limit ∷ redundancy_limit alpha 0 ∷ redundancy_limit alpha 1 ∷ [] } in
+    let network : NetworkOf =
+    record { unknowns = unknowns; candidates = level (pos 10000) 5 ∷ level (pos 10000) 7 ∷ []; limits = height_limit ∷ redundancy_limit alpha 0 ∷ redundancy_limit alpha 1 ∷ [] } in
     same_lists unknowns candidates network.candidates limits network.limits is limited (record {
       unknowns = omega arith;
       candidates = omega arith;
@@ -159,7 +168,9 @@ two_levels unknowns candidates limits alpha tall is limited low high =
       one_limit = λ i. omega arith;
     })
 
-pub missed : (unknowns : List Unknown) (candidates : List CandidateOf) (limits : List LimitOf) → length unknowns ≡ 1 → candidates ≡ level (pos 1000000) 5 ∷ [] → limits ≡ missed_limit ∷ [] → IsNetwork (record { unknowns = unknowns; candidates = candidates; limits = limits })
+pub missed : (unknowns : List Unknown) (candidates : List CandidateOf) (limits : List LimitOf) → length unknowns ≡ 1 →
+    candidates ≡ level (pos 1000000) 5 ∷ [] → limits ≡ missed_limit ∷ [] →
+    IsNetwork (record { unknowns = unknowns; candidates = candidates; limits = limits })
 missed unknowns candidates limits tall is limited =
     let network : NetworkOf = record { unknowns = unknowns; candidates = level (pos 1000000) 5 ∷ []; limits = missed_limit ∷ [] } in
     same_lists unknowns candidates network.candidates limits network.limits is limited (record {

@@ -6,7 +6,8 @@ use Rattle.geo_model.specs.Energy.{IsWithin}
 -- Laws of nodes.
 
 -- a node that leaves no candidate open has one plan
-pub same_plans : (inside upper : List Bool) → IsWithin inside upper → ((k : ℕ) → k < length inside → slice_get upper k ≡ Some true → slice_get inside k ≡ Some false → ⊥) → inside ≡ upper
+pub same_plans : (inside upper : List Bool) → IsWithin inside upper →
+    ((k : ℕ) → k < length inside → slice_get upper k ≡ Some true → slice_get inside k ≡ Some false → ⊥) → inside ≡ upper
 same_plans [] [] within shut = refl
 same_plans [] (y ∷ upper) within shut = absurd within
 same_plans (x ∷ inside) [] within shut = absurd within

@@ -16,7 +16,8 @@ none_added None name told = refl
 none_added (Some files) name told = sym (with_piece-nothing files name (told files refl))
 
 -- memory ran out before anything was added
-pub Breaks-nothing : (name text : List ℕ) (state : ShelfState) → ((files : Files) → state.held ≡ Some files → IsHeld files name) → Breaks name text fault.NoMemory state state
+pub Breaks-nothing : (name text : List ℕ) (state : ShelfState) → ((files : Files) → state.held ≡ Some files → IsHeld files name) →
+    Breaks name text fault.NoMemory state state
 Breaks-nothing name text state told = record {
   piece = [];
   rest = text;
@@ -28,7 +29,8 @@ Breaks-nothing name text state told = record {
 }
 
 -- two pieces, one after the other, are their text
-pub Adds-then : (name first second : List ℕ) (before middle now : ShelfState) → Adds name first before middle → Adds name second middle now → Adds name (first ++ second) before now
+pub Adds-then : (name first second : List ℕ) (before middle now : ShelfState) → Adds name first before middle → Adds name second middle now →
+    Adds name (first ++ second) before now
 Adds-then name first second before middle now one two = record {
   written = two.written ∙ ap (λ held. with_piece held name second) one.written ∙ with_piece-with_piece before.held name first second;
   started = two.started;
@@ -36,7 +38,8 @@ Adds-then name first second before middle now one two = record {
 }
 
 -- a piece, and then a beginning of another, are a beginning of their text
-pub Breaks-after : (name first second : List ℕ) (why : SearchFault) (before middle now : ShelfState) → Adds name first before middle → Breaks name second why middle now → Breaks name (first ++ second) why before now
+pub Breaks-after : (name first second : List ℕ) (why : SearchFault) (before middle now : ShelfState) → Adds name first before middle →
+    Breaks name second why middle now → Breaks name (first ++ second) why before now
 Breaks-after name first second why before middle now one two = record {
   piece = first ++ two.piece;
   rest = two.rest;
@@ -49,7 +52,8 @@ Breaks-after name first second why before middle now one two = record {
 }
 
 -- a beginning of a text is one of a longer text
-pub Breaks-longer : (name first second : List ℕ) (why : SearchFault) (before now : ShelfState) → Breaks name first why before now → Breaks name (first ++ second) why before now
+pub Breaks-longer : (name first second : List ℕ) (why : SearchFault) (before now : ShelfState) → Breaks name first why before now →
+    Breaks name (first ++ second) why before now
 Breaks-longer name first second why before now one = record {
   piece = one.piece;
   rest = one.rest ++ second;

@@ -9,6 +9,7 @@ use Rattle.geo_model.specs.declared.plan.Node.{Node}
 use Rattle.geo_model.proofs.PlanLemmas.{IsWithin-none, IsWithin-all}
 use Rattle.bound_log.specs.declared.bound.Bound.{Bound}
 use Rattle.bound_log.specs.Counted.{counts_with}
+use Rattle.bound_log.proofs.AllowedLemmas.{cost_allowed}
 use Rattle.bound_log.proofs.CountLemmas.{counts_with-none}
 use Rattle.bound_log.specs.LogText.{head_text, lines_text, log_text}
 use Rattle.bound_log.specs.LogTree.{root_of, IsAllowed, bound_at}
@@ -27,28 +28,31 @@ use Rattle.branch_bound.proofs.PieceLemmas.{Breaks-nothing, Adds-then, Breaks-af
 -- How the head and the exploration of the root make a search.
 
 -- memory ran out before anything was written
-pub BreaksLog-nothing : (network : NetworkOf) (name : List ℕ) (state : ShelfState) → ((files : Files) → state.held ≡ Some files → IsHeld files name) → BreaksLog network name fault.NoMemory state state
-BreaksLog-nothing network name state told = record { tree = tip cost; allowed = tt; broken = Breaks-nothing name (log_text (tip cost)) state told }
+pub BreaksLog-nothing : (network : NetworkOf) (name : List ℕ) (state : ShelfState) → ((files : Files) → state.held ≡ Some files → IsHeld files name) →
+    BreaksLog network name fault.NoMemory state state
+BreaksLog-nothing network name state told = record { tree = tip cost; allowed = cost_allowed network (root_of network); broken = Breaks-nothing name (log_text (tip cost)) state told }
 
 -- the head was begun
-pub BreaksLog-head : (network : NetworkOf) (name : List ℕ) (why : SearchFault) (before now : ShelfState) → Breaks name head_text why before now → BreaksLog network name why before now
-BreaksLog-head network name why before now broken = record { tree = tip cost; allowed = tt; broken = Breaks-longer name head_text (lines_text (tree_lines (tip cost))) why before now broken }
+pub BreaksLog-head : (network : NetworkOf) (name : List ℕ) (why : SearchFault) (before now : ShelfState) → Breaks name head_text why before now →
+    BreaksLog network name why before now
+BreaksLog-head network name why before now broken = record { tree = tip cost; allowed = cost_allowed network (root_of network); broken = Breaks-longer name head_text (lines_text (tree_lines (tip cost))) why before now broken }
 
 -- the tree was begun
-pub BreaksLog-tree : (network : NetworkOf) (node : Node) (name : List ℕ) (why : SearchFault) (before middle now : ShelfState) → node ≡ root_of network → Adds name head_text before middle → BreaksOff network node name why middle now → BreaksLog network name why before now
+pub BreaksLog-tree : (network : NetworkOf) (node : Node) (name : List ℕ) (why : SearchFault) (before middle now : ShelfState) → node ≡ root_of network →
+    Adds name head_text before middle → BreaksOff network node name why middle now → BreaksLog network name why before now
 BreaksLog-tree network node name why before middle now root added broken =
     let at_root : BreaksOff network (root_of network) name why middle now = subst (λ n. BreaksOff network n name why middle now) root broken in
     record { tree = at_root.tree; allowed = at_root.allowed; broken = Breaks-after name head_text (lines_text (tree_lines at_root.tree)) why before middle now added at_root.broken }
 
 -- the answer that the best plan makes fits its bound
-answer_fits : (network : NetworkOf) (bound : Bound) (found : Best) (made : Answer) → IsDone network (root_of network) bound best.NoPlan found → IsAnswerOf network found made → IsAnswer network bound made
+answer_fits : (network : NetworkOf) (bound : Bound) (found : Best) (made : Answer) → IsDone network (root_of network) bound best.NoPlan found →
+    IsAnswerOf network found made → IsAnswer network bound made
 answer_fits network bound best.NoPlan made done is = subst (λ a. IsAnswer network bound a) (sym is) (sym done.price)
 answer_fits network bound (best.Certified plan) made done is =
     subst (λ a. IsAnswer network bound a) (sym is) (record { certified = done.kept; price = sym done.price })
 answer_fits network bound (best.Unsettled plan) made done is =
     subst (λ a. IsAnswer network bound a) (sym is.says) (record {
-      long = done.kept.long;
-      unsettled = done.kept.unsettled;
+      unsettled = done.kept;
       price = sym done.price;
       dearer = λ other certified. done.covered other certified
           (subst (λ (n : ℕ). IsWithin (replicate n false) other) certified.long (IsWithin-none other))
@@ -57,7 +61,10 @@ answer_fits network bound (best.Unsettled plan) made done is =
     })
 
 -- the search is done
-pub Searches-done : (network : NetworkOf) (node : Node) (name : List ℕ) (found found_now : Best) (counts counts_now : Counts) (done : SearchDone) (before middle now : ShelfState) → node ≡ root_of network → found ≡ best.NoPlan → counts ≡ no_counts → Adds name head_text before middle → Explores network node name found found_now counts counts_now middle now → IsAnswerOf network found_now done.answer → done.counts ≡ counts_now → Searches network name done before now
+pub Searches-done : (network : NetworkOf) (node : Node) (name : List ℕ) (found found_now : Best) (counts counts_now : Counts) (done : SearchDone) (before middle now : ShelfState) →
+    node ≡ root_of network → found ≡ best.NoPlan → counts ≡ no_counts → Adds name head_text before middle →
+    Explores network node name found found_now counts counts_now middle now → IsAnswerOf network found_now done.answer → done.counts ≡ counts_now →
+    Searches network name done before now
 Searches-done network node name found found_now counts counts_now done before middle now root nothing none_counted added explored answered counted_all =
     record {
       tree = explored.tree;

@@ -23,13 +23,19 @@ limit_at (limit ∷ rest) zero inside = (limit, refl)
 limit_at (limit ∷ rest) (suc number) inside = limit_at rest number (omega arith)
 
 -- the verdict on a limit that is in force is open
-pub open_by : (network : NetworkOf) (plan : List Bool) (number step : ℕ) (lo hi : ℤ) (in_force : Bool) → number < length network.limits → ((l : LimitOf) → slice_get network.limits number ≡ Some l → IsTrue in_force ↔ IsInForce l plan) → in_force ≡ true → ((l : LimitOf) → slice_get network.limits number ≡ Some l → Open step lo hi ≡ verdict_of network plan l) → IsOpenLimit network plan number step lo hi
+pub open_by : (network : NetworkOf) (plan : List Bool) (number step : ℕ) (lo hi : ℤ) (in_force : Bool) → number < length network.limits →
+    ((l : LimitOf) → slice_get network.limits number ≡ Some l → IsTrue in_force ↔ IsInForce l plan) → in_force ≡ true →
+    ((l : LimitOf) → slice_get network.limits number ≡ Some l → Open step lo hi ≡ verdict_of network plan l) →
+    IsOpenLimit network plan number step lo hi
 open_by network plan number step lo hi in_force inside forced is exact =
     let named = limit_at network.limits number inside in
     record { limit = named.0; named = named.1; in_force = (forced named.0 named.1).0 is; open_here = sym (exact named.0 named.1) }
 
 -- a limit refutes a node just where it is in force for the inner plan and the verdict on the upper one is Refuted
-pub refuted_when : (network : NetworkOf) (node : Node) (number : ℕ) (in_force result : Bool) (verdict : Verdict) → number < length network.limits → ((l : LimitOf) → slice_get network.limits number ≡ Some l → IsTrue in_force ↔ IsInForce l node.inside) → in_force ≡ true → ((l : LimitOf) → slice_get network.limits number ≡ Some l → verdict ≡ verdict_of network node.upper l) → (IsTrue result ↔ (verdict ≡ Refuted)) → IsTrue result ↔ IsRefutedBy network node number
+pub refuted_when : (network : NetworkOf) (node : Node) (number : ℕ) (in_force result : Bool) (verdict : Verdict) → number < length network.limits →
+    ((l : LimitOf) → slice_get network.limits number ≡ Some l → IsTrue in_force ↔ IsInForce l node.inside) → in_force ≡ true →
+    ((l : LimitOf) → slice_get network.limits number ≡ Some l → verdict ≡ verdict_of network node.upper l) → (IsTrue result ↔ (verdict ≡ Refuted)) →
+    IsTrue result ↔ IsRefutedBy network node number
 refuted_when network node number in_force result verdict inside forced is exact tests =
     let named = limit_at network.limits number inside in (
       λ yes. record { limit = named.0; named = named.1; owned = (forced named.0 named.1).0 is; refuted = sym (exact named.0 named.1) ∙ tests.0 yes },
@@ -37,7 +43,10 @@ refuted_when network node number in_force result verdict inside forced is exact 
     )
 
 -- a limit in force is met just where the verdict on it is Met
-pub met_when : (network : NetworkOf) (plan : List Bool) (number : ℕ) (in_force result : Bool) (verdict : Verdict) → number < length network.limits → ((l : LimitOf) → slice_get network.limits number ≡ Some l → IsTrue in_force ↔ IsInForce l plan) → in_force ≡ true → ((l : LimitOf) → slice_get network.limits number ≡ Some l → verdict ≡ verdict_of network plan l) → (IsTrue result ↔ (verdict ≡ Met)) → IsTrue result ↔ IsMetAt network plan number
+pub met_when : (network : NetworkOf) (plan : List Bool) (number : ℕ) (in_force result : Bool) (verdict : Verdict) → number < length network.limits →
+    ((l : LimitOf) → slice_get network.limits number ≡ Some l → IsTrue in_force ↔ IsInForce l plan) → in_force ≡ true →
+    ((l : LimitOf) → slice_get network.limits number ≡ Some l → verdict ≡ verdict_of network plan l) → (IsTrue result ↔ (verdict ≡ Met)) →
+    IsTrue result ↔ IsMetAt network plan number
 met_when network plan number in_force result verdict inside forced is exact tests =
     let named = limit_at network.limits number inside in (
       λ yes limit here _. sym (exact limit here) ∙ tests.0 yes,
@@ -45,7 +54,8 @@ met_when network plan number in_force result verdict inside forced is exact test
     )
 
 -- a plan whose limits are all met, or not in force, is certified
-pub certified_by : (network : NetworkOf) (plan : List Bool) → length plan ≡ length network.candidates → ((k : ℕ) → k < length network.limits → IsMetAt network plan k) → IsCertified network plan
+pub certified_by : (network : NetworkOf) (plan : List Bool) → length plan ≡ length network.candidates →
+    ((k : ℕ) → k < length network.limits → IsMetAt network plan k) → IsCertified network plan
 certified_by network plan long met = record {
   long = long;
   certified = λ k d inside in_force. met k inside (get_or network.limits k d) (slice_get-get_or network.limits k d inside) in_force;
@@ -57,7 +67,8 @@ met_at network plan number certified limit named in_force =
     at_place (λ l. IsInForce l plan → verdict_of network plan l ≡ Met) network.limits number limit certified named in_force
 
 -- a node of one plan that is refuted has a limit that refutes it
-refuted_by : (network : NetworkOf) (node : Node) → node.inside ≡ node.upper → ((k : ℕ) → IsRefutedBy network node k → ⊥) → IsRefutedPlan (verdict_of network) network node.inside → ⊥
+refuted_by : (network : NetworkOf) (node : Node) → node.inside ≡ node.upper → ((k : ℕ) → IsRefutedBy network node k → ⊥) →
+    IsRefutedPlan (verdict_of network) network node.inside → ⊥
 refuted_by network node same none (k, limit, inside, here, (in_force, refuted)) =
     none k (record {
       limit = limit;
@@ -67,7 +78,8 @@ refuted_by network node same none (k, limit, inside, here, (in_force, refuted)) 
     })
 
 -- a node of one plan that no limit refutes, and one isn't met on, is unsettled
-pub unsettled_by : (network : NetworkOf) (node : Node) (number : ℕ) → IsNode network node → node.inside ≡ node.upper → ((k : ℕ) → IsRefutedBy network node k → ⊥) → (IsMetAt network node.inside number → ⊥) → IsUnsettled network node.inside
+pub unsettled_by : (network : NetworkOf) (node : Node) (number : ℕ) → IsNode network node → node.inside ≡ node.upper →
+    ((k : ℕ) → IsRefutedBy network node k → ⊥) → (IsMetAt network node.inside number → ⊥) → IsUnsettled network node.inside
 unsettled_by network node number is same none unmet = record {
   long = is.inside_long;
   unsettled = (λ certified. unmet (met_at network node.inside number certified), refuted_by network node same none);
@@ -80,7 +92,8 @@ met_else Refuted refuted open_here = absurd (refuted refl)
 met_else (Open step lo hi) refuted open_here = absurd (open_here step lo hi refl)
 
 -- some limit of an unsettled plan is open
-pub some_open : (network : NetworkOf) (plan : List Bool) → IsUnsettled network plan → ((k : ℕ) → k < length network.limits → (step : ℕ) (lo hi : ℤ) → IsOpenLimit network plan k step lo hi → ⊥) → ⊥
+pub some_open : (network : NetworkOf) (plan : List Bool) → IsUnsettled network plan →
+    ((k : ℕ) → k < length network.limits → (step : ℕ) (lo hi : ℤ) → IsOpenLimit network plan k step lo hi → ⊥) → ⊥
 some_open network plan unsettled closed =
     unsettled.unsettled.0 (λ k d inside in_force.
     let named : slice_get network.limits k ≡ Some (get_or network.limits k d) = slice_get-get_or network.limits k d inside in
@@ -89,14 +102,12 @@ some_open network plan unsettled closed =
     (λ step lo hi is. closed k inside step lo hi (record { limit = get_or network.limits k d; named = named; in_force = in_force; open_here = is })))
 
 -- a limit that is open, where none before it is, is the first open one
-pub first_open_by : (network : NetworkOf) (plan : List Bool) (number step : ℕ) (lo hi : ℤ) → IsOpenLimit network plan number step lo hi → ((k : ℕ) → k < number → (s : ℕ) (a b : ℤ) → IsOpenLimit network plan k s a b → ⊥) → IsFirstOpen network plan number step lo hi
+pub first_open_by : (network : NetworkOf) (plan : List Bool) (number step : ℕ) (lo hi : ℤ) → IsOpenLimit network plan number step lo hi →
+    ((k : ℕ) → k < number → (s : ℕ) (a b : ℤ) → IsOpenLimit network plan k s a b → ⊥) → IsFirstOpen network plan number step lo hi
 first_open_by network plan number step lo hi is none =
     let interval = open_interval network plan is.limit step lo hi is.open_here in
     record {
-      limit = is.limit;
-      named = is.named;
-      in_force = is.in_force;
-      open_here = is.open_here;
+      here = is;
       first = λ k earlier below named in_force s a b here. none k below s a b (record { limit = earlier; named = named; in_force = in_force; open_here = here });
       low = interval.0;
       high = interval.1;

@@ -8,7 +8,7 @@ use Rattle.geo_model.specs.declared.answer.Counts.{Counts}
 use Rattle.geo_model.specs.declared.plan.Node.{Node}
 use Rattle.bound_log.specs.Counted.{counts_with}
 use Rattle.bound_log.specs.LogText.{lines_text}
-use Rattle.bound_log.specs.LogTree.{IsOpenAt, IsAllowed, IsAllowedLine, leaf_bound, bound_at}
+use Rattle.bound_log.specs.LogTree.{IsOpenAt, IsRefutedBy, IsAllowed, IsAllowedLine, leaf_bound, bound_at}
 use Rattle.bound_log.specs.Tree.{LineOf, split, leaf, Leaf, cost, pivot, Tree, tree_lines}
 use Rattle.branch_bound.specs.declared.best.Best.{Best}
 use Rattle.branch_bound.specs.declared.line.Line.{Line}
@@ -52,9 +52,11 @@ pub record IsLeafAt (network : NetworkOf) (node : Node) (end : Leaf) (before now
   pub allowed : IsAllowedLine network node (leaf end)
   pub done : IsDone network node (leaf_bound network node end) before now
 
--- a line fits a node: a split on an open candidate, which leaves the best plan as it was, or a leaf
+-- a line fits a node: a split on an open candidate where no limit refutes the node, which leaves the best plan as it was,
+-- or a leaf
 abbrev pub IsLineAt : NetworkOf → Node → Best → Best → Line → Type 0
-IsLineAt network node before now (line.Split candidate) = IsOpenAt network node candidate × (now ≡ before)
+IsLineAt network node before now (line.Split candidate) =
+    IsOpenAt network node candidate × (now ≡ before) × ((k : ℕ) → IsRefutedBy network node k → ⊥)
 IsLineAt network node before now line.Cost = IsLeafAt network node cost before now
 IsLineAt network node before now (line.Pivot limit) = IsLeafAt network node (pivot limit) before now
 

@@ -1,4 +1,5 @@
 pub mod Searched
 pub mod Found
+pub mod Told
 pub mod Explored
 pub mod Logged

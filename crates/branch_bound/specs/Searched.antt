@@ -46,18 +46,14 @@ pub record IsBest (network : NetworkOf) (bound : Bound) (plan : List Bool) : Typ
 
 -- the first limit in force for a plan whose verdict is Open, with its step and interval
 pub record IsFirstOpen (network : NetworkOf) (plan : List Bool) (number step : ℕ) (lo hi : ℤ) : Type 0 where
-  pub limit : LimitOf
-  pub named : slice_get network.limits number ≡ Some limit
-  pub in_force : IsInForce limit plan
-  pub open_here : verdict_of network plan limit ≡ Open step lo hi
+  pub here : IsOpenLimit network plan number step lo hi
   pub first : (k : ℕ) (earlier : LimitOf) → k < number → slice_get network.limits k ≡ Some earlier → IsInForce earlier plan → (s : ℕ) (a b : ℤ) → verdict_of network plan earlier ≢ Open s a b
   pub low : lo ≤ℤ pos 0
   pub high : pos 0 ≤ℤ hi
 
 -- an unsettled plan whose price is the bound, where every certified plan costs more
 pub record IsUndecided (network : NetworkOf) (bound : Bound) (plan : List Bool) (limit step : ℕ) (lo hi : ℤ) : Type 0 where
-  pub long : length plan ≡ length network.candidates
-  pub unsettled : IsUnsettledBy (verdict_of network) network plan
+  pub unsettled : IsUnsettled network plan
   pub price : bound ≡ AtLeast (cost_of network.candidates plan)
   pub dearer : (other : List Bool) → IsCertified network other → cost_of network.candidates plan < cost_of network.candidates other
   pub open_limit : IsFirstOpen network plan limit step lo hi

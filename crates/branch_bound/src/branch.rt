@@ -152,10 +152,12 @@ fn weightiest(network: &Network, node: &Node, limit: &Limit) -> Option<u32>
 /// limit shuts out, which ends the child that takes it; else the one that brings the largest share of
 /// a missing energy for its price; or else, where no energy is missing at a displacement by 1 in one
 /// unknown, the one whose rows weigh most. There is none where the node has one plan alone.
+/// `none_shut` says that no limit shuts one out, where that is known, and is told so.
 pub fn branch_candidate(
     room: &mut ChainRoom,
     network: &Network,
     node: &Node,
+    none_shut: &mut bool,
     limit: u32,
 ) -> Option<u32>
     requires room { IsRoomOf network.now room.old }
@@ -165,8 +167,11 @@ pub fn branch_candidate(
     ensures none { IfNone result (node.now.inside ≡ node.now.upper) }
     ensures room { IsRoomOf network.now room.new }
 {
-    if let Some(candidate) = shut_candidate(room, network, node) {
-        return Some(candidate);
+    if !*none_shut {
+        if let Some(candidate) = shut_candidate(room, network, node) {
+            return Some(candidate);
+        }
+        *none_shut = true;
     }
     if let Some(candidate) = supplier(network, node) {
         return Some(candidate);

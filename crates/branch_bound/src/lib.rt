@@ -11,6 +11,7 @@ mod missing;
 mod node_tests;
 mod run;
 mod search_fault;
+mod told;
 
 pub use geo_model::{Answer, SearchDone};
 pub use run::search;

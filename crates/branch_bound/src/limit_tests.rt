@@ -41,6 +41,18 @@ pub fn refutes(room: &mut ChainRoom, network: &Network, node: &Node, limit: u32)
     verdict(room, network, &node.upper, limit) == Verdict::Refuted
 }
 
+/// Whether the limit of a number is a candidate's own.
+pub fn is_owned_by(network: &Network, limit: u32, candidate: u32) -> bool
+    requires { limit < length network.now.limits }
+    ensures { (l : LimitOf) → slice_get network.now.limits limit ≡ Some l → IsTrue result ↔ (l.owner ≡ Some candidate) }
+{
+    let limit = &network.limits()[limit as usize];
+    match limit.owner {
+        None => false,
+        Some(owner) => owner == candidate,
+    }
+}
+
 /// Whether a plan is met on a limit, where the limit is in force for it.
 pub fn is_met(room: &mut ChainRoom, network: &Network, plan: &Plan, limit: u32) -> bool
     requires room { IsRoomOf network.now room.old }

@@ -6,44 +6,79 @@ ghost use Rattle.pivot_chain.specs.Room.{IsRoomOf};
 ghost use Rattle.bound_log.specs.LogTree.{IsRefutedBy};
 ghost use Rattle.branch_bound.specs.Explored.{IsNode, IsLineAt};
 ghost use Rattle.branch_bound.specs.Found.{IsKept, IsCovered, IsBelow, best_bound};
-ghost use Rattle.branch_bound.specs.Searched.{IsMetAt, IsCertified};
+ghost use Rattle.branch_bound.specs.Searched.{IsCertified};
+ghost use Rattle.branch_bound.specs.Told.{IsTold, IsUnmetAt};
+ghost use Rattle.std.specs.Option.{ForSome};
 
 use crate::best::Best;
 use crate::branch::branch_candidate;
-use crate::limit_tests::{is_met, refutes};
+use crate::limit_tests::{is_met, is_owned_by, refutes};
 use crate::line::Line;
+use crate::told::Told;
 use geo_base::NoMemory;
 use geo_model::{Network, Node, Plan, cost};
 use pivot_chain::ChainRoom;
 use std::alloc::Global;
 
-/// The number of the first limit that refutes a node.
-fn refuting_limit(room: &mut ChainRoom, network: &Network, node: &Node) -> Option<u32>
+/// Whether a limit refutes a node, where a candidate may be told that owns each limit that does.
+fn refutes_now(
+    room: &mut ChainRoom,
+    network: &Network,
+    node: &Node,
+    told: &Told,
+    limit: u32,
+) -> bool
     requires room { IsRoomOf network.now room.old }
     requires node { IsNode network.now node.now }
+    requires told { IsTold network.now node.now told.now }
+    requires limit { limit < length network.now.limits }
+    ensures refuted { IsTrue result ↔ IsRefutedBy network.now node.now limit }
+    ensures room { IsRoomOf network.now room.new }
+{
+    if let Some(candidate) = told.chosen {
+        if !is_owned_by(network, limit, candidate) {
+            return false;
+        }
+    }
+    refutes(room, network, node, limit)
+}
+
+/// The number of the first limit that refutes a node.
+fn refuting_limit(room: &mut ChainRoom, network: &Network, node: &Node, told: &Told) -> Option<u32>
+    requires room { IsRoomOf network.now room.old }
+    requires node { IsNode network.now node.now }
+    requires told { IsTold network.now node.now told.now }
     ensures found { IfSome result (λ limit. IsRefutedBy network.now node.now limit) }
     ensures none { IfNone result ((k : ℕ) → IsRefutedBy network.now node.now k → ⊥) }
     ensures bounds { IsNetwork network.now }
     ensures room { IsRoomOf network.now room.new }
 {
     for limit in 0..network.limits().len() as u32 {
-        if refutes(room, network, node, limit) {
+        if refutes_now(room, network, node, told, limit) {
             return Some(limit);
         }
     }
     None
 }
 
-/// The number of the first limit in force for a plan on which it isn't met. There is none where the
-/// plan is certified.
-fn unmet_limit(room: &mut ChainRoom, network: &Network, plan: &Plan) -> Option<u32>
+/// The number of a limit in force for a plan on which it isn't met: the one that is known already, or
+/// else the first one. There is none where the plan is certified.
+fn unmet_limit(
+    room: &mut ChainRoom,
+    network: &Network,
+    plan: &Plan,
+    known: Option<u32>,
+) -> Option<u32>
     requires room { IsRoomOf network.now room.old }
     requires plan { length plan.now ≡ length network.now.candidates }
-    ensures inside { IfSome result (λ limit. limit < length network.now.limits) }
-    ensures unmet { IfSome result (λ limit. IsMetAt network.now plan.now limit → ⊥) }
+    requires known { ForSome known (λ limit. IsUnmetAt network.now plan.now limit) }
+    ensures unmet { IfSome result (λ limit. IsUnmetAt network.now plan.now limit) }
     ensures none { IfNone result (IsCertified network.now plan.now) }
     ensures room { IsRoomOf network.now room.new }
 {
+    if known.is_some() {
+        return known;
+    }
     for limit in 0..network.limits().len() as u32 {
         if !is_met(room, network, plan, limit) {
             return Some(limit);
@@ -83,31 +118,35 @@ fn is_cheaper(network: &Network, plan: &Plan, best: &Best) -> bool
 
 /// The line of a node: a leaf, or a split on an open candidate. At a leaf the inner plan becomes the
 /// best one, where it is certified and not cut off, or where it is the node's only plan, unsettled,
-/// and cheaper than the best one.
+/// and cheaper than the best one. `told` is what the node was told, and what it found besides.
 pub fn line_at(
     alloc: Global,
     room: &mut ChainRoom,
     network: &Network,
     node: &Node,
+    told: &mut Told,
     best: &mut Best,
 ) -> Result<Line, NoMemory>
     requires room { IsRoomOf network.now room.old }
     requires node { IsNode network.now node.now }
+    requires told { IsTold network.now node.now told.old }
     requires kept { IsKept network.now best.old }
     ensures line { IfOk result (λ line. IsLineAt network.now node.now best.old best.new line) }
+    ensures told { ForSome told.new.unmet (λ limit. IsUnmetAt network.now node.now.inside limit) }
     ensures room { IsRoomOf network.now room.new }
 {
     if is_cut_off(network, &node.inside, best) {
         return Ok(Line::Cost);
     }
-    if let Some(limit) = refuting_limit(room, network, node) {
+    if let Some(limit) = refuting_limit(room, network, node, told) {
         return Ok(Line::Pivot(limit));
     }
-    let Some(limit) = unmet_limit(room, network, &node.inside) else {
+    let Some(limit) = unmet_limit(room, network, &node.inside, told.unmet) else {
         *best = Best::Certified(node.inside.copy(alloc)?);
         return Ok(Line::Cost);
     };
-    if let Some(candidate) = branch_candidate(room, network, node, limit) {
+    told.unmet = Some(limit);
+    if let Some(candidate) = branch_candidate(room, network, node, &mut told.none_shut, limit) {
         return Ok(Line::Split(candidate));
     }
     if is_cheaper(network, &node.inside, best) {

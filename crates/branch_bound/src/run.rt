@@ -8,12 +8,14 @@ ghost use Rattle.branch_bound.specs.Explored.{IsNode, Adds, Breaks, Explores, Br
 ghost use Rattle.branch_bound.specs.Found.{IsKept, IsAnswerOf};
 ghost use Rattle.branch_bound.specs.Logged.{Searches, BreaksLog};
 ghost use Rattle.branch_bound.specs.Searched.{no_counts};
+ghost use Rattle.branch_bound.specs.Told.{IsTold};
 
 use crate::answer::answer_of;
 use crate::best::Best;
 use crate::line::{Line, write_line, write_piece};
 use crate::node_tests::line_at;
 use crate::search_fault::SearchFault;
+use crate::told::Told;
 use bound_log::put_head;
 use geo_model::{Counts, Network, Node, SearchDone};
 use pivot_chain::ChainRoom;
@@ -71,9 +73,11 @@ fn explore<H: Shelf>(
     name: &str,
     progress: &mut Progress,
     node: &mut Node,
+    told: Told,
 ) -> Result<(), SearchFault>
     requires started { H.started shelf.old ≡ Some name.now }
     requires node { IsNode network.now node.old }
+    requires told { IsTold network.now node.old told }
     requires room { IsRoomOf network.now progress.old.room }
     requires kept { IsKept network.now progress.old.best }
     ensures explored { OnOk result (Explores network.now node.old name.now
@@ -86,7 +90,15 @@ fn explore<H: Shelf>(
         (state_of H.held H.faults H.last_fault H.started shelf.old)
         (state_of H.held H.faults H.last_fault H.started shelf.new)) }
 {
-    let line = line_at(alloc, &mut progress.room, network, node, &mut progress.best)?;
+    let mut told = told;
+    let line = line_at(
+        alloc,
+        &mut progress.room,
+        network,
+        node,
+        &mut told,
+        &mut progress.best,
+    )?;
     write_line(
         shelf,
         name,
@@ -97,11 +109,21 @@ fn explore<H: Shelf>(
     let Line::Split(candidate) = line else {
         return Ok(());
     };
+    let with_it = Told {
+        chosen: Some(candidate),
+        none_shut: told.none_shut,
+        unmet: None,
+    };
     node.inside.set(candidate, true);
-    explore(alloc, network, shelf, name, progress, node)?;
+    explore(alloc, network, shelf, name, progress, node, with_it)?;
     node.inside.set(candidate, false);
     node.upper.set(candidate, false);
-    explore(alloc, network, shelf, name, progress, node)?;
+    let without_it = Told {
+        chosen: None,
+        none_shut: false,
+        unmet: told.unmet,
+    };
+    explore(alloc, network, shelf, name, progress, node, without_it)?;
     node.upper.set(candidate, true);
     Ok(())
 }
@@ -153,6 +175,11 @@ pub fn search<H: Shelf>(
     let room = ChainRoom::new(alloc, network)?;
     let mut progress = Progress::new(alloc, room);
     begin_log(shelf, name, &mut progress.buffer)?;
-    explore(alloc, network, shelf, name, &mut progress, &mut node)?;
+    let told = Told {
+        chosen: None,
+        none_shut: false,
+        unmet: None,
+    };
+    explore(alloc, network, shelf, name, &mut progress, &mut node, told)?;
     Ok(progress.done(network))
 }

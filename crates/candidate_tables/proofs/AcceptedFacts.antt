@@ -14,7 +14,7 @@ use Rattle.table_rows.specs.Faults.{first_broken}
 use Rattle.table_rows.proofs.FaultFacts.{both-kept, each-kept}
 use Rattle.point_tables.specs.declared.record.PointRecord.{PointRecord}
 use Rattle.point_tables.specs.Accepted.{is_absent}
-use Rattle.point_tables.specs.Columns.{is_outside, name_rules, number_rules, text_at}
+use Rattle.point_tables.specs.Columns.{is_outside, name_at, name_rules, number_rules, text_at}
 use Rattle.point_tables.specs.Names.{is_among, is_name, place_of}
 use Rattle.point_tables.specs.PointTable as points_table
 use Rattle.point_tables.proofs.PlaceFacts.{among-is, place-at}
@@ -23,7 +23,7 @@ use Rattle.candidate_tables.proofs.RecordFacts.{by_name}
 use Rattle.candidate_tables.specs.declared.kind.Kind.{Kind}
 use Rattle.candidate_tables.specs.declared.record.CandidateRecord.{CandidateRecord}
 use Rattle.candidate_tables.specs.Accepted.{AreCandidates, IsBetween, IsCandidateRecord, IsEnd, IsLine}
-use Rattle.candidate_tables.specs.CandidateTable.{candidate_of, deviation_of, deviation_rules, end_rules, figure_rules, foresight_in, foresight_rules, height_deviation_of, height_rules, kind_at, length_rules, line_rules, lines_rules, name_at, names_of, part_rules, place_rules, point_rules, price_of, price_rules, rules_after}
+use Rattle.candidate_tables.specs.CandidateTable.{candidate_of, deviation_of, deviation_rules, end_rules, figure_rules, foresight_in, foresight_rules, height_deviation_of, height_rules, kind_at, length_rules, line_rules, lines_rules, names_of, part_rules, place_rules, point_rules, price_of, price_rules, rules_after}
 use Rattle.candidate_tables.specs.Kinds.{has_line, is_angle, is_vector, needs_height, needs_plane}
 use Rattle.candidate_tables.specs.Places.{has_repeat, lacks_height, lacks_plane, named, place_in}
 

@@ -5,12 +5,12 @@ use Rattle.table_rows.specs.Faults.{first_broken}
 use Rattle.table_rows.proofs.FaultFacts.{first_broken-left, first_broken-right}
 use Rattle.point_tables.specs.declared.fault.FaultKind.{FaultKind}
 use Rattle.point_tables.specs.declared.record.PointRecord.{PointRecord}
-use Rattle.point_tables.specs.Columns.{name_rules, record_rules}
+use Rattle.point_tables.specs.Columns.{name_at, name_rules, record_rules}
 use Rattle.candidate_tables.specs.declared.ends.Ends.{Ends}
 use Rattle.candidate_tables.specs.declared.figures.Figures.{Figures}
 use Rattle.candidate_tables.specs.declared.kind.Kind.{Kind}
 use Rattle.candidate_tables.specs.declared.record.CandidateRecord.{CandidateRecord}
-use Rattle.candidate_tables.specs.CandidateTable.{candidate_of, candidates_table, column_rules, end_rules, figure_rules, name_at, names_of, place_rules, rules_after}
+use Rattle.candidate_tables.specs.CandidateTable.{candidate_of, candidates_table, column_rules, end_rules, figure_rules, names_of, place_rules, rules_after}
 use Rattle.candidate_tables.specs.Read.{AreColumns, AreFigures, IsEnds}
 
 -- ---- the columns after the name, one part after the other

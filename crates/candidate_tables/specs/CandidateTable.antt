@@ -8,7 +8,7 @@ use Rattle.table_rows.specs.Rows.{table_rows}
 use Rattle.point_tables.specs.declared.fault.FaultKind.{FaultKind}
 use Rattle.point_tables.specs.declared.fault.FaultKind.TheVariants as fault
 use Rattle.point_tables.specs.declared.record.PointRecord.{PointRecord}
-use Rattle.point_tables.specs.Columns.{is_empty, name_rules, number_rules, record_rules, rule, text_at}
+use Rattle.point_tables.specs.Columns.{is_empty, name_at, name_rules, number_rules, record_rules, rule, text_at}
 use Rattle.point_tables.specs.Names.{is_among}
 use Rattle.point_tables.specs.PointTable as points_table
 use Rattle.candidate_tables.specs.declared.kind.Kind.{Kind}
@@ -22,10 +22,6 @@ use Rattle.candidate_tables.specs.Places.{has_repeat, lacks_height, lacks_plane,
 abbrev pub candidate_header : List (List ℕ)
 candidate_header =
     codes "name" ∷ codes "kind" ∷ codes "from" ∷ codes "to" ∷ codes "to2" ∷ codes "sd" ∷ codes "sdh" ∷ codes "price" ∷ []
-
--- the name that a record gives
-abbrev pub name_at : List (List ℕ) → List ℕ
-name_at row = text_at row 0
 
 -- ---- a record read by field
 
@@ -49,7 +45,7 @@ height_deviation_of kind text = if is_vector kind then Some (deviation_of text) 
 unfoldable pub price_of : List ℕ → ℕ
 price_of text = option_map_or unsigned_abs (decimal_of 0 text) 0
 
--- a record read by field, against the points
+-- a record read by field, against the points; it is what the record says only where no rule on it is broken
 unfoldable pub candidate_of : List PointRecord → List (List ℕ) → CandidateRecord
 candidate_of points row = record {
   name = name_at row;
@@ -114,7 +110,9 @@ line_rules points kind from to = length_rules kind (length_squared points from t
 unfoldable pub lines_rules : List PointRecord → Kind → ℕ → ℕ → Option ℕ → List (Rule FaultKind)
 lines_rules points kind from to to2 = line_rules points kind from to ++ option_map_or (line_rules points kind from) to2 []
 
--- the rules on what a record of this kind names: the fields it has not, the points and their parts, the lines
+-- the rules on what a record of this kind names: the fields it has not, the points and their parts, the lines. The kind
+-- and the numbers are those of `candidate_of`, where an unknown kind is a distance and an unknown name is point 0, so
+-- these rules say something of the record only where the rules on its kind and on its names before them hold
 unfoldable pub place_rules : List PointRecord → List (List ℕ) → Kind → ℕ → ℕ → Option ℕ → List (Rule FaultKind)
 place_rules points row kind from to to2 =
     extra_rules kind row ++ (part_rules points kind (named from to to2) ++ lines_rules points kind from to to2)

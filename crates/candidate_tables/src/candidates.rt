@@ -48,7 +48,8 @@ impl Candidates {
         self.records.len() as u32
     }
 
-    /// Candidate `k`, counted from 0.
+    /// Candidate `k`, counted from 0. What holds of it against the points of the table is said of all
+    /// candidates together, by `read_candidates`.
     pub fn get(&self, k: u32) -> &CandidateRecord
         requires { k < length self.now }
         ensures { slice_get self.now k ≡ Some result.now }

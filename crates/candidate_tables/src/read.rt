@@ -1,7 +1,7 @@
 ghost use Rattle.std.specs.Prelude.{◌≡◌, ◌+◌, IfOk, length};
 ghost use Rattle.point_tables.specs.declared.fault.TableName.TheVariants as table;
-ghost use Rattle.point_tables.specs.Columns.{Answers, Reads, name_rules};
-ghost use Rattle.point_tables.specs.Read.{Adds, IsNewName};
+ghost use Rattle.point_tables.specs.Columns.{Answers, Reads};
+ghost use Rattle.point_tables.specs.Read.{Adds};
 ghost use Rattle.candidate_tables.specs.Accepted.{AreCandidates};
 ghost use Rattle.candidate_tables.specs.CandidateTable.{candidate_of, candidates_fault, candidates_of, column_rules, names_of, rules_after};
 ghost use Rattle.candidate_tables.specs.Read.{AreColumns};
@@ -10,29 +10,12 @@ use crate::candidates::Candidates;
 use crate::ends::{Ends, read_ends};
 use crate::figures::{Figures, read_figures};
 use crate::record::CandidateRecord;
-use point_tables::{
-    FaultKind, Name, Points, TableAnswer, TableFault, TableName, broken_record, name_text,
-};
+use point_tables::{FaultKind, Name, Points, TableAnswer, TableName, broken_record, new_name};
 use std::alloc::Global;
 use table_rows::{TableRow, TableRows};
 
 // The largest number of a record, the header row among them.
 const MOST_RECORDS: u32 = 257;
-
-// The name of a record, which no earlier candidate has.
-fn read_name<'a>(text: &'a [u8], candidates: &Candidates) -> Result<&'a str, FaultKind>
-    ensures { Reads (name_rules text.now (names_of candidates.now)) (λ name. IsNewName text.now (names_of candidates.now) name.now) result }
-{
-    match name_text(text) {
-        None => Err(FaultKind::Name),
-        Some(name) => {
-            if candidates.find(text).is_some() {
-                return Err(FaultKind::Twice);
-            }
-            Ok(name)
-        }
-    }
-}
 
 // The columns of a record after its name.
 fn read_columns(row: &TableRow, points: &Points) -> Result<(Ends, Figures), FaultKind>
@@ -47,17 +30,6 @@ fn read_columns(row: &TableRow, points: &Points) -> Result<(Ends, Figures), Faul
     Ok((ends, figures))
 }
 
-// A fault of the candidates table.
-fn fault(number: u32, kind: FaultKind) -> TableAnswer
-    ensures { result ≡ TableAnswer.Fault (record { table = table.Candidates; number = number; kind = kind }) }
-{
-    TableAnswer::Fault(TableFault {
-        table: TableName::Candidates,
-        number,
-        kind,
-    })
-}
-
 // Adds the candidate of a record, or says which of its rules it breaks first.
 fn add_record(
     alloc: Global,
@@ -69,15 +41,16 @@ fn add_record(
 {
     let number = candidates.len() + 2;
     if let Some(kind) = broken_record(MOST_RECORDS, 8, number, row) {
-        return Err(fault(number, kind));
+        return Err(TableAnswer::broken(TableName::Candidates, number, kind));
     }
-    let name = match read_name(row.field(0), candidates) {
+    let text = row.field(0);
+    let name = match new_name(text, candidates.find(text)) {
         Ok(name) => name,
-        Err(kind) => return Err(fault(number, kind)),
+        Err(kind) => return Err(TableAnswer::broken(TableName::Candidates, number, kind)),
     };
     let (ends, figures) = match read_columns(row, points) {
         Ok(columns) => columns,
-        Err(kind) => return Err(fault(number, kind)),
+        Err(kind) => return Err(TableAnswer::broken(TableName::Candidates, number, kind)),
     };
     let candidate = CandidateRecord {
         name: Name::new(alloc, name)?,
@@ -105,7 +78,7 @@ pub fn read_candidates(
 {
     let header = &["name", "kind", "from", "to", "to2", "sd", "sdh", "price"];
     let Some(mut rows) = TableRows::under_header(alloc, bytes, header)? else {
-        return Err(fault(1, FaultKind::Header));
+        return Err(TableAnswer::broken(TableName::Candidates, 1, FaultKind::Header));
     };
     let mut row = TableRow::new(alloc);
     let mut candidates = Candidates::new(alloc);

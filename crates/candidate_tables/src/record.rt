@@ -1,17 +1,23 @@
 use crate::kind::Kind;
 use point_tables::Name;
 
-/// A candidate: its name, its kind, the numbers of the points that it names, its standard
-/// deviation and that of its height in hundredths of a millimetre or of a cc, and its price. An
-/// angle alone has a foresight `to2`, and a vector alone a standard deviation `sdh`.
+/// A candidate for an observation, as a record of the table gives it.
 #[derive(Debug, Drop)]
 pub struct CandidateRecord {
+    /// Its name, which no other candidate has.
     pub name: Name,
     pub kind: Kind,
+    /// The number of the station in the points table, counted from 0: for an angle its vertex.
     pub from: u32,
+    /// The number of the target: for an angle its backsight.
     pub to: u32,
+    /// The number of the foresight, which an angle alone has.
     pub to2: Option<u32>,
+    /// The standard deviation: in hundredths of a millimetre for a distance, a level and the plane part of a vector, in
+    /// hundredths of a cc (400 gon are 4000000 cc) for a direction and an angle.
     pub sd: u32,
+    /// The standard deviation of the height in hundredths of a millimetre, which a vector alone has.
     pub sdh: Option<u32>,
+    /// The price, a whole number up to 1000000000 in the office's own unit.
     pub price: u64,
 }

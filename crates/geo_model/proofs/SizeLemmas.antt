@@ -40,7 +40,8 @@ row-form_small row x bounds narrow =
     let total = bounds.total in
     omega arith
 
-light : (w : ℤ) → pos 1 ≤ℤ w → w ≤ℤ pos 1000000 → unsigned_abs w ≤ 1000000
+-- a weight or a factor is small
+pub light : (w : ℤ) → pos 1 ≤ℤ w → w ≤ℤ pos 1000000 → unsigned_abs w ≤ 1000000
 light w low high = omega (arith, ints)
 
 row_energy-size : (row : RowOf) (x : Displaced) → IsRow row → IsNarrow x → unsigned_abs (row_energy row x) ≤ 1000000 * 2 ^ 76

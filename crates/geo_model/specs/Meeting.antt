@@ -4,6 +4,9 @@ use Rattle.geo_model.specs.Energy.{energy, cost_of, IsWithin}
 use Rattle.geo_model.specs.Limit.{LimitOf, load, IsInForce}
 use Rattle.geo_model.specs.Network.{NetworkOf, IsNetwork, IsLimit}
 
+-- Which limits a plan meets. This project's own form of the usual limits on standard ellipses, heights and redundancy
+-- numbers: an inequality of quadratic forms over all displacements.
+
 -- a plan meets a limit: the inequality holds at every displacement
 abbrev pub MeetsLimit : NetworkOf → List Bool → LimitOf → Type 0
 MeetsLimit network plan limit =

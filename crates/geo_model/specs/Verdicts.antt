@@ -4,6 +4,8 @@ use Rattle.geo_model.specs.Network.{NetworkOf}
 use Rattle.geo_model.specs.declared.verdict.Verdict.{Verdict}
 use Rattle.geo_model.specs.declared.verdict.Verdict.TheVariants.{Met, Refuted}
 
+-- Certified, refuted and unsettled plans. This project's own.
+
 -- what says of a plan and a limit whether the limit is met, refuted or open
 abbrev pub Judge : Type 0
 Judge = List Bool → LimitOf → Verdict

@@ -4,7 +4,9 @@ use std::marker::Model;
 /// A possible observation: its price, and its weighted rows.
 #[derive(Debug, Drop)]
 pub struct Candidate {
+    /// The price, at most 1000000000 in a network.
     pub price: u64,
+    /// The rows: three of a vector, one of any other kind.
     pub rows: Vec<Row>,
 }
 

@@ -9,16 +9,23 @@ use std::marker::Model;
 /// one has a number, from 1, of the layer that put it behind those of the tables.
 #[derive(Clone, Copy, Debug, PartialEq, Eq)]
 pub enum LimitKind {
+    /// The semi-major axis of the standard ellipse of a point, by the point's number from 0.
     Axis(u32),
+    /// The standard deviation of the height of a point, by the point's number from 0.
     Height(u32),
+    /// The redundancy number of a candidate's row, by the candidate's number and the row's, from 0.
     Redundancy(u32, u32),
+    /// A limit that was added, by the number of its layer from 1.
     Added(u32),
 }
 
 /// A weighted square of a linear form, whose entries are columns and coefficients.
 #[derive(Debug, Drop)]
 pub struct Square {
+    /// The weight, from 1 to 10^14.
     pub beta: i128,
+    /// The linear form: columns, which are numbers of unknowns, ascending, and their coefficients,
+    /// none of them 0.
     pub entries: Vec<(u32, i64)>,
 }
 
@@ -34,9 +41,14 @@ impl Model for Square {
 /// squares. A limit with an owner is in force where the owner is chosen.
 #[derive(Debug, Drop)]
 pub struct Limit {
+    /// What it bounds.
     pub kind: LimitKind,
+    /// The number, from 0, of the candidate that owns it.
     pub owner: Option<u32>,
+    /// The factor, from 1 to 1000000: the square of an axis or height limit in tenths of a mm, or
+    /// 1000 less a redundancy limit in thousandths.
     pub alpha: i64,
+    /// The weighted squares, whose sum is the load of a displacement.
     pub squares: Vec<Square>,
 }
 

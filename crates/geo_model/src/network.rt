@@ -9,21 +9,27 @@ use std::marker::Model;
 /// What an unknown is of its point: a coordinate in mm, or the orientation of a station in cc.
 #[derive(Clone, Copy, Debug, PartialEq, Eq)]
 pub enum Component {
+    /// The x coordinate, in mm: along bearing 0.
     X,
+    /// The y coordinate, in mm: along bearing 100 gon.
     Y,
+    /// The height, in mm.
     Z,
+    /// The orientation of the station, in cc, that is 10^-4 gon.
     Turn,
 }
 
 /// An unknown of a network: a component of a point, by the point's number.
 #[derive(Clone, Copy, Debug, PartialEq, Eq)]
 pub struct Unknown {
+    /// The number of the point, from 0.
     pub point: u32,
+    /// What it is of the point.
     pub component: Component,
 }
 
 /// A control network with its possible observations: unknowns, candidates and limits, each by its
-/// number from 0. It keeps the bounds that no sum over it leaves 128 bits.
+/// number from 0. It keeps bounds, so that no sum over it leaves 128 bits.
 #[derive(Debug, Drop)]
 pub struct Network {
     unknowns: Vec<Unknown>,
@@ -45,6 +51,19 @@ impl Network {
     ghost use Rattle.geo_model.specs.Network.{IsNetwork};
 
     /// The network of these lists. It takes no memory.
+    ///
+    /// There are at most 64 unknowns, 256 candidates with at most 512 rows together, and 20000
+    /// limits. Each column of a row or a square is the number of an unknown.
+    ///
+    /// The price of a candidate is at most 1000000000, and its rows are as `Row::new` asks.
+    ///
+    /// The factor of a limit is from 1 to 1000000. Each weight of its squares is from 1 to 10^14;
+    /// columns ascend, and no coefficient is 0. The sum over the squares of the weight times the square
+    /// of the sum of the coefficients' sizes is below 2^90. At a displacement by 1 in one unknown the
+    /// load is at most 2^50, or at most 2^12 times the factor times the energy of all candidates.
+    ///
+    /// An owner is the number of a candidate. Axis and height limits have no owner, and at most one of
+    /// them has a load at a displacement by 1 in one unknown.
     pub fn new(unknowns: Vec<Unknown>, candidates: Vec<Candidate>, limits: Vec<Limit>) -> Network
         requires { IsNetwork (record { unknowns = unknowns.items; candidates = candidates.items; limits = limits.items }) }
         ensures { result ≡ record { unknowns = unknowns.items; candidates = candidates.items; limits = limits.items } }

@@ -64,7 +64,9 @@ impl Plan {
 /// A node of a search: it stands for all plans that contain `inside` and lie in `upper`.
 #[derive(Debug, Drop)]
 pub struct Node {
+    /// The candidates that each of its plans chooses.
     pub inside: Plan,
+    /// The candidates that its plans may choose: those of `inside` are among them.
     pub upper: Plan,
 }
 

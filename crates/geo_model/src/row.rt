@@ -24,6 +24,9 @@ impl Row {
     ghost use Rattle.geo_model.specs.Row.{IsRow};
 
     /// The row of these entries and this weight. It takes no memory.
+    ///
+    /// There are at most 6 entries, columns ascend, no coefficient is 0, each is below 2^21 in size
+    /// and all sizes together are below 2^23. The weight is from 1 to 1000000.
     pub fn new(entries: Vec<(u32, i64)>, weight: i64) -> Row
         requires { IsRow (record { entries = entries.items; weight = weight }) }
         ensures { result ≡ record { entries = entries.items; weight = weight } }

@@ -4,6 +4,7 @@ use Rattle.shelf_io.specs.Files.{Files, with_bytes, with_piece}
 use Rattle.shelf_io.specs.Faults.{Rose, KeepsFaults, write_of}
 use Rattle.shelf_io.proofs.FileLaws.{with_piece-with_bytes}
 use Rattle.geo_model.specs.declared.answer.SearchDone.{SearchDone}
+use Rattle.bound_log.proofs.AllowedLemmas.{cost_allowed}
 use Rattle.bound_log.specs.LogText.{log_text}
 use Rattle.bound_log.proofs.AllowedLemmas.{cost_allowed}
 use Rattle.bound_log.specs.LogTree.{root_of}

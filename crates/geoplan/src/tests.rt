@@ -1,6 +1,7 @@
 //! Whole runs of the program over shelves and sinks in memory, and of the system. What they are to
 //! answer comes from worked examples and from another program.
 mod adapters;
+mod branching;
 mod candidates;
 mod check;
 mod counts;

@@ -81,13 +81,20 @@ fn lines_cut_at_their_ends(rt: HostRuntime) {
     assert_eq!(rt; lines(b"c\n").count(), 1);
 }
 
+// The place where the last token of a line begins.
+fn last_start(line: &[u8]) -> u64 {
+    let mut last = 0;
+    for token in tokens(line) {
+        last = token.start;
+    }
+    last
+}
+
 #[test]
 fn walks_in_a_loop(rt: HostRuntime) {
     let mut last = 0;
     for line in lines(b"s 1\nc\nx 0 1") {
-        for token in tokens(line.text) {
-            last = token.start;
-        }
+        last = last_start(line.text);
     }
     assert_eq!(rt; last, 4);
 }

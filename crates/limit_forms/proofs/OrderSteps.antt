@@ -1,13 +1,12 @@
 -- The order of the unknowns, as it is written place by place.
 use Rattle.std.proofs.Common.{◌≡◌, ℕ, zero, suc, ◌+◌, ◌-◌, ◌<◌, ◌≤◌, cond, Bool, true, false, List, [], ◌∷◌, ◌++◌, length, take, set, refl, sym, ◌∙◌, ap, subst, arith, add-one, add-zero, zero-add, length-append, append_assoc}
-use mathlib.Core.Bool.{beq}
-use Rattle.std.specs.Prelude.{not}
 use Rattle.std.specs.List.{filter, range_with_len}
 use Rattle.std.proofs.lemmas.List.{take_more_set, take_all}
 use Rattle.std.proofs.lemmas.List.Elements.{filter-append}
 use Rattle.std.proofs.lemmas.List.FromFn.{length-range_with_len}
 use Rattle.geo_model.specs.Limit.{SquareOf}
-use Rattle.limit_forms.specs.Grid.{occurs, is_wanted, order_of}
+use Rattle.limit_forms.specs.declared.order.Part.TheVariants.{Loaded, Rest}
+use Rattle.limit_forms.specs.Grid.{occurs, is_in_part, order_of}
 use Rattle.limit_forms.proofs.Orders.{split_length}
 
 range_more : (a n : ℕ) → range_with_len a (suc n) ≡ range_with_len a n ++ (a + n) ∷ []
@@ -79,41 +78,22 @@ fill_left p from old order next i never filled =
       written = filled.written ∙ ap (λ t. take from old ++ t) (sym same);
     }
 
-pub wanted_is : (squares : List SquareOf) (wanted b : Bool) (i : ℕ) → b ≡ occurs squares i → beq b wanted ≡ true → is_wanted squares wanted i ≡ true
-wanted_is squares wanted b i is same = by wanted b (occurs squares i) is same
-  where
-    by : (w b o : Bool) → b ≡ o → beq b w ≡ true → cond w o (not o) ≡ true
-    by true true o e f = sym e
-    by true false o e f = absurd (cc)
-    by false true o e f = absurd (cc)
-    by false false o e f = ap not (sym e)
-
-pub wanted_is_not : (squares : List SquareOf) (wanted b : Bool) (i : ℕ) → b ≡ occurs squares i → beq b wanted ≡ false → is_wanted squares wanted i ≡ false
-wanted_is_not squares wanted b i is apart = by wanted b (occurs squares i) is apart
-  where
-    by : (w b o : Bool) → b ≡ o → beq b w ≡ false → cond w o (not o) ≡ false
-    by true true o e f = absurd (cc)
-    by true false o e f = sym e
-    by false true o e f = ap not (sym e)
-    by false false o e f = absurd (cc)
-
--- ---- both parts
-pub first_room : (n : ℕ) (squares : List SquareOf) → length (filter (is_wanted squares true) (range_with_len 0 n)) ≤ n
+pub first_room : (n : ℕ) (squares : List SquareOf) → length (filter (is_in_part squares Loaded) (range_with_len 0 n)) ≤ n
 first_room n squares =
     let both = split_length (occurs squares) (range_with_len 0 n) in
     let all = length-range_with_len 0 n in
     omega arith
 
-pub second_room : (n : ℕ) (squares : List SquareOf) → length (filter (is_wanted squares true) (range_with_len 0 n)) + length (filter (is_wanted squares false) (range_with_len 0 n)) ≡ n
+pub second_room : (n : ℕ) (squares : List SquareOf) → length (filter (is_in_part squares Loaded) (range_with_len 0 n)) + length (filter (is_in_part squares Rest) (range_with_len 0 n)) ≡ n
 second_room n squares = split_length (occurs squares) (range_with_len 0 n) ∙ length-range_with_len 0 n
 
-pub both_filled : (n filled next : ℕ) (old one two : List ℕ) (squares : List SquareOf) → length two ≡ n → filled ≡ 0 + length (filter (is_wanted squares true) (range_with_len 0 n))
-    → next ≡ filled + length (filter (is_wanted squares false) (range_with_len 0 n)) → take filled one ≡ take 0 old ++ filter (is_wanted squares true) (range_with_len 0 n)
-    → take next two ≡ take filled one ++ filter (is_wanted squares false) (range_with_len 0 n) → two ≡ order_of n squares
+pub both_filled : (n filled next : ℕ) (old one two : List ℕ) (squares : List SquareOf) → length two ≡ n → filled ≡ 0 + length (filter (is_in_part squares Loaded) (range_with_len 0 n))
+    → next ≡ filled + length (filter (is_in_part squares Rest) (range_with_len 0 n)) → take filled one ≡ take 0 old ++ filter (is_in_part squares Loaded) (range_with_len 0 n)
+    → take next two ≡ take filled one ++ filter (is_in_part squares Rest) (range_with_len 0 n) → two ≡ order_of n squares
 unfolding order_of
 both_filled n filled next old one two squares long first second written all =
     let total = second_room n squares in
-    sym (take_all next two (omega arith)) ∙ all ∙ ap (λ t. t ++ filter (is_wanted squares false) (range_with_len 0 n)) (written ∙ none old (filter (is_wanted squares true) (range_with_len 0 n)))
+    sym (take_all next two (omega arith)) ∙ all ∙ ap (λ t. t ++ filter (is_in_part squares Rest) (range_with_len 0 n)) (written ∙ none old (filter (is_in_part squares Loaded) (range_with_len 0 n)))
   where
     none : (old xs : List ℕ) → take 0 old ++ xs ≡ xs
     none [] xs = refl

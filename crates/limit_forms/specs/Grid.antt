@@ -1,6 +1,6 @@
 -- The whole-number grid on which the form of a limit is judged: an order of the unknowns, an exponent for each, and the
 -- two matrices that the form is rounded to, one from below and one from above. This project's own.
-use Rattle.std.specs.Prelude.{◌≡◌, ◌≢◌, ◌==◌, ℕ, ◌<◌, ◌≤◌, ◌^◌, ◌⊎◌, ℤ, pos, ◌-ℤ◌, ◌*ℤ◌, ◌≤ℤ◌, Bool, List, length, map, ◌++◌, unsigned_abs, not, All, if◌then◌else◌, Some, slice_get}
+use Rattle.std.specs.Prelude.{◌≡◌, ◌≢◌, ◌==◌, ℕ, ◌<◌, ◌≤◌, ◌^◌, ◌⊎◌, ℤ, pos, ◌-ℤ◌, ◌*ℤ◌, ◌≤ℤ◌, Bool, List, length, map, ◌++◌, unsigned_abs, not, All, Some, slice_get}
 use Rattle.std.specs.List.{list_any, filter, range_with_len}
 use Rattle.geo_base.specs.Grid.{exponent_of}
 use Rattle.whole_algebra.specs.Matrices.{lower_over, upper_over}
@@ -8,9 +8,12 @@ use Rattle.whole_algebra.specs.Grid.{scaled, packed}
 use Rattle.geo_model.specs.Row.{Entries, unit_at}
 use Rattle.geo_model.specs.Candidate.{CandidateOf}
 use Rattle.geo_model.specs.Energy.{full_energy}
-use Rattle.geo_model.specs.Limit.{SquareOf, load}
+use Rattle.geo_model.specs.Limit.{SquareOf, IsLoad, load}
 use Rattle.geo_model.specs.Network.{NetworkOf}
 use Rattle.normal_matrix.specs.Entries.{normal_entry, HasEachOnce}
+use Rattle.normal_matrix.specs.Normal.{NormalOf, IsNormalOf}
+use Rattle.limit_forms.specs.declared.order.Part.{Part}
+use Rattle.limit_forms.specs.declared.order.Part.TheVariants.{Loaded, Rest}
 use Rattle.limit_forms.specs.Form.{load_entry, form_of, full_entry}
 
 -- whether an unknown occurs in the squares
@@ -20,9 +23,10 @@ has_column entries unknown = list_any (λ entry. entry.0 == unknown) entries
 abbrev pub occurs : List SquareOf → ℕ → Bool
 occurs squares unknown = list_any (λ square. has_column square.entries unknown) squares
 
--- whether an unknown is one of those that occur in the squares, or of those that do not
-abbrev pub is_wanted : List SquareOf → Bool → ℕ → Bool
-is_wanted squares wanted unknown = if wanted then occurs squares unknown else not (occurs squares unknown)
+-- whether an unknown is in a part: in that of those that occur in the squares, or in that of the others
+abbrev pub is_in_part : List SquareOf → Part → ℕ → Bool
+is_in_part squares Loaded unknown = occurs squares unknown
+is_in_part squares Rest unknown = not (occurs squares unknown)
 
 -- the order of a limit's unknowns: those that occur in its squares, ascending, then the rest, ascending
 unfoldable pub order_of : ℕ → List SquareOf → List ℕ
@@ -72,6 +76,13 @@ lower_grid network plan alpha squares = lower_over grid_step (on_grid network pl
 
 unfoldable pub upper_grid : NetworkOf → List Bool → ℤ → List SquareOf → List (List ℤ)
 upper_grid network plan alpha squares = upper_over grid_step (on_grid network plan alpha squares)
+
+-- what the rows of both grid matrices are made of: the normal matrix of a plan, and the grid, the factor and the squares
+-- of a limit
+pub record IsFormOnGrid (network : NetworkOf) (normal : NormalOf) (grid : GridOf) (alpha : ℤ) (squares : List SquareOf) : Type 0 where
+  pub normal_made : IsNormalOf network normal
+  pub load : IsLoad (length network.unknowns) network.candidates alpha squares
+  pub grid_made : grid ≡ grid_of network alpha squares
 
 -- a grid of at most 64 unknowns: each stands at one place, and has an exponent
 pub record IsGrid (grid : GridOf) : Type 0 where

@@ -1,7 +1,7 @@
 //! The order of the unknowns.
 ghost use Rattle.std.specs.Prelude.{◌≡◌, ◌+◌, ◌<◌, ◌≤◌, length, take, ◌++◌};
 ghost use Rattle.std.specs.List.{filter, range_with_len};
-ghost use Rattle.limit_forms.specs.Grid.{has_column, occurs, order_of, is_wanted};
+ghost use Rattle.limit_forms.specs.Grid.{has_column, occurs, order_of, is_in_part};
 
 use geo_model::Square;
 
@@ -24,17 +24,34 @@ fn is_loaded(squares: &[Square], unknown: u32) -> bool
     false
 }
 
-// Writes the unknowns that occur in the squares, or those that do not, from place `from` on, and
-// answers the place after them.
-fn fill(order: &mut [u32], squares: &[Square], from: usize, wanted: bool) -> usize
+/// The unknowns that occur in the squares of a limit, or the others.
+#[derive(Clone, Copy, Debug, PartialEq, Eq)]
+pub enum Part {
+    Loaded,
+    Rest,
+}
+
+// Whether an unknown is in a part.
+fn is_in_part(squares: &[Square], part: Part, unknown: u32) -> bool
+    ensures { result ≡ is_in_part squares.now part unknown }
+{
+    let loaded = is_loaded(squares, unknown);
+    match part {
+        Part::Loaded => loaded,
+        Part::Rest => !loaded,
+    }
+}
+
+// Writes the unknowns of a part from place `from` on, and answers the place after them.
+fn fill(order: &mut [u32], squares: &[Square], from: usize, part: Part) -> usize
     requires few { length order.old ≤ 64 }
-    requires room { from + length (filter (is_wanted squares.now wanted) (range_with_len 0 (length order.old))) ≤ length order.old }
-    ensures next { result ≡ from + length (filter (is_wanted squares.now wanted) (range_with_len 0 (length order.old))) }
-    ensures written { take result order.new ≡ take from order.old ++ filter (is_wanted squares.now wanted) (range_with_len 0 (length order.old)) }
+    requires room { from + length (filter (is_in_part squares.now part) (range_with_len 0 (length order.old))) ≤ length order.old }
+    ensures next { result ≡ from + length (filter (is_in_part squares.now part) (range_with_len 0 (length order.old))) }
+    ensures written { take result order.new ≡ take from order.old ++ filter (is_in_part squares.now part) (range_with_len 0 (length order.old)) }
 {
     let mut next = from;
     for unknown in 0..order.len() {
-        if is_loaded(squares, unknown as u32) == wanted {
+        if is_in_part(squares, part, unknown as u32) {
             order[next] = unknown as u32;
             next += 1;
         }
@@ -47,6 +64,6 @@ pub fn take_order(order: &mut [u32], squares: &[Square])
     requires { length order.old ≤ 64 }
     ensures { order.new ≡ order_of (length order.old) squares.now }
 {
-    let filled = fill(order, squares, 0, true);
-    let _all = fill(order, squares, filled, false);
+    let filled = fill(order, squares, 0, Part::Loaded);
+    let _all = fill(order, squares, filled, Part::Rest);
 }

@@ -41,6 +41,14 @@ fn square_of(alloc: Global, unknown: u32) -> Result<Vec<Square>, NoMemory>
     Ok(vec![in alloc; Square { beta: 1, entries }]?)
 }
 
+// The square of weight 1 of the sum of both unknowns' displacements.
+fn square_of_both(alloc: Global) -> Result<Vec<Square>, NoMemory>
+    ensures { IfOk result (λ squares. squares.items ≡ record { beta = pos 1; entries = (0, pos 1) ∷ (1, pos 1) ∷ [] } ∷ []) }
+{
+    let entries = vec![in alloc; (0, 1), (1, 1)]?;
+    Ok(vec![in alloc; Square { beta: 1, entries }]?)
+}
+
 #[test]
 fn a_grid_of_two_unknowns(rt: HostRuntime) -> Result<(), NoMemory> {
     let network = two_levels(rt.alloc())?;
@@ -64,5 +72,40 @@ fn a_grid_of_two_unknowns(rt: HostRuntime) -> Result<(), NoMemory> {
     );
     assert_eq!(rt; lower, [390624999999999999, -390625000000000000]);
     assert_eq!(rt; upper, [390625000000000000, -390625000000000000]);
+    Ok(())
+}
+
+// The entry beside the diagonal is not whole, so it is rounded down in both matrices, and counts in
+// the slack of both rows.
+#[test]
+fn a_grid_with_slack(rt: HostRuntime) -> Result<(), NoMemory> {
+    let network = two_levels(rt.alloc())?;
+    let mut normal = Normal::new(rt.alloc(), &network)?;
+    normal.add(&network, 0);
+    normal.add(&network, 1);
+    let squares = square_of_both(rt.alloc())?;
+    let limit = squares.as_slice();
+    let grid = LimitGrid::new(rt.alloc(), &network, 1000000, limit)?;
+    let mut lower = [0i128; 2];
+    let mut upper = [0i128; 2];
+    grid_row(
+        &network, &normal, &grid, 1000000, limit, 0, &mut lower, &mut upper,
+    );
+    assert_eq!(rt; lower, [781249999999999998, -390625000000000001]);
+    assert_eq!(rt; upper, [781250000000000001, -390625000000000001]);
+    let mut last_lower = [0i128; 1];
+    let mut last_upper = [0i128; 1];
+    grid_row(
+        &network,
+        &normal,
+        &grid,
+        1000000,
+        limit,
+        1,
+        &mut last_lower,
+        &mut last_upper,
+    );
+    assert_eq!(rt; last_lower, [390624999999999998]);
+    assert_eq!(rt; last_upper, [390625000000000001]);
     Ok(())
 }

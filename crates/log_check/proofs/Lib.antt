@@ -1,4 +1,6 @@
+pub mod EveryText
 pub mod HeightNetworks
+pub mod JudgeLemmas
 pub mod PlaceLemmas
 pub mod ReachLemmas
 pub mod RuleLemmas

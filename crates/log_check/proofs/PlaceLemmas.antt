@@ -3,7 +3,7 @@ use Rattle.std.proofs.Common.{◌≡◌, ℕ, ◌+◌, ◌-◌, ◌<◌, ◌≤�
 use Rattle.std.specs.Prelude.{slice_get, slice_set}
 use Rattle.std.proofs.lemmas.Bool.{eqb-true, eq-eqb}
 use Rattle.std.proofs.lemmas.List.{take_more_set, take_more, drop_more, get_or-replicate, length-replicate, length-drop, length-set, drop-set}
-use Rattle.std.proofs.lemmas.List.Elements.{All-set, All-from_get_or}
+use Rattle.std.proofs.lemmas.List.Elements.{All-set}
 use Rattle.std.proofs.lemmas.Option.{get_or_from_slice_get, slice_get-get_or}
 use Rattle.std.proofs.Math.ListN.{drop_of_length-le}
 use Rattle.std.proofs.Math.Seq.{take-length}
@@ -38,16 +38,6 @@ copied_all from to n long also same =
 
 all_plans_long : (count : ℕ) → HasEntries count (all_plans count)
 all_plans_long count = record { inside_long = length-replicate count false; upper_long = length-replicate count true }
-
-pub places_are_made : (count : ℕ) (places : List Node) (spare : Node) → places ≡ replicate 257 (all_plans count) → spare ≡ all_plans count → ArePlaces count places spare 256
-places_are_made count places spare made whole = record {
-  many = ap length made ∙ length-replicate 257 (all_plans count);
-  within = omega arith;
-  long = subst (All (HasEntries count)) (sym made) (All-from_get_or (HasEntries count) (replicate 257 (all_plans count)) (all_plans count)
-      (λ k inside. let below : k < 257 = omega (arith, length-replicate 257 (all_plans count)) in
-      subst (HasEntries count) (sym (get_or-replicate 257 k (all_plans count) (all_plans count) below)) (all_plans_long count)));
-  spare_long = subst (HasEntries count) (sym whole) (all_plans_long count);
-}
 
 -- the last place holds the one open node
 pub last_place : {X : Type 0} (places : List X) (x : X) (n : ℕ) → places ≡ replicate (n + 1) x → drop n places ≡ x ∷ []

@@ -59,7 +59,7 @@ next_line text line more are = record {
   walked = walked_on text line.text line.ended more are;
 }
 
-ended_bytes : (line : TextLineOf) → line.ended ≡ true → line_bytes line ≡ line.text ++ line_end
+pub ended_bytes : (line : TextLineOf) → line.ended ≡ true → line_bytes line ≡ line.text ++ line_end
 ended_bytes line is = ap (λ (e : Bool). if e then line.text ++ line_feed ∷ [] else line.text) is
 
 -- ---- the first line
@@ -81,6 +81,17 @@ reaches_start network text walk progress are count stands =
 
 -- ---- one more line
 
+-- the next line of what is left is one more of the lines before it
+pub one_more_line : (text : List ℕ) (lines : List LineOf) (left rest : List ℕ) (line : LineOf) → text ≡ head_text ++ (lines_text lines ++ left) → left ≡ line_text line ++ rest → text ≡ head_text ++ (lines_text (lines ++ line ∷ []) ++ rest)
+one_more_line text lines left rest line spelled begins =
+    let all : lines_text (lines ++ line ∷ []) ≡ lines_text lines ++ line_text line =
+    flat_map-append line_text lines (line ∷ []) ∙ ap (λ (t : List ℕ). lines_text lines ++ t) (append-nil (line_text line)) in
+    spelled
+    ∙ ap (λ (t : List ℕ). head_text ++ t)
+    (ap (λ (t : List ℕ). lines_text lines ++ t) begins
+    ∙ sym (append_assoc (lines_text lines) (line_text line) rest)
+    ∙ ap (λ (t : List ℕ). t ++ rest) (sym all))
+
 stands_next : (network : NetworkOf) (lines : List LineOf) (node : Node) (rest : List Node) (line : LineOf) (before now : Progress) → StandsAt network lines before.stack.nodes before.bound before.counts → before.stack.nodes ≡ node ∷ rest → IsAllowedLine network node line → Takes node rest line (line_bound network node line) before now → StandsAt network (lines ++ line ∷ []) now.stack.nodes now.bound now.counts
 stands_next network lines node rest line before now stands top allowed takes =
     let root : List Node = root_of network ∷ [] in
@@ -100,16 +111,10 @@ reaches_next network text line more before now number reached taken =
     let next = next_line reached.left line more (sym reached.walked) in
     let left : reached.left ≡ line_text read ++ next.left =
     next.spelled ∙ ap (λ (b : List ℕ). b ++ next.left) (ended_bytes line taken.with_end ∙ taken.spelled.spelled) in
-    let all : lines_text (lines ++ read ∷ []) ≡ lines_text lines ++ line_text read =
-    flat_map-append line_text lines (read ∷ []) ∙ ap (λ (t : List ℕ). lines_text lines ++ t) (append-nil (line_text read)) in
     record {
       lines = lines ++ read ∷ [];
       left = next.left;
-      spelled = reached.spelled
-          ∙ ap (λ (t : List ℕ). head_text ++ t)
-          (ap (λ (t : List ℕ). lines_text lines ++ t) left
-          ∙ sym (append_assoc (lines_text lines) (line_text read) next.left)
-          ∙ ap (λ (t : List ℕ). t ++ next.left) (sym all));
+      spelled = one_more_line text lines reached.left next.left read reached.spelled left;
       walked = next.walked;
       stands = stands_next network lines taken.node taken.rest read before now reached.stands taken.top taken.allowed taken.takes;
       count = ap (λ o. o.candidates) taken.takes.stack ∙ reached.count;
@@ -121,10 +126,10 @@ reaches_next network text line more before now number reached taken =
 left_some : (left : List ℕ) (line : TextLineOf) (more : List TextLineOf) → line ∷ more ≡ lines_of left → left ≡ [] → ⊥
 left_some left line more walked none = let same : line ∷ more ≡ [] = walked ∙ ap lines_of none in absurd (cc)
 
-left_none : (left : List ℕ) → [] ≡ lines_of left → left ≡ []
+pub left_none : (left : List ℕ) → [] ≡ lines_of left → left ≡ []
 left_none left walked = sym (lines_of-joined left) ∙ ap (flat_map line_bytes) (sym walked)
 
-not_whole : (network : NetworkOf) (lines : List LineOf) (nodes : List Node) → LeadsTo network (root_of network ∷ []) lines nodes → (nodes ≡ [] → ⊥) → IsWhole network lines → ⊥
+pub not_whole : (network : NetworkOf) (lines : List LineOf) (nodes : List Node) → LeadsTo network (root_of network ∷ []) lines nodes → (nodes ≡ [] → ⊥) → IsWhole network lines → ⊥
 not_whole network lines nodes leads some whole = some (one_final network (root_of network ∷ []) nodes [] lines leads (whole_leads network lines whole))
 
 no_grammar : (left : List ℕ) (line : TextLineOf) (more : List TextLineOf) → line ∷ more ≡ lines_of left → (line.ended ≡ true → (l : LineOf) → IsLine line.text l → ⊥) → (l : LineOf) (rest : List ℕ) → BeginsWithLine left l rest → ⊥
@@ -133,7 +138,7 @@ no_grammar left line more walked lacks l rest begins =
     let first : line ≡ text_line l = cc in
     lacks (ap (λ t. t.ended) first) l (subst (λ (t : List ℕ). IsLine t l) (sym (ap (λ t. t.text) first)) (IsLine-body l begins.numbers))
 
-stopped_after : (network : NetworkOf) (lines : List LineOf) (nodes : List Node) (left : List ℕ) (line : TextLineOf) (more : List TextLineOf) (kind : LogKind) → LeadsTo network (root_of network ∷ []) lines nodes → line ∷ more ≡ lines_of left → Stops network nodes line.text line.ended kind → IsFaultAfter network lines left kind
+pub stopped_after : (network : NetworkOf) (lines : List LineOf) (nodes : List Node) (left : List ℕ) (line : TextLineOf) (more : List TextLineOf) (kind : LogKind) → LeadsTo network (root_of network ∷ []) lines nodes → line ∷ more ≡ lines_of left → Stops network nodes line.text line.ended kind → IsFaultAfter network lines left kind
 stopped_after network lines nodes left line more kind leads walked (no_node is none) =
     extra is (leads_whole network lines (subst (λ (n : List Node). LeadsTo network (root_of network ∷ []) lines n) none leads)) (left_some left line more walked)
 stopped_after network lines nodes left line more kind leads walked (no_line is some lacks) =
@@ -198,6 +203,3 @@ number_small network text walk progress number reached =
     let all = length-append head_text (lines_text reached.lines ++ reached.left) in
     let part = length-append (lines_text reached.lines) reached.left in
     omega (arith, lines_short reached.lines, reached.numbered)
-
-pub stands_start : (network : NetworkOf) (progress : Progress) → progress.stack.nodes ≡ root_of network ∷ [] → progress.bound ≡ bound_along network (root_of network ∷ []) [] → progress.counts ≡ counts_of [] → StandsAt network [] progress.stack.nodes progress.bound progress.counts
-stands_start network progress nodes bound counts = record { leads = sym nodes; least = bound; counted = counts }

@@ -3,19 +3,25 @@ ghost use Rattle.log_check.specs.declared.fault.ReplayAnswer.TheVariants as repl
 
 use geo_base::NoMemory as WantOfMemory;
 
-/// What the first fault of a text is, in the order in which it is looked for: a line after the whole
-/// tree; a line outside the grammar, or without its LF; a number out of its range; a split on a
-/// candidate that its node doesn't leave open; a limit whose owner isn't chosen; a limit that doesn't
-/// refute its node; a cut that holds. Or the text ends before the tree does.
+/// What the first fault of a text is. The kinds of a line's fault stand in the order in which they are
+/// looked for.
 #[derive(Clone, Copy, Debug, PartialEq, Eq)]
 pub enum LogKind {
+    /// A line after the whole tree.
     Extra,
+    /// A line outside the grammar, or without its LF; the first line is another than a log's.
     Form,
+    /// The number of a candidate or of a limit is out of its range.
     Range,
+    /// A split on a candidate that its node has chosen or left out already.
     NotOpen,
+    /// A limit that isn't in force: its owner isn't chosen at the node.
     Owner,
+    /// A limit that doesn't refute its node.
     NotRefuted,
+    /// A cut that holds. No line names a cut as yet.
     CutHolds,
+    /// The text ends before the tree does.
     Short,
 }
 
@@ -27,7 +33,7 @@ pub struct LogFault {
     pub kind: LogKind,
 }
 
-/// Why a text was not replayed.
+/// Why a text was not replayed: its first fault, or want of memory, which says nothing of the text.
 #[derive(Clone, Copy, Debug, PartialEq, Eq)]
 pub enum ReplayAnswer {
     Fault(LogFault),

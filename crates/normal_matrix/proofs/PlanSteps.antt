@@ -18,9 +18,10 @@ use Rattle.whole_algebra.proofs.SumLaws.{int_sum_by-same}
 use Rattle.geo_model.specs.Row.{RowOf, IsRow}
 use Rattle.geo_model.specs.Candidate.{CandidateOf, IsCandidate}
 use Rattle.geo_model.specs.Network.{NetworkOf, IsNetwork}
+use Rattle.geo_model.proofs.SizeLemmas.{light}
 use Rattle.normal_matrix.specs.Entries.{coefficient, row_entry, candidate_entry, normal_entry}
 use Rattle.normal_matrix.specs.Normal.{NormalOf, IsNormalOf}
-use Rattle.normal_matrix.proofs.RowSteps.{light, rows_size}
+use Rattle.normal_matrix.proofs.RowSteps.{rows_size}
 
 -- what a candidate adds where it is chosen
 abbrev pub part_entry : Bool → CandidateOf → ℕ → ℕ → ℤ

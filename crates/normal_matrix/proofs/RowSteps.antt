@@ -1,5 +1,5 @@
 -- Triangles to which the products of a row are added, entry by entry.
-use Rattle.std.proofs.Common.{◌≡◌, ◌≢◌, ℕ, zero, suc, ◌+◌, ◌-◌, ◌*◌, ◌^◌, ◌<◌, ◌≤◌, inl, inr, ℤ, pos, ◌+ℤ◌, ◌*ℤ◌, ◌≤ℤ◌, List, [], ◌∷◌, length, take, get_or, refl, sym, ◌∙◌, ap, subst, arith, lit<}
+use Rattle.std.proofs.Common.{◌≡◌, ◌≢◌, ℕ, zero, suc, ◌+◌, ◌-◌, ◌*◌, ◌^◌, ◌<◌, ◌≤◌, inl, inr, ℤ, pos, ◌+ℤ◌, ◌*ℤ◌, List, [], ◌∷◌, length, take, get_or, refl, sym, ◌∙◌, ap, subst, arith, lit<}
 use Rattle.std.specs.Prelude.{All, AllPairs, unsigned_abs, slice_set}
 use Rattle.std.proofs.lemmas.Int.{ints}
 use Rattle.std.proofs.lemmas.List.{get_or-set_same, get_or-set_other}
@@ -11,6 +11,7 @@ use Rattle.whole_algebra.proofs.Normal.{ring, x0, x1, x2, x3, x4, lit, ◌⊕◌
 use Rattle.lent_parts.specs.Triangle.{IsTri, tri_row}
 use Rattle.lent_parts.proofs.Triangles.{length-IsTri, length-tri_row}
 use Rattle.geo_model.specs.Row.{Entries, RowOf, IsRow, total_size, unit_at}
+use Rattle.geo_model.proofs.SizeLemmas.{light}
 use Rattle.normal_matrix.specs.Entries.{coefficient, row_entry}
 use Rattle.whole_algebra.proofs.Order.{size-add, size-mul}
 use Rattle.normal_matrix.proofs.SumSteps.{int_sum_by-more, same_or_apart, coefficient-more_here, coefficient-more_elsewhere, coefficient-size, coefficient-take-size, unit_at-same, unit_at-other}
@@ -87,10 +88,6 @@ row_step n old rows weight entries q d line shape inside below so_far written i 
           ∙ so_far i j le lt
           ∙ ap (λ t. entry old i j +ℤ weight *ℤ (t *ℤ coefficient entries j)) (sym (coefficient-more_elsewhere entries q i d inside (λ e. apart (sym e))))
     ]
-
--- a weight is small
-pub light : (weight : ℤ) → pos 1 ≤ℤ weight → weight ≤ℤ pos 1000000 → unsigned_abs weight ≤ 1000000
-light weight low high = omega (arith, ints)
 
 -- a column that no entry has
 no_column : (entries : Entries) (i : ℕ) → All (λ entry. i < entry.0) entries → coefficient entries i ≡ pos 0

@@ -1,6 +1,7 @@
 //! The normal matrix of the chosen candidates of a network, kept exact while candidates come and go.
 #![tactic(auto)]
 
+mod change;
 mod laws;
 mod normal;
 mod sums;

@@ -3,6 +3,7 @@ ghost use Rattle.geo_model.specs.Network.{NetworkOf, IsNetwork};
 ghost use Rattle.normal_matrix.specs.Entries.{normal_entry};
 ghost use Rattle.normal_matrix.specs.Normal.{IsNormalOf};
 
+use crate::change::Change;
 use crate::sums::{add_rows, entry_of};
 use geo_base::NoMemory;
 use geo_model::{Network, Plan};
@@ -49,7 +50,7 @@ impl Normal {
         ensures plan { self.new.plan ≡ slice_set self.old.plan i true }
     {
         let candidate = &network.candidates()[i as usize];
-        add_rows(&mut self.sums, candidate.rows.as_slice(), 1);
+        add_rows(&mut self.sums, candidate.rows.as_slice(), Change::Add);
         self.plan.set(i, true);
     }
 
@@ -61,7 +62,7 @@ impl Normal {
         ensures plan { self.new.plan ≡ slice_set self.old.plan i false }
     {
         let candidate = &network.candidates()[i as usize];
-        add_rows(&mut self.sums, candidate.rows.as_slice(), -1);
+        add_rows(&mut self.sums, candidate.rows.as_slice(), Change::Remove);
         self.plan.set(i, false);
     }
 

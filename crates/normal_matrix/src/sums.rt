@@ -5,22 +5,24 @@ ghost use Rattle.whole_algebra.specs.Matrices.{at};
 ghost use Rattle.whole_algebra.specs.Grid.{entry};
 ghost use Rattle.lent_parts.specs.Triangle.{IsTri};
 ghost use Rattle.geo_model.specs.Row.{IsRow, total_size};
+ghost use Rattle.normal_matrix.specs.Changes.{sign_of};
 ghost use Rattle.normal_matrix.specs.Entries.{coefficient, row_entry};
 
+use crate::change::Change;
 use geo_model::Row;
 use lent_parts::Tri;
 
-/// Adds the weighted products of rows to a triangle, or takes them off where `sign` is -1.
-pub fn add_rows(sums: &mut Tri, rows: &[Row], sign: i64)
+/// Adds the weighted products of rows to a triangle, or takes them off.
+pub fn add_rows(sums: &mut Tri, rows: &[Row], change: Change)
     requires shape { IsTri (length sums.old) sums.old }
     requires size { (i j : ℕ) → i ≤ j → j < length sums.old → unsigned_abs (entry sums.old i j) ≤ 2 ^ 100 }
     requires few { length rows.now ≤ 512 }
     requires each_row { All IsRow rows.now }
     requires columns { All (λ row. All (λ entry. entry.0 < length sums.old) row.entries) rows.now }
-    requires sign { unsigned_abs sign ≡ 1 }
     ensures shape { IsTri (length sums.old) sums.new }
-    ensures sum { (i j : ℕ) → i ≤ j → j < length sums.old → entry sums.new i j ≡ entry sums.old i j +ℤ sign *ℤ int_sum_by (λ row. row_entry row i j) rows.now }
+    ensures sum { (i j : ℕ) → i ≤ j → j < length sums.old → entry sums.new i j ≡ entry sums.old i j +ℤ sign_of change *ℤ int_sum_by (λ row. row_entry row i j) rows.now }
 {
+    let sign = change.sign();
     for row in rows {
         add_row(sums, row.entries(), sign * row.weight());
     }

@@ -32,7 +32,7 @@ one_step_more side n len t rows matrix row new first shape le lt long known pivo
     placed : (k n len t : ℕ) → k ≡ (n - len) - t → k - 1 ≡ (n - len) - (t + 1)
     placed k n len t e = omega arith
 
-pub size_more : (old new : ℤ) (t : ℕ) → unsigned_abs old ≤ 2 ^ 110 + t * 2 ^ 62 → unsigned_abs new ≤ unsigned_abs old + 2 ^ 62 → unsigned_abs new ≤ 2 ^ 110 + (t + 1) * 2 ^ 62
+pub size_more : (old new : ℤ) (t : ℕ) → unsigned_abs old ≤ 2 ^ 109 + t * 2 ^ 62 → unsigned_abs new ≤ unsigned_abs old + 2 ^ 62 → unsigned_abs new ≤ 2 ^ 109 + (t + 1) * 2 ^ 62
 size_more old new t h g = omega arith
 
 pub head_more : (old new : ℤ) (t : ℕ) → old ≤ℤ pos (2 ^ 60 + 64 + t * 64) → new ≤ℤ (old +ℤ pos 64) → new ≤ℤ pos (2 ^ 60 + 64 + (t + 1) * 64)

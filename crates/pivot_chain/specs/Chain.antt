@@ -17,9 +17,9 @@ pub record StopsAt (steps : List Step) (stop : Stop) : Type 0 where
   pub place : stop.step ≡ stop_place steps
   pub number : stop.value ≡ stop_value steps
 
--- a triangle of at most 64 rows with entries below 2 ^ 110 in size and heads of at most 2 ^ 60 + 64
+-- a triangle of at most 64 rows with entries below 2 ^ 109 in size and heads of at most 2 ^ 60 + 64
 pub record IsSmall (matrix : List (List ℤ)) : Type 0 where
   pub shape : IsTriangle (length matrix) matrix
   pub few : length matrix ≤ 64
-  pub each_size : (i k : ℕ) → unsigned_abs (at (row_at matrix i) k) < 2 ^ 110
+  pub each_size : (i k : ℕ) → unsigned_abs (at (row_at matrix i) k) < 2 ^ 109
   pub heads : (i : ℕ) → at (row_at matrix i) 0 ≤ℤ pos (2 ^ 60 + 64)

@@ -1,5 +1,6 @@
--- A step of a chain on one row below the pivot's, as code reckons it: the row of the pivot is all that it reads.
--- This project's own.
+-- A step of a chain on one row below the pivot's, in the words of the private functions that take it: from `taken` on
+-- these say how a step is reckoned from the row of the pivot alone, and serve the proofs. What a step is stands in
+-- `Chains` of whole_algebra. This project's own.
 use Rattle.std.specs.Prelude.{ℕ, zero, suc, ◌+◌, ◌-◌, ◌^◌, ◌≤◌, List, length, ℤ, pos, ◌+ℤ◌, ◌-ℤ◌, ◌*ℤ◌, neg_ℤ, ◌≤ℤ◌, ◌<ℤ◌, unsigned_abs, IsFalse}
 use Rattle.whole_algebra.specs.Rounding.{floor_over, gap_over}
 use Rattle.whole_algebra.specs.Matrices.{at, lower_over, upper_over}

@@ -1,4 +1,4 @@
-ghost use Rattle.std.specs.Prelude.{◌≡◌, ℕ, ◌+◌, ◌-◌, ◌<◌, ◌≤◌, ◌^◌, ℤ, pos, ◌≤ℤ◌, List, length, unsigned_abs, IsFalse, IsNone, MatchOption};
+ghost use Rattle.std.specs.Prelude.{◌≡◌, ℕ, ◌+◌, ◌-◌, ◌<◌, ◌≤◌, ◌^◌, ℤ, pos, ◌≤ℤ◌, List, length, unsigned_abs, IsFalse, IsNone, IfSome, MatchOption};
 ghost use Rattle.whole_algebra.specs.Matrices.{at, IsTriangle};
 ghost use Rattle.whole_algebra.specs.Chains.{stops, matrix_after};
 ghost use Rattle.whole_algebra.specs.Grid.{row_at};
@@ -9,20 +9,25 @@ ghost use Rattle.pivot_chain.specs.Chain.{chain_of, StopsAt, IsSmall};
 use crate::{Side, stop_of, take_step};
 use lent_parts::Tri;
 
-/// Where a chain stops: at which step, counted from 1, and the number that stops it.
+/// Where a chain stops.
 #[derive(Clone, Copy, Debug, PartialEq, Eq)]
 pub struct Stop {
+    /// The step, counted from 1.
     pub step: u32,
+    /// The number that stops it, at most 0: the head of the step's row, or `- 2^61` where the head is
+    /// above 0 and a number beside it is too large.
     pub value: i128,
 }
 
 /// Runs a chain of a matrix, a row after another, and answers where it stops. The first rows of the
-/// matrices that its steps leave are put in `rows`; in `matrix` each row becomes that row.
+/// matrices that its steps leave are put in `rows`, up to the row of the step that stops, if one
+/// does; what `rows` holds below it, and in `matrix`, is of no use afterwards.
 pub fn run_chain(side: Side, matrix: &mut Tri, rows: &mut Tri) -> Option<Stop>
     requires small { IsSmall matrix.old }
     requires room { IsTri (length matrix.old) rows.old }
     ensures stop { MatchOption result (IsFalse (stops (chain_of side matrix.old))) (λ stop. StopsAt (chain_of side matrix.old) stop) }
     ensures rows { IsNone result → (k : ℕ) → k < length matrix.old → tri_row rows.new k ≡ row_at (matrix_after (over_of side) k matrix.old) 0 }
+    ensures stopped { IfSome result (λ stop. (k : ℕ) → k < stop.step → tri_row rows.new k ≡ row_at (matrix_after (over_of side) k matrix.old) 0) }
     ensures matrix_shape { IsTri (length matrix.old) matrix.new }
     ensures rows_shape { IsTri (length matrix.old) rows.new }
 {
@@ -42,7 +47,7 @@ fn take_steps(side: Side, row: &mut [i128], rows: &Tri)
     requires some { 0 < length row.old }
     requires room { length row.old ≤ length rows.now }
     requires pivots { (t : ℕ) → t < length rows.now - length row.old → IsPivotRow (tri_row rows.now t) }
-    requires size { (m : ℕ) → unsigned_abs (at row.old m) < 2 ^ 110 }
+    requires size { (m : ℕ) → unsigned_abs (at row.old m) < 2 ^ 109 }
     requires head { at row.old 0 ≤ℤ pos (2 ^ 60 + 64) }
     ensures exact { (matrix : List (List ℤ)) → IsTriangle (length rows.now) matrix
         → ((t : ℕ) → t < length rows.now - length row.old → row_at (matrix_after (over_of side) t matrix) 0 ≡ tri_row rows.now t)

@@ -10,7 +10,8 @@ use crate::Side;
 use psd_cert::quotient;
 
 /// Takes one step of a chain on a row, from its diagonal on: `pivot` is the first row of a matrix,
-/// and `row` a later one. It becomes the same row of the smaller matrix that the step leaves.
+/// and `row` a later one. It becomes the same row of the smaller matrix that the step leaves. A step
+/// adds at most `2^62` in size to an entry, and at most 64 to the head.
 pub fn take_step(side: Side, row: &mut [i128], pivot: &[i128])
     requires pivot { IsPivotRow pivot.now }
     requires some { 0 < length row.old }

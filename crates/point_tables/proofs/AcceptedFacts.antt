@@ -6,9 +6,9 @@ use Rattle.table_rows.specs.Faults.{first_broken}
 use Rattle.table_rows.proofs.FaultFacts.{both-kept, each-kept}
 use Rattle.point_tables.specs.declared.record.PointRecord.{PointRecord}
 use Rattle.point_tables.specs.Accepted.{ArePoints, IsAccepted}
-use Rattle.point_tables.specs.Columns.{name_rules}
+use Rattle.point_tables.specs.Columns.{name_at, name_rules}
 use Rattle.point_tables.specs.Names.{is_among}
-use Rattle.point_tables.specs.PointTable.{name_at, names_of, point_of, rules_after}
+use Rattle.point_tables.specs.PointTable.{names_of, point_of, rules_after}
 use Rattle.point_tables.proofs.RecordFacts.{record-few}
 use Rattle.point_tables.proofs.StoredFacts.{apart-push}
 

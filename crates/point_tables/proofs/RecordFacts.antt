@@ -10,9 +10,9 @@ use Rattle.point_tables.specs.declared.fault.FaultKind.{FaultKind}
 use Rattle.point_tables.specs.declared.fault.FaultKind.TheVariants as kind
 use Rattle.point_tables.specs.declared.record.PointRecord.{PointRecord}
 use Rattle.point_tables.specs.Accepted.{IsAccepted, is_absent}
-use Rattle.point_tables.specs.Columns.{name_rules, record_rules}
+use Rattle.point_tables.specs.Columns.{name_at, name_rules, record_rules}
 use Rattle.point_tables.specs.Names.{is_among, is_name}
-use Rattle.point_tables.specs.PointTable.{column_rules, name_at, names_of, point_of, points_table, rules_after}
+use Rattle.point_tables.specs.PointTable.{column_rules, names_of, point_of, points_table, rules_after}
 use Rattle.point_tables.specs.Read.{IsColumns, IsNewName}
 
 -- ---- the rules of a name

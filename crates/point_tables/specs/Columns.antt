@@ -20,6 +20,10 @@ rule broken kind = record { broken = broken; kind = kind }
 abbrev pub text_at : List (List ℕ) → ℕ → List ℕ
 text_at row place = unwrap_or (slice_get row place) []
 
+-- the name that a record gives
+abbrev pub name_at : List (List ℕ) → List ℕ
+name_at row = text_at row 0
+
 -- whether a text is empty
 abbrev pub is_empty : List ℕ → Bool
 is_empty text = length text == 0

@@ -10,7 +10,7 @@ use Rattle.point_tables.specs.declared.fault.FaultKind.TheVariants as kind
 use Rattle.point_tables.specs.declared.part.Part.{Part}
 use Rattle.point_tables.specs.declared.part.Part.TheVariants as part
 use Rattle.point_tables.specs.declared.record.PointRecord.{PointRecord}
-use Rattle.point_tables.specs.Columns.{is_empty, name_rules, number_rules, record_rules, rule, text_at}
+use Rattle.point_tables.specs.Columns.{is_empty, name_at, name_rules, number_rules, record_rules, rule, text_at}
 
 -- the header row
 abbrev pub point_header : List (List ℕ)
@@ -54,10 +54,6 @@ column_rules row =
     ++ (part_rules (text_at row 4)
     ++ (part_rules (text_at row 5)
     ++ missing_rules row))))
-
--- the name that a record gives
-abbrev pub name_at : List (List ℕ) → List ℕ
-name_at row = text_at row 0
 
 -- the rules of a record by its number and the names of the earlier records
 unfoldable pub rules_after : ℕ → List (List ℕ) → List (List ℕ) → List (Rule FaultKind)

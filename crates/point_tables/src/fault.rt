@@ -7,7 +7,9 @@ use std::alloc::{AllocError, AllocFailed};
 /// The table that a fault is of.
 #[derive(Clone, Copy, Debug, PartialEq, Eq)]
 pub enum TableName {
+    /// The points table.
     Points,
+    /// The candidates table.
     Candidates,
     /// Both tables together, as the network that they make.
     Network,
@@ -18,23 +20,27 @@ pub enum TableName {
 pub enum FaultKind {
     /// Record 1 is not the header row.
     Header,
-    /// There are too many records.
+    /// There are too many records: more than 1001 in a points table, more than 257 in a candidates
+    /// table, the header row among them.
     TooMany,
     /// A record has another number of fields than the header row.
     Fields,
     /// A field is not UTF-8.
     Utf8,
-    /// A name is not one.
+    /// A name is not one: 1 to 32 bytes without a comma, a double quote or a control byte.
     Name,
-    /// An earlier record has the name.
+    /// An earlier record of the table has the name.
     Twice,
-    /// A text is not a number with the places of its column.
+    /// A text is not a number with the places of its column: 3 for a coordinate in metres, 1 for a
+    /// limit in millimetres, 2 for a standard deviation in millimetres or cc, none for a price.
     Number,
-    /// A number is outside the bounds of its column.
+    /// A number is outside the bounds of its column: a coordinate of more than 100000000 m, a limit
+    /// outside 0.1 to 100.0 mm, a standard deviation outside 0.10 to 100.00, a price outside 0 to
+    /// 1000000000.
     Range,
-    /// A part has no coordinate that it needs.
+    /// A part has no coordinate that it needs: x and y for a plane part, z for a height part.
     Missing,
-    /// The kind of a candidate is none of the kinds.
+    /// The kind of a candidate is none of the five kinds.
     Kind,
     /// A candidate names no point.
     NoPoint,
@@ -46,22 +52,25 @@ pub enum FaultKind {
     NoPlane,
     /// A point that is named has no height part.
     NoHeight,
-    /// The points that are named lie too near each other.
+    /// A line is shorter than 1 m for a distance, or than 10 m for a direction or an angle.
     Near,
-    /// The points that are named lie too far from each other.
+    /// A line of a distance, a direction or an angle is longer than 100 km.
     Far,
-    /// The network has too many unknowns.
+    /// The network has more than 64 unknowns.
     TooManyUnknowns,
-    /// The network has too many rows.
+    /// The network has more than 512 rows.
     TooManyRows,
 }
 
-/// The first fault of a table: the number of its record, counted from 1 at the header row, and
-/// its kind. For the network the number is the count that is too large.
+/// The first fault of a table.
 #[derive(Clone, Copy, Debug, PartialEq, Eq)]
 pub struct TableFault {
+    /// The table that it is of.
     pub table: TableName,
+    /// The number of its record, counted from 1 at the header row; for the network the count of
+    /// unknowns or of rows that is too large.
     pub number: u32,
+    /// What is wrong there.
     pub kind: FaultKind,
 }
 
@@ -72,6 +81,19 @@ pub enum TableAnswer {
     Fault(TableFault),
     /// Memory ran out.
     NoMemory,
+}
+
+impl TableAnswer {
+    /// The answer that a record of a table breaks a rule.
+    pub fn broken(table: TableName, number: u32, kind: FaultKind) -> TableAnswer
+        ensures { result ≡ TableAnswer.Fault (record { table = table; number = number; kind = kind }) }
+    {
+        TableAnswer::Fault(TableFault {
+            table,
+            number,
+            kind,
+        })
+    }
 }
 
 impl From<WantOfMemory> for TableAnswer {

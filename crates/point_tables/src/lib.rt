@@ -14,7 +14,7 @@ mod row;
 
 pub use fault::{FaultKind, TableAnswer, TableFault, TableName};
 pub use laws::first_point_fault_is_least;
-pub use name::{Name, name_text};
+pub use name::{Name, new_name};
 pub use number::read_number;
 pub use part::Part;
 pub use points::Points;

@@ -1,7 +1,10 @@
-ghost use Rattle.std.specs.Prelude.{◌≡◌, true, false, IfOk, MatchOption};
+ghost use Rattle.std.specs.Prelude.{◌≡◌, ℕ, List, true, false, IfOk, MatchOption};
 ghost use Rattle.std.specs.List.{list_all};
-ghost use Rattle.point_tables.specs.Names.{is_name, is_name_byte};
+ghost use Rattle.point_tables.specs.Columns.{Reads, name_rules};
+ghost use Rattle.point_tables.specs.Names.{is_name, is_name_byte, place_of};
+ghost use Rattle.point_tables.specs.Read.{IsNewName};
 
+use crate::fault::FaultKind;
 use geo_base::NoMemory;
 use std::alloc::Global;
 use std::marker::Model;
@@ -23,8 +26,9 @@ impl Model for Name {
 }
 
 impl Name {
-    /// A name of this text.
+    /// A name of this text, which is one (`new_name`).
     pub fn new(alloc: Global, text: &str) -> Result<Name, NoMemory>
+        requires { is_name text.now ≡ true }
         ensures { IfOk result (λ name. name ≡ text.now) }
     {
         let text = String::from_str(alloc, text)?;
@@ -53,10 +57,9 @@ fn has_name_bytes(text: &[u8]) -> bool
     text.iter().all(|byte| is_name_byte(*byte))
 }
 
-/// The text of a name: 1 to 32 bytes of UTF-8 without a comma, a double quote, a byte below 20
-/// hexadecimal or the byte 7F. None where the bytes are no name.
+// The text of a name. None where the bytes are no name.
 #[tactic(auto, using(crate::proofs::NameFacts::name_tests))]
-pub fn name_text(bytes: &[u8]) -> Option<&str>
+fn name_text(bytes: &[u8]) -> Option<&str>
     ensures { MatchOption result (is_name bytes.now ≡ false) (λ text. (is_name bytes.now ≡ true) × (text.now ≡ bytes.now)) }
 {
     if bytes.is_empty() || bytes.len() > 32 || !has_name_bytes(bytes) {
@@ -65,5 +68,22 @@ pub fn name_text(bytes: &[u8]) -> Option<&str>
     match str::from_utf8(bytes) {
         Ok(text) => Some(text),
         Err(_) => None,
+    }
+}
+
+/// The text of a new name: 1 to 32 bytes of UTF-8 without a comma, a double quote, a byte below 20
+/// hexadecimal or the byte 7F. `found` is the place of the earlier record that has it, if one has.
+/// `Name` where the bytes are no name, `Twice` where an earlier record has the name.
+pub fn new_name(bytes: &[u8], found: Option<u32>) -> Result<&str, FaultKind>
+    ensures { (names : List (List ℕ)) → found ≡ place_of bytes.now names → Reads (name_rules bytes.now names) (λ name. IsNewName bytes.now names name.now) result }
+{
+    match name_text(bytes) {
+        None => Err(FaultKind::Name),
+        Some(name) => {
+            if found.is_some() {
+                return Err(FaultKind::Twice);
+            }
+            Ok(name)
+        }
     }
 }

@@ -1,13 +1,13 @@
-ghost use Rattle.std.specs.Prelude.{◌≡◌, ◌+◌, ◌<◌, length, IfOk, OnOk};
+ghost use Rattle.std.specs.Prelude.{◌+◌, length, IfOk, OnOk};
 ghost use Rattle.point_tables.specs.declared.fault.TableName.TheVariants as table;
 ghost use Rattle.point_tables.specs.Accepted.{ArePoints, IsAccepted};
-ghost use Rattle.point_tables.specs.Columns.{Answers, Reads, name_rules};
+ghost use Rattle.point_tables.specs.Columns.{Answers};
 ghost use Rattle.point_tables.specs.PointTable.{names_of, point_of, points_fault, points_of, rules_after};
-ghost use Rattle.point_tables.specs.Read.{Adds, IsNewName};
+ghost use Rattle.point_tables.specs.Read.{Adds};
 
 use crate::columns::read_columns;
-use crate::fault::{FaultKind, TableAnswer, TableFault, TableName};
-use crate::name::{Name, name_text};
+use crate::fault::{FaultKind, TableAnswer, TableName};
+use crate::name::{Name, new_name};
 use crate::points::Points;
 use crate::record::PointRecord;
 use crate::row::broken_record;
@@ -17,32 +17,6 @@ use table_rows::{TableRow, TableRows};
 // The largest number of a record, the header row among them.
 const MOST_RECORDS: u32 = 1001;
 
-// The name of a record, which no earlier point has.
-fn read_name<'a>(text: &'a [u8], points: &Points) -> Result<&'a str, FaultKind>
-    ensures { Reads (name_rules text.now (names_of points.now)) (λ name. IsNewName text.now (names_of points.now) name.now) result }
-{
-    match name_text(text) {
-        None => Err(FaultKind::Name),
-        Some(name) => {
-            if points.find(text).is_some() {
-                return Err(FaultKind::Twice);
-            }
-            Ok(name)
-        }
-    }
-}
-
-// A fault of the points table.
-fn fault(number: u32, kind: FaultKind) -> TableAnswer
-    ensures { result ≡ TableAnswer.Fault (record { table = table.Points; number = number; kind = kind }) }
-{
-    TableAnswer::Fault(TableFault {
-        table: TableName::Points,
-        number,
-        kind,
-    })
-}
-
 // Adds the point of a record, or says which of its rules it breaks first.
 fn add_record(alloc: Global, row: &TableRow, points: &mut Points) -> Result<(), TableAnswer>
     ensures added { Adds table.Points (length points.old + 2) (rules_after (length points.old + 2) row.now (names_of points.old)) (point_of row.now) points.old points.new result }
@@ -50,15 +24,16 @@ fn add_record(alloc: Global, row: &TableRow, points: &mut Points) -> Result<(), 
 {
     let number = points.len() + 2;
     if let Some(kind) = broken_record(MOST_RECORDS, 6, number, row) {
-        return Err(fault(number, kind));
+        return Err(TableAnswer::broken(TableName::Points, number, kind));
     }
-    let name = match read_name(row.field(0), points) {
+    let text = row.field(0);
+    let name = match new_name(text, points.find(text)) {
         Ok(name) => name,
-        Err(kind) => return Err(fault(number, kind)),
+        Err(kind) => return Err(TableAnswer::broken(TableName::Points, number, kind)),
     };
     let columns = match read_columns(row) {
         Ok(columns) => columns,
-        Err(kind) => return Err(fault(number, kind)),
+        Err(kind) => return Err(TableAnswer::broken(TableName::Points, number, kind)),
     };
     let point = PointRecord {
         name: Name::new(alloc, name)?,
@@ -79,7 +54,7 @@ pub fn read_points(alloc: Global, bytes: &[u8]) -> Result<Points, TableAnswer>
 {
     let header = &["name", "x", "y", "z", "plane", "height"];
     let Some(mut rows) = TableRows::under_header(alloc, bytes, header)? else {
-        return Err(fault(1, FaultKind::Header));
+        return Err(TableAnswer::broken(TableName::Points, 1, FaultKind::Header));
     };
     let mut row = TableRow::new(alloc);
     let mut points = Points::new(alloc);

@@ -131,6 +131,7 @@ fn put_points(
     for k in 0..points.len() {
         let point = points.get(k);
         assert!(rt; points.find(point.name.bytes()) == Some(k));
+        assert!(rt; points.x(k) == point.x.unwrap_or(0) && points.y(k) == point.y.unwrap_or(0));
         out.extend_from_slice(point.name.bytes())?;
         let rest = format!(in alloc;
             " {:?} {:?} {:?} {:?} {:?};",

@@ -1,4 +1,4 @@
--- Where a reader stands between two records, and what it has left.
+-- Where a reader of `csv` stands between two records, and what it has left. This project's own.
 use Rattle.std.specs.Prelude.{ℕ, List, [], ◌+◌, ◌≡◌, true, false, length, map, Option, Some, None}
 use Rattle.csv.specs.Machine.{ends_at_end}
 use Rattle.csv.specs.Reading.{Ready, default_config, is_flexible, reader_config, reader_state, reader_trim, records_from, source_of}

@@ -25,14 +25,8 @@ pub fn put_answer(alloc: Global, input: &[u8], out: &mut Vec<u8>) -> Result<(), 
     let Some(request) = read_request(input) else {
         return Err(Refusal::Request);
     };
-    let network = match network_of(alloc, &request) {
-        Ok(network) => network,
-        Err(refusal) => return Err(refusal),
-    };
-    match put_plans(alloc, &network, request.plans, request.times, out) {
-        Ok(()) => Ok(()),
-        Err(refusal) => Err(refusal),
-    }
+    let network = network_of(alloc, &request)?;
+    put_plans(alloc, &network, request.plans, request.times, out)
 }
 
 // The network of the tables of a request.
@@ -71,10 +65,7 @@ fn put_plans(
         return Err(Refusal::NoMemory);
     };
     for line in lines(plans) {
-        let plan = match read_plan(alloc, line.text, m) {
-            Ok(plan) => plan,
-            Err(refusal) => return Err(refusal),
-        };
+        let plan = read_plan(alloc, line.text, m)?;
         let Ok(()) = put_verdicts(out, &mut room, network, &plan, times) else {
             return Err(Refusal::NoMemory);
         };

@@ -5,6 +5,7 @@ use Rattle.bound_log.specs.LogTree.{root_of}
 use Rattle.shelf_io.specs.States.{state_of}
 use Rattle.branch_bound.proofs.ExploreLemmas.{IsNode-root, IsNode-same}
 use Rattle.branch_bound.proofs.SearchLemmas.{BreaksLog-nothing, BreaksLog-head, BreaksLog-tree, Searches-done}
+use Rattle.branch_bound.proofs.ToldLemmas.{IsTold-nothing}
 use Rattle.branch_bound.proofs.run.search.Goals as goal
 
 pub returns-in_err-node-clause-refused : goal.returns-in_err-node-clause-refused
@@ -54,3 +55,6 @@ pub explore-requires-clause-node : goal.explore-requires-clause-node
 explore-requires-clause-node g c =
     let root : c.in_ok-node.node ≡ root_of c.args.network.now = c.in_ok-node.ensures ∙ ap (λ cs. all_plans (length cs)) c.candidates.ensures.value in
     IsNode-same c.args.network.now (root_of c.args.network.now) c.in_ok-node.node root (IsNode-root c.args.network.now)
+
+pub explore-requires-clause-told : goal.explore-requires-clause-told
+explore-requires-clause-told g c = IsTold-nothing c.args.network.now c.in_ok-node.node

@@ -3,10 +3,11 @@ use mir.Syntax.{w128}
 use Rattle.std.specs.Prelude.{unsigned_abs}
 use Rattle.std.proofs.lemmas.Int.{to_z-of_z, fits_signed_from_abs}
 use Rattle.geo_model.specs.Row.{RowOf, IsRow, Entries}
+use Rattle.geo_model.proofs.SizeLemmas.{light}
 use Rattle.normal_matrix.specs.Entries.{coefficient, row_entry}
 use Rattle.whole_algebra.proofs.Order.{size-mul}
 use Rattle.normal_matrix.proofs.SumSteps.{coefficient-size}
-use Rattle.normal_matrix.proofs.RowSteps.{light, row_entry-size}
+use Rattle.normal_matrix.proofs.RowSteps.{row_entry-size}
 use Rattle.limit_forms.proofs.exponents.row_diagonal.Goals as goal
 
 record IsStep (row : RowOf) (i : ℕ) (part weight : ℤ) : Type 0 where

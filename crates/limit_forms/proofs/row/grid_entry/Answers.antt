@@ -49,14 +49,14 @@ placed network alpha squares grid row column i j e f bounds limit is le lt at_ro
 
 pub unknown-first-requires : goal.unknown-first-requires
 unknown-first-requires c =
-    let n = length-grid_of c.args.network.now c.args.alpha c.args.squares.now c.args.grid.now c.requires.grid in
+    let n = length-grid_of c.args.form.now.network.now c.args.form.now.alpha c.args.form.now.squares.now c.args.form.now.grid.now c.requires.form.grid_made in
     let le = c.requires.order in
     let lt = c.requires.inside in
     omega arith
 
 pub unknown-second-requires : goal.unknown-second-requires
 unknown-second-requires c =
-    let n = length-grid_of c.args.network.now c.args.alpha c.args.squares.now c.args.grid.now c.requires.grid in
+    let n = length-grid_of c.args.form.now.network.now c.args.form.now.alpha c.args.form.now.squares.now c.args.form.now.grid.now c.requires.form.grid_made in
     let lt = c.requires.inside in
     omega arith
 
@@ -64,18 +64,18 @@ pub overflow_add-shift : goal.overflow_add-shift
 overflow_add-shift c =
     let e : FitsSigned w32 c.exponent.result = search rules in
     let f : FitsSigned w32 c.exponent-2.result = search rules in
-    let p = placed c.args.network.now c.args.alpha c.args.squares.now c.args.grid.now c.args.row c.args.column c.unknown-first.result c.unknown-second.result c.exponent.result c.exponent-2.result c.candidates-bounds.ensures.bounds c.requires.limit c.requires.grid c.requires.order c.requires.inside c.unknown-first.ensures.found c.unknown-second.ensures.found c.exponent.ensures c.exponent-2.ensures e f in
+    let p = placed c.args.form.now.network.now c.args.form.now.alpha c.args.form.now.squares.now c.args.form.now.grid.now c.args.row c.args.column c.unknown-first.result c.unknown-second.result c.exponent.result c.exponent-2.result c.candidates-bounds.ensures.bounds c.requires.form.load c.requires.form.grid_made c.requires.order c.requires.inside c.unknown-first.ensures.found c.unknown-second.ensures.found c.exponent.ensures c.exponent-2.ensures e f in
     simp to_z-of_z p.sum_fits
 
-pub form_entry-requires-clause-row : goal.form_entry-requires-clause-row
-form_entry-requires-clause-row c =
-    let n = length-grid_of c.args.network.now c.args.alpha c.args.squares.now c.args.grid.now c.requires.grid in
+pub form_entry-entry-requires-clause-row : goal.form_entry-entry-requires-clause-row
+form_entry-entry-requires-clause-row c =
+    let n = length-grid_of c.args.form.now.network.now c.args.form.now.alpha c.args.form.now.squares.now c.args.form.now.grid.now c.requires.form.grid_made in
     let inside = c.unknown-first.ensures.inside in
     omega arith
 
-pub form_entry-requires-clause-column : goal.form_entry-requires-clause-column
-form_entry-requires-clause-column c =
-    let n = length-grid_of c.args.network.now c.args.alpha c.args.squares.now c.args.grid.now c.requires.grid in
+pub form_entry-entry-requires-clause-column : goal.form_entry-entry-requires-clause-column
+form_entry-entry-requires-clause-column c =
+    let n = length-grid_of c.args.form.now.network.now c.args.form.now.alpha c.args.form.now.squares.now c.args.form.now.grid.now c.requires.form.grid_made in
     let inside = c.unknown-second.ensures.inside in
     omega arith
 
@@ -83,7 +83,7 @@ pub shift_floor-requires-clause-low : goal.shift_floor-requires-clause-low
 shift_floor-requires-clause-low c =
     let e : FitsSigned w32 c.exponent.result = search rules in
     let f : FitsSigned w32 c.exponent-2.result = search rules in
-    let p = placed c.args.network.now c.args.alpha c.args.squares.now c.args.grid.now c.args.row c.args.column c.unknown-first.result c.unknown-second.result c.exponent.result c.exponent-2.result c.candidates-bounds.ensures.bounds c.requires.limit c.requires.grid c.requires.order c.requires.inside c.unknown-first.ensures.found c.unknown-second.ensures.found c.exponent.ensures c.exponent-2.ensures e f in
+    let p = placed c.args.form.now.network.now c.args.form.now.alpha c.args.form.now.squares.now c.args.form.now.grid.now c.args.row c.args.column c.unknown-first.result c.unknown-second.result c.exponent.result c.exponent-2.result c.candidates-bounds.ensures.bounds c.requires.form.load c.requires.form.grid_made c.requires.order c.requires.inside c.unknown-first.ensures.found c.unknown-second.ensures.found c.exponent.ensures c.exponent-2.ensures e f in
     let s = p.sum_fits in
     simp to_z-of_z p.shift.low
 
@@ -91,7 +91,7 @@ pub shift_floor-requires-clause-high : goal.shift_floor-requires-clause-high
 shift_floor-requires-clause-high c =
     let e : FitsSigned w32 c.exponent.result = search rules in
     let f : FitsSigned w32 c.exponent-2.result = search rules in
-    let p = placed c.args.network.now c.args.alpha c.args.squares.now c.args.grid.now c.args.row c.args.column c.unknown-first.result c.unknown-second.result c.exponent.result c.exponent-2.result c.candidates-bounds.ensures.bounds c.requires.limit c.requires.grid c.requires.order c.requires.inside c.unknown-first.ensures.found c.unknown-second.ensures.found c.exponent.ensures c.exponent-2.ensures e f in
+    let p = placed c.args.form.now.network.now c.args.form.now.alpha c.args.form.now.squares.now c.args.form.now.grid.now c.args.row c.args.column c.unknown-first.result c.unknown-second.result c.exponent.result c.exponent-2.result c.candidates-bounds.ensures.bounds c.requires.form.load c.requires.form.grid_made c.requires.order c.requires.inside c.unknown-first.ensures.found c.unknown-second.ensures.found c.exponent.ensures c.exponent-2.ensures e f in
     let s = p.sum_fits in
     simp to_z-of_z p.shift.high
 
@@ -112,14 +112,14 @@ size_by network plan alpha squares row column i j e f number bounds limit p is =
 
 pub shift_floor-requires-clause-size : goal.shift_floor-requires-clause-size
 shift_floor-requires-clause-size c =
-    let a : FitsSigned w64 c.args.alpha = c.ranges.alpha in
+    let a : FitsSigned w64 c.args.form.now.alpha = search rules in
     let e : FitsSigned w32 c.exponent.result = search rules in
     let f : FitsSigned w32 c.exponent-2.result = search rules in
-    let p = placed c.args.network.now c.args.alpha c.args.squares.now c.args.grid.now c.args.row c.args.column c.unknown-first.result c.unknown-second.result c.exponent.result c.exponent-2.result c.candidates-bounds.ensures.bounds c.requires.limit c.requires.grid c.requires.order c.requires.inside c.unknown-first.ensures.found c.unknown-second.ensures.found c.exponent.ensures c.exponent-2.ensures e f in
+    let p = placed c.args.form.now.network.now c.args.form.now.alpha c.args.form.now.squares.now c.args.form.now.grid.now c.args.row c.args.column c.unknown-first.result c.unknown-second.result c.exponent.result c.exponent-2.result c.candidates-bounds.ensures.bounds c.requires.form.load c.requires.form.grid_made c.requires.order c.requires.inside c.unknown-first.ensures.found c.unknown-second.ensures.found c.exponent.ensures c.exponent-2.ensures e f in
     let s = p.sum_fits in
-    let n : FitsSigned w128 c.form_entry.result = search rules in
-    let is = simp to_z-of_z at c.form_entry.ensures in
-    simp to_z-of_z (size_by c.args.network.now c.args.normal.now.plan c.args.alpha c.args.squares.now c.args.row c.args.column c.unknown-first.result c.unknown-second.result c.exponent.result c.exponent-2.result c.form_entry.result c.candidates-bounds.ensures.bounds c.requires.limit p is)
+    let n : FitsSigned w128 c.form_entry-entry.result = search rules in
+    let is = simp to_z-of_z at c.form_entry-entry.ensures in
+    simp to_z-of_z (size_by c.args.form.now.network.now c.args.form.now.normal.now.plan c.args.form.now.alpha c.args.form.now.squares.now c.args.row c.args.column c.unknown-first.result c.unknown-second.result c.exponent.result c.exponent-2.result c.form_entry-entry.result c.candidates-bounds.ensures.bounds c.requires.form.load p is)
 
 -- the number that is shifted, on the grid
 number_is : (network : NetworkOf) (plan : List Bool) (alpha : ℤ) (squares : List SquareOf) (row column i j : ℕ) (e f number : ℤ) → row ≤ column → column < length network.unknowns
@@ -145,27 +145,27 @@ whole_by network plan alpha squares row column i j e f number whole le lt p is t
 
 pub returns-clause-floor : goal.returns-clause-floor
 returns-clause-floor c =
-    let a : FitsSigned w64 c.args.alpha = c.ranges.alpha in
+    let a : FitsSigned w64 c.args.form.now.alpha = search rules in
     let e : FitsSigned w32 c.exponent.result = search rules in
     let f : FitsSigned w32 c.exponent-2.result = search rules in
-    let p = placed c.args.network.now c.args.alpha c.args.squares.now c.args.grid.now c.args.row c.args.column c.unknown-first.result c.unknown-second.result c.exponent.result c.exponent-2.result c.candidates-bounds.ensures.bounds c.requires.limit c.requires.grid c.requires.order c.requires.inside c.unknown-first.ensures.found c.unknown-second.ensures.found c.exponent.ensures c.exponent-2.ensures e f in
+    let p = placed c.args.form.now.network.now c.args.form.now.alpha c.args.form.now.squares.now c.args.form.now.grid.now c.args.row c.args.column c.unknown-first.result c.unknown-second.result c.exponent.result c.exponent-2.result c.candidates-bounds.ensures.bounds c.requires.form.load c.requires.form.grid_made c.requires.order c.requires.inside c.unknown-first.ensures.found c.unknown-second.ensures.found c.exponent.ensures c.exponent-2.ensures e f in
     let s = p.sum_fits in
-    let n : FitsSigned w128 c.form_entry.result = search rules in
-    let is = simp to_z-of_z at c.form_entry.ensures in
+    let n : FitsSigned w128 c.form_entry-entry.result = search rules in
+    let is = simp to_z-of_z at c.form_entry-entry.ensures in
     let value = simp to_z-of_z at c.shift_floor.ensures.value in
-    value ∙ floor_by c.args.network.now c.args.normal.now.plan c.args.alpha c.args.squares.now c.args.row c.args.column c.unknown-first.result c.unknown-second.result c.exponent.result c.exponent-2.result c.form_entry.result c.requires.order c.requires.inside p is
+    value ∙ floor_by c.args.form.now.network.now c.args.form.now.normal.now.plan c.args.form.now.alpha c.args.form.now.squares.now c.args.row c.args.column c.unknown-first.result c.unknown-second.result c.exponent.result c.exponent-2.result c.form_entry-entry.result c.requires.order c.requires.inside p is
 
 pub returns-clause-whole : goal.returns-clause-whole
 returns-clause-whole c =
-    let a : FitsSigned w64 c.args.alpha = c.ranges.alpha in
+    let a : FitsSigned w64 c.args.form.now.alpha = search rules in
     let e : FitsSigned w32 c.exponent.result = search rules in
     let f : FitsSigned w32 c.exponent-2.result = search rules in
-    let p = placed c.args.network.now c.args.alpha c.args.squares.now c.args.grid.now c.args.row c.args.column c.unknown-first.result c.unknown-second.result c.exponent.result c.exponent-2.result c.candidates-bounds.ensures.bounds c.requires.limit c.requires.grid c.requires.order c.requires.inside c.unknown-first.ensures.found c.unknown-second.ensures.found c.exponent.ensures c.exponent-2.ensures e f in
+    let p = placed c.args.form.now.network.now c.args.form.now.alpha c.args.form.now.squares.now c.args.form.now.grid.now c.args.row c.args.column c.unknown-first.result c.unknown-second.result c.exponent.result c.exponent-2.result c.candidates-bounds.ensures.bounds c.requires.form.load c.requires.form.grid_made c.requires.order c.requires.inside c.unknown-first.ensures.found c.unknown-second.ensures.found c.exponent.ensures c.exponent-2.ensures e f in
     let s = p.sum_fits in
-    let n : FitsSigned w128 c.form_entry.result = search rules in
-    let is = simp to_z-of_z at c.form_entry.ensures in
+    let n : FitsSigned w128 c.form_entry-entry.result = search rules in
+    let is = simp to_z-of_z at c.form_entry-entry.ensures in
     let tells = simp to_z-of_z at c.shift_floor.ensures.whole in
-    whole_by c.args.network.now c.args.normal.now.plan c.args.alpha c.args.squares.now c.args.row c.args.column c.unknown-first.result c.unknown-second.result c.exponent.result c.exponent-2.result c.form_entry.result c.shift_floor.result.1 c.requires.order c.requires.inside p is tells
+    whole_by c.args.form.now.network.now c.args.form.now.normal.now.plan c.args.form.now.alpha c.args.form.now.squares.now c.args.row c.args.column c.unknown-first.result c.unknown-second.result c.exponent.result c.exponent-2.result c.form_entry-entry.result c.shift_floor.result.1 c.requires.order c.requires.inside p is tells
 
 floor_size : (network : NetworkOf) (plan : List Bool) (alpha : ℤ) (squares : List SquareOf) (i k : ℕ) (z : ℤ) → IsNetwork network → IsLoad (length network.unknowns) network.candidates alpha squares
     → z ≡ floor_over grid_step (at (row_at (on_grid network plan alpha squares) i) k) → unsigned_abs z < 2 ^ 109
@@ -178,4 +178,4 @@ floor_size network plan alpha squares i k z bounds limit is =
 
 pub returns-clause-size : goal.returns-clause-size
 returns-clause-size c =
-    floor_size c.args.network.now c.args.normal.now.plan c.args.alpha c.args.squares.now c.args.row (c.args.column - c.args.row) c.shift_floor.result.0 c.candidates-bounds.ensures.bounds c.requires.limit (returns-clause-floor c)
+    floor_size c.args.form.now.network.now c.args.form.now.normal.now.plan c.args.form.now.alpha c.args.form.now.squares.now c.args.row (c.args.column - c.args.row) c.shift_floor.result.0 c.candidates-bounds.ensures.bounds c.requires.form.load (returns-clause-floor c)

@@ -1,4 +1,4 @@
-use Rattle.std.proofs.Common.{ℕ, ◌+◌, ◌<◌, ◌^◌, ℤ, pos, ◌+ℤ◌, ◌≤ℤ◌, w64, FitsSigned, to_z, ◌∙◌, sym, ap, arith}
+use Rattle.std.proofs.Common.{ℕ, ◌+◌, ◌<◌, ◌^◌, ℤ, pos, ◌+ℤ◌, ◌≤ℤ◌, FitsSigned, to_z, ◌∙◌, sym, ap, arith}
 use mir.Syntax.{w128}
 use Rattle.std.proofs.lemmas.Int.{ints, to_z-of_z, fits_signed_from_abs}
 use Rattle.limit_forms.specs.Grid.{on_grid}
@@ -24,13 +24,12 @@ below_all row k lt small = omega arith
 
 pub loop-row-preserved : goal.loop-row-preserved
 loop-row-preserved c =
-    let a : FitsSigned w64 c.args.alpha = c.ranges.alpha in
     let slack = to_z w128 c.loop-row.slack-bits in
     let small : c.loop-row.row < 2 ^ 32 = below_all c.loop-row.row c.args.k c.loop-row-test.true (c.ranges.k.fits) in
     let n = count slack c.gap_of-slack.result c.loop-row.row small c.loop-row.invariant.low c.loop-row.invariant.high c.gap_of-slack.ensures.low c.gap_of-slack.ensures.high in
     let e = n.narrow in
     let f = n.fits in
-    let value = simp to_z-of_z at c.loop-row.invariant.value in
-    let whole = simp to_z-of_z at c.grid_entry-number.ensures.whole in
-    let more = above_more (on_grid c.args.network.now c.args.normal.now.plan c.args.alpha c.args.squares.now) c.args.k c.loop-row.row c.gap_of-slack.result (whole ∙ sym c.gap_of-slack.ensures.value) in
+    let value = c.loop-row.invariant.value in
+    let whole = c.grid_entry-number.ensures.whole in
+    let more = above_more (on_grid c.args.form.now.network.now c.args.form.now.normal.now.plan c.args.form.now.alpha c.args.form.now.squares.now) c.args.k c.loop-row.row c.gap_of-slack.result (whole ∙ sym c.gap_of-slack.ensures.value) in
     simp to_z-of_z (record { value = ap (λ t. t +ℤ c.gap_of-slack.result) value ∙ sym more; low = n.low; high = n.high })

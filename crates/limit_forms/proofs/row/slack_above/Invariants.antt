@@ -7,7 +7,7 @@ use Rattle.limit_forms.proofs.row.slack_above.Given as goal
 
 abbrev pub invariant-loop-row : goal.invariant-loop-row
 invariant-loop-row l = record {
-  value : l.slack ≡ above (entries (gap_over grid_step) (on_grid l.network l.normal.plan l.fn.alpha l.squares)) l.k l.row;
+  value : l.slack ≡ above (entries (gap_over grid_step) (on_grid l.form.network.now l.form.normal.now.plan l.form.alpha l.form.squares.now)) l.k l.row;
   low : pos 0 ≤ℤ l.slack;
   high : l.slack ≤ℤ pos l.row;
 }

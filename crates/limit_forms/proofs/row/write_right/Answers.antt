@@ -1,4 +1,4 @@
-use Rattle.std.proofs.Common.{◌≡◌, ℕ, ◌+◌, ◌-◌, ◌<◌, ◌≤◌, ℤ, pos, ◌+ℤ◌, ◌≤ℤ◌, List, inl, inr, length, set, w64, FitsSigned, to_z, ◌∙◌, sym, ap, arith}
+use Rattle.std.proofs.Common.{◌≡◌, ℕ, ◌+◌, ◌-◌, ◌<◌, ◌≤◌, ℤ, pos, ◌+ℤ◌, ◌≤ℤ◌, List, inl, inr, length, set, FitsSigned, to_z, ◌∙◌, sym, ap, arith}
 use mir.Syntax.{w128}
 use Rattle.std.proofs.lemmas.Int.{ints, to_z-of_z, fits_signed_from_abs}
 use Rattle.whole_algebra.specs.Rounding.{floor_over}
@@ -37,8 +37,7 @@ written row f m number inside is so_far i one lt =
 
 pub loop-m-preserved : goal.loop-m-preserved
 loop-m-preserved c =
-    let a : FitsSigned w64 c.args.alpha = c.ranges.alpha in
-    let grid = on_grid c.args.network.now c.args.normal.now.plan c.args.alpha c.args.squares.now in
+    let grid = on_grid c.args.form.now.network.now c.args.form.now.normal.now.plan c.args.form.now.alpha c.args.form.now.squares.now in
     let slack = to_z w128 c.loop-m.slack-bits in
     let room = c.requires.lower_room in
     let upper_room = c.requires.upper_room in
@@ -49,25 +48,24 @@ loop-m-preserved c =
     let f = n.fits in
     let b : FitsSigned w128 c.grid_entry-number.result.0 = fits_signed_from_abs w128 c.grid_entry-number.result.0 (let s = c.grid_entry-number.ensures.size in omega arith) in
     let back : (c.args.k + c.loop-m.m) - c.args.k ≡ c.loop-m.m = omega arith in
-    let value = simp to_z-of_z at c.loop-m.invariant.value in
-    let whole = rw back at (simp to_z-of_z at c.grid_entry-number.ensures.whole) in
-    let floor = rw back at (simp to_z-of_z at c.grid_entry-number.ensures.floor) in
+    let value = c.loop-m.invariant.value in
+    let whole = rw back at c.grid_entry-number.ensures.whole in
+    let floor = rw back at c.grid_entry-number.ensures.floor in
     let more = right_more grid c.args.k c.loop-m.m c.gap_of-slack.result (omega arith) (whole ∙ sym c.gap_of-slack.ensures.value) in
     simp to_z-of_z (record {
       value = ap (λ t. t +ℤ c.gap_of-slack.result) value ∙ sym more;
       low = n.low;
       high = n.high;
-      lower = written c.loop-m.lower (λ i. floor_over grid_step (at (row_at grid c.args.k) i)) c.loop-m.m c.grid_entry-number.result.0 (omega arith) floor (simp to_z-of_z at c.loop-m.invariant.lower);
-      upper = written c.loop-m.upper (λ i. floor_over grid_step (at (row_at grid c.args.k) i)) c.loop-m.m c.grid_entry-number.result.0 (omega arith) floor (simp to_z-of_z at c.loop-m.invariant.upper);
+      lower = written c.loop-m.lower (λ i. floor_over grid_step (at (row_at grid c.args.k) i)) c.loop-m.m c.grid_entry-number.result.0 (omega arith) floor c.loop-m.invariant.lower;
+      upper = written c.loop-m.upper (λ i. floor_over grid_step (at (row_at grid c.args.k) i)) c.loop-m.m c.grid_entry-number.result.0 (omega arith) floor c.loop-m.invariant.upper;
     })
 
 pub returns-clause-value : goal.returns-clause-value
 returns-clause-value c =
-    let a : FitsSigned w64 c.args.alpha = c.ranges.alpha in
     let room = c.requires.lower_room in
     let lt = c.requires.inside in
     let last : length c.args.lower.now ≡ c.loop-m.m = omega arith in
-    rw last (simp to_z-of_z at c.loop-m.invariant.value)
+    rw last c.loop-m.invariant.value
 
 at_most : (z : ℤ) (m n : ℕ) → z ≤ℤ pos (m - 1) → m ≤ n → z ≤ℤ pos n
 at_most z m n h k = omega (arith, ints)

@@ -9,9 +9,9 @@ use Rattle.limit_forms.proofs.row.write_right.Given as goal
 
 abbrev pub invariant-loop-m : goal.invariant-loop-m
 invariant-loop-m l = record {
-  value : l.slack ≡ int_sum (take (l.m - 1) (beside (row_at (entries (gap_over grid_step) (on_grid l.network l.normal.plan l.fn.alpha l.squares)) l.k)));
+  value : l.slack ≡ int_sum (take (l.m - 1) (beside (row_at (entries (gap_over grid_step) (on_grid l.form.network.now l.form.normal.now.plan l.form.alpha l.form.squares.now)) l.k)));
   low : pos 0 ≤ℤ l.slack;
   high : l.slack ≤ℤ pos (l.m - 1);
-  lower : (i : ℕ) → 1 ≤ i → i < l.m → at l.lower i ≡ floor_over grid_step (at (row_at (on_grid l.network l.normal.plan l.fn.alpha l.squares) l.k) i);
-  upper : (i : ℕ) → 1 ≤ i → i < l.m → at l.upper i ≡ floor_over grid_step (at (row_at (on_grid l.network l.normal.plan l.fn.alpha l.squares) l.k) i);
+  lower : (i : ℕ) → 1 ≤ i → i < l.m → at l.lower i ≡ floor_over grid_step (at (row_at (on_grid l.form.network.now l.form.normal.now.plan l.form.alpha l.form.squares.now) l.k) i);
+  upper : (i : ℕ) → 1 ≤ i → i < l.m → at l.upper i ≡ floor_over grid_step (at (row_at (on_grid l.form.network.now l.form.normal.now.plan l.form.alpha l.form.squares.now) l.k) i);
 }

@@ -1,5 +1,9 @@
 use Rattle.log_check.proofs.VerdictLemmas.{logs_have_no_fault, one_first_fault}
+use Rattle.log_check.proofs.EveryText.{has_verdict}
 use Rattle.log_check.proofs.laws.each_text_has_one_verdict.Goals as goal
+
+pub returns-clause-some : goal.returns-clause-some
+returns-clause-some c = has_verdict
 
 pub returns-clause-never_both : goal.returns-clause-never_both
 returns-clause-never_both c = logs_have_no_fault

@@ -1,12 +1,20 @@
-use Rattle.std.proofs.Common.{◌≡◌, ℕ, ◌<◌, ◌≤◌, ℤ, ◌*ℤ◌, List, length, get_or, arith, w64, FitsSigned, sym, subst, lit<}
+use Rattle.std.proofs.Common.{rules, ap, ◌≡◌, ℕ, ◌<◌, ◌≤◌, ℤ, ◌*ℤ◌, List, length, get_or, arith, w64, FitsSigned, sym, subst, lit<}
 use Rattle.std.specs.Prelude.{unsigned_abs, All}
 use Rattle.std.proofs.lemmas.Int.{to_z-of_z, fits_signed_from_abs, fits_signed_mul}
 use Rattle.whole_algebra.specs.Grid.{entry}
 use Rattle.lent_parts.specs.Triangle.{IsTri}
 use Rattle.lent_parts.proofs.Triangles.{length-IsTri}
 use Rattle.geo_model.specs.Row.{Entries, RowOf, IsRow}
-use Rattle.normal_matrix.proofs.RowSteps.{light, sum_is_small, rows_step}
+use Rattle.geo_model.proofs.SizeLemmas.{light}
+use Rattle.normal_matrix.specs.declared.change.Change.{Change}
+use Rattle.normal_matrix.specs.declared.change.Change.TheVariants.{Add, Remove}
+use Rattle.normal_matrix.specs.Changes.{sign_of}
+use Rattle.normal_matrix.proofs.RowSteps.{sum_is_small, rows_step}
 use Rattle.normal_matrix.proofs.sums.add_rows.Goals as goal
+
+one_of : (sign : ℤ) (change : Change) → sign ≡ sign_of change → unsigned_abs sign ≡ 1
+one_of sign Add is = ap unsigned_abs is
+one_of sign Remove is = ap unsigned_abs is
 
 pub add_row-requires-clause-shape : goal.add_row-requires-clause-shape
 add_row-requires-clause-shape c =
@@ -15,11 +23,11 @@ add_row-requires-clause-shape c =
 
 pub add_row-requires-clause-size : goal.add_row-requires-clause-size
 add_row-requires-clause-size c i j le lt =
-    let f : FitsSigned w64 c.args.sign = c.ranges.sign in
+    let f : FitsSigned w64 c.sign-sign.result = search rules in
     let len = length-IsTri (length c.args.sums.now) c.loop-row.sums c.loop-row.invariant.shape in
     let plain = simp to_z-of_z at c.loop-row.invariant.sum in
     let below : j < length c.args.sums.now = omega arith in
-    sum_is_small (entry c.args.sums.now i j) (entry c.loop-row.sums i j) c.args.sign c.args.rows.now c.loop-row.row-index i j (plain i j le below) (c.requires.size i j le below) c.requires.sign c.requires.each_row c.requires.few
+    sum_is_small (entry c.args.sums.now i j) (entry c.loop-row.sums i j) c.sign-sign.result c.args.rows.now c.loop-row.row-index i j (plain i j le below) (c.requires.size i j le below) (one_of c.sign-sign.result c.args.change c.sign-sign.ensures) c.requires.each_row c.requires.few
 
 row_columns : (n m k index : ℕ) (d : ℕ × ℤ) (rows : List RowOf) (row : RowOf) (entries : Entries) → All (λ row. All (λ entry. entry.0 < n) row.entries) rows
     → index < length rows → row ≡ get_or rows index row → entries ≡ row.entries → m ≡ n → k < length entries → (get_or entries k d).0 < m
@@ -40,16 +48,16 @@ signed_weight sign weight one small = fits_signed_mul w64 sign weight 1 1000000 
 pub loop-row-preserved : goal.loop-row-preserved
 loop-row-preserved c =
     let n = length c.args.sums.now in
-    let f : FitsSigned w64 c.args.sign = c.ranges.sign in
+    let f : FitsSigned w64 c.sign-sign.result = search rules in
     let bounds : IsRow c.row-item.result = subst IsRow (sym c.row-item.is) (c.requires.each_row c.loop-row.row-index c.row-item.result c.loop-row-test.true) in
     let small : unsigned_abs c.row-item.result.weight ≤ 1000000 = light c.row-item.result.weight bounds.weight_low bounds.weight_high in
     let g : FitsSigned w64 c.row-item.result.weight = fits_signed_from_abs w64 c.row-item.result.weight (omega arith) in
-    let h : FitsSigned w64 (c.args.sign *ℤ c.row-item.result.weight) = signed_weight c.args.sign c.row-item.result.weight c.requires.sign small in
+    let h : FitsSigned w64 (c.sign-sign.result *ℤ c.row-item.result.weight) = signed_weight c.sign-sign.result c.row-item.result.weight (one_of c.sign-sign.result c.args.change c.sign-sign.ensures) small in
     let len = length-IsTri n c.loop-row.sums c.loop-row.invariant.shape in
     let before = simp to_z-of_z at c.loop-row.invariant.sum in
     let named = rw (c.weight.ensures, c.entries.ensures) at c.add_row.ensures.sum in
     let added = simp to_z-of_z at named in
     record {
       shape = subst (λ m. IsTri m c.add_row.new.sums) len c.add_row.ensures.shape;
-      sum = simp to_z-of_z (λ i j le lt. rows_step (entry c.args.sums.now i j) (entry c.loop-row.sums i j) (entry c.add_row.new.sums i j) c.args.sign c.row-item.result.weight c.args.rows.now c.loop-row.row-index i j c.row-item.result c.loop-row-test.true c.row-item.is (before i j le lt) (added i j le (omega arith)));
+      sum = simp to_z-of_z (λ i j le lt. rows_step (entry c.args.sums.now i j) (entry c.loop-row.sums i j) (entry c.add_row.new.sums i j) c.sign-sign.result c.row-item.result.weight c.args.rows.now c.loop-row.row-index i j c.row-item.result c.loop-row-test.true c.row-item.is (before i j le lt) (added i j le (omega arith)));
     }

@@ -113,6 +113,21 @@ returns-in-Some-clause-stop c =
     (stops_here c.args.side c.args.matrix.now c.loop-k.rows c.loop-k.k c.row-in-loop-k.result.now c.in-Some.value c.requires.small.shape (omega arith) c.loop-k.invariant.done c.loop-k.invariant.pivots
     (last ∙ c.copy_row.ensures ∙ back ∙ here) c.in-Some.ensures)
 
+pub returns-in-Some-clause-stopped : goal.returns-in-Some-clause-stopped
+returns-in-Some-clause-stopped c =
+    let count = c.size-k-end.ensures.rows in
+    let lt = c.loop-k-test.true in
+    let n = length c.args.matrix.now in
+    let long = long_row n c.loop-k.matrix c.loop-k.k c.row_mut.result.now c.loop-k.invariant.matrix_shape (omega arith) c.row_mut.ensures.value in
+    let kept = c.take_steps.auto.row in
+    let place = long_row n c.loop-k.rows c.loop-k.k c.row_mut-in-loop-k.result.now c.loop-k.invariant.rows_shape (omega arith) c.row_mut-in-loop-k.ensures.value in
+    let kept_too = c.copy_row.auto.to in
+    let here = new_row c.args.side n c.args.matrix.now c.loop-k.rows c.loop-k.k c.row_mut.result.now c.take_steps.new.row c.requires.small.shape c.loop-k.invariant.rows_shape (omega arith) long
+    (c.row_mut.ensures.value ∙ c.loop-k.invariant.ahead c.loop-k.k (omega arith)) c.loop-k.invariant.done c.take_steps.ensures.exact in
+    let back = c.row.ensures ∙ row_written n c.loop-k.matrix c.take_steps.new.row c.loop-k.k c.loop-k.invariant.matrix_shape (omega arith) (omega arith) in
+    row_put n c.loop-k.rows (λ j. row_at (matrix_after (over_of c.args.side) j c.args.matrix.now) 0) c.copy_row.new.to c.loop-k.k c.loop-k.invariant.rows_shape (omega arith) (omega arith) c.loop-k.invariant.done
+    (c.copy_row.ensures ∙ back ∙ here)
+
 pub returns-in-Some-clause-matrix_shape : goal.returns-in-Some-clause-matrix_shape
 returns-in-Some-clause-matrix_shape c =
     let count = c.size-k-end.ensures.rows in

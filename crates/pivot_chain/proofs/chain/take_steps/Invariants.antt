@@ -8,7 +8,7 @@ use Rattle.pivot_chain.proofs.chain.take_steps.Given as goal
 
 abbrev pub invariant-loop-t : goal.invariant-loop-t
 invariant-loop-t l = record {
-  size : (m : ℕ) → unsigned_abs (at l.row m) ≤ 2 ^ 110 + l.t * 2 ^ 62;
+  size : (m : ℕ) → unsigned_abs (at l.row m) ≤ 2 ^ 109 + l.t * 2 ^ 62;
   head : at l.row 0 ≤ℤ pos (2 ^ 60 + 64 + l.t * 64);
   exact : (matrix : List (List ℤ)) → IsTriangle (length l.rows) matrix
       → ((s : ℕ) → s < length l.rows - length l.initial.row → row_at (matrix_after (over_of l.side) s matrix) 0 ≡ tri_row l.rows s)

@@ -11,7 +11,7 @@ use Rattle.point_tables.proofs.read.read_points.Goals as goal
 pub returns-in_default-clause-answer : goal.returns-in_default-clause-answer
 unfolding points_fault
 returns-in_default-clause-answer c =
-    rw c.fault.ensures (first_fault-header points_table c.args.bytes.now (sym c.in_ok-rows.ensures ∙ c.in_default.is), refl)
+    rw c.broken.ensures (first_fault-header points_table c.args.bytes.now (sym c.in_ok-rows.ensures ∙ c.in_default.is), refl)
 
 pub rows-init : goal.rows-init
 rows-init c = record {
