@@ -16,7 +16,7 @@ use Rattle.bound_log.proofs.TreeLemmas.{one_bound}
 use Rattle.log_check.specs.Replayed.{IsReplayed}
 use Rattle.geoplan.specs.Checked.{ChecksWith}
 use Rattle.geoplan.specs.CommandOf.{SourcesOf, JobOf, plan_command, check_command, rows_command, planned_sources, checked_sources, is_plain, are_shared, job_of, command_from, command_of}
-use Rattle.geoplan.specs.Digits.{whole_of}
+use Rattle.text_num.specs.Digits.{digits_of}
 use Rattle.geoplan.specs.Input.{built_input, most_log_bytes, long_log_or, input_of}
 use Rattle.geoplan.specs.Outcomes.{LeavesLog, AcceptsLog}
 use Rattle.geoplan.specs.Promises.{IsCheckStatus, IsStatusOf}
@@ -49,7 +49,7 @@ named_by points candidates log false None job apart is = absurd (cc)
 named_by points candidates log false (Some q) job apart is = let e : made points candidates log q ≡ job = cc in subst HasNames e (made_names points candidates log q apart)
 
 job_names : (points candidates redundancy log : List ℕ) (job : JobOf) → job_of points candidates redundancy log ≡ Some job → HasNames job
-job_names points candidates redundancy log job is = named_by points candidates log (are_shared points candidates log) (whole_of 3 redundancy) job refl is
+job_names points candidates redundancy log job is = named_by points candidates log (are_shared points candidates log) (digits_of 3 redundancy) job refl is
 
 plan_job : (planned checked : Bool) (given : Option JobOf) (job : JobOf) → (if planned then option_map plan_command given else (if checked then option_map check_command given else None)) ≡ Some (plan_command job) → given ≡ Some job
 plan_job true checked None job is = absurd (cc)

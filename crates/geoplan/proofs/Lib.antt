@@ -1,4 +1,3 @@
-pub mod DigitLemmas
 pub mod CommandLemmas
 pub mod TextLemmas
 pub mod InputLemmas

@@ -1,6 +1,6 @@
 use Rattle.std.specs.Prelude.{◌≡◌, ℕ, List, [], ◌∷◌, drop, Bool, false, not, ◌||◌, ◌==◌, if◌then◌else◌, Option, Some, None, option_map, bytes_eq, codes}
 use Rattle.std.specs.List.{list_all}
-use Rattle.geoplan.specs.Digits.{whole_of}
+use Rattle.text_num.specs.Digits.{digits_of}
 
 -- The words of a command line, the program's name first. This project's own.
 
@@ -57,7 +57,7 @@ are_shared points candidates log = bytes_eq points candidates || (bytes_eq point
 abbrev pub job_of : List ℕ → List ℕ → List ℕ → List ℕ → Option JobOf
 job_of points candidates redundancy log =
     if are_shared points candidates log then None
-    else option_map (λ q. record { points = points; candidates = candidates; redundancy = q; log = log }) (whole_of 3 redundancy)
+    else option_map (λ q. record { points = points; candidates = candidates; redundancy = q; log = log }) (digits_of 3 redundancy)
 
 -- the command of words that are all plain
 abbrev pub command_from : List (List ℕ) → Option CommandOf

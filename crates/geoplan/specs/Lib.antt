@@ -1,6 +1,5 @@
 -- What the contract of the top call says, in the order of reading: CommandOf, Input, Tables, Texts, Outcomes, Printing,
 -- Promises, and Checked for the law beside it. The other modules are for private clauses and proofs.
-pub mod Digits
 pub mod CommandOf
 pub mod Tables
 pub mod Input

@@ -3,8 +3,8 @@ ghost use Rattle.std.specs.List.{list_all};
 ghost use Rattle.geoplan.specs.CommandOf.{is_plain, job_of, command_from, command_of, sources_of, planned_sources, checked_sources};
 ghost use Rattle.geoplan.specs.CommandView.{sources_view, job_view, command_view};
 
-use crate::digits::whole;
 use crate::words::Words;
+use text_num::read_digits;
 
 /// What a command reads: its two tables, by their names, and the redundancy that is asked of their
 /// network, in thousandths; and the name of a log, if it reads one.
@@ -59,7 +59,7 @@ impl<'a> Job<'a> {
         if is_same(points, candidates) || is_same(points, log) || is_same(candidates, log) {
             return None;
         }
-        match whole(redundancy.as_bytes(), 3) {
+        match read_digits(redundancy.as_bytes(), 3) {
             None => None,
             Some(redundancy) => Some(Job {
                 points,

@@ -3,7 +3,6 @@
 
 mod answer;
 mod command;
-mod digits;
 mod input;
 mod laws;
 mod load;

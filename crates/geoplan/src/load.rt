@@ -96,11 +96,7 @@ fn accept(
     ensures good { IfOk result IsGoodInput }
 {
     match build(alloc, &points, &candidates, redundancy) {
-        Ok(network) => {
-            // A network keeps its bounds.
-            let _bounded = network.unknowns();
-            Ok(Input::Built(Tables::new(points, candidates, network)))
-        }
+        Ok(network) => Ok(Input::Built(Tables::new(points, candidates, network))),
         Err(TableAnswer::Fault(fault)) => Ok(Input::Refused(fault)),
         Err(TableAnswer::NoMemory) => Err(NoMemory),
     }
