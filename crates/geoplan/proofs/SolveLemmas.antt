@@ -6,7 +6,6 @@ use Rattle.shelf_io.proofs.FileLaws.{with_piece-with_bytes}
 use Rattle.geo_model.specs.declared.answer.SearchDone.{SearchDone}
 use Rattle.bound_log.proofs.AllowedLemmas.{cost_allowed}
 use Rattle.bound_log.specs.LogText.{log_text}
-use Rattle.bound_log.proofs.AllowedLemmas.{cost_allowed}
 use Rattle.bound_log.specs.LogTree.{root_of}
 use Rattle.bound_log.specs.Tree.{tip, cost}
 use Rattle.branch_bound.specs.declared.search_fault.SearchFault.{SearchFault}

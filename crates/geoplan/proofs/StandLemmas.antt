@@ -95,7 +95,7 @@ module _ (job : JobOf) (before now : ShelfState) (tables : TablesOf) (bound : Bo
       ended status.NoPlan no_plan_text
       (λ said. record { tables = tables; leaves = leaves_as NoPlan is; uncertified = uncertified (leaves_as NoPlan is); printed = said }) reports
   by_answer (answer.Undecided plan number step lo hi) is reports =
-      ended status.Undecided (tables_undecided_text tables plan is.open_limit.limit.kind step lo hi)
+      ended status.Undecided (tables_undecided_text tables plan is.open_limit.here.limit.kind step lo hi)
       (λ said. record {
         tables = tables;
         plan = plan;
@@ -109,7 +109,7 @@ module _ (job : JobOf) (before now : ShelfState) (tables : TablesOf) (bound : Bo
         open_limit = is.open_limit;
         printed = said;
       })
-      (reports is.open_limit.limit is.open_limit.named)
+      (reports is.open_limit.here.limit is.open_limit.here.named)
 
 -- what stands once the search is done and its answer is reported
 pub PlanStands-reported : (job : JobOf) (tables : TablesOf) (read : List ℕ) (done : SearchDone) (before middle now : ShelfState) (ends : Status) (text : List ℕ) → HasTables (planned_sources job) tables read before middle → Solves tables job.log done middle now → Reports tables done.answer ends text → PlanStands job before now ends text
@@ -149,7 +149,7 @@ PlanStands-unwritten job tables read why before middle now ends text has failed 
 can_report : (tables : TablesOf) (bound : Bound) (given : Answer) → IsAnswer tables.network bound given → CanReport tables given
 can_report tables bound (answer.Best plan) is = is.certified.long
 can_report tables bound answer.NoPlan is = tt
-can_report tables bound (answer.Undecided plan number step lo hi) is = (is.long, record { limit = is.open_limit.limit; named = is.open_limit.named })
+can_report tables bound (answer.Undecided plan number step lo hi) is = (is.long, record { limit = is.open_limit.here.limit; named = is.open_limit.here.named })
 
 pub CanReport-solved : (tables : TablesOf) (log : List ℕ) (done : SearchDone) (before now : ShelfState) → Solves tables log done before now → CanReport tables done.answer
 CanReport-solved tables log done before now solved = can_report tables (bound_at tables.network (root_of tables.network) solved.tree) done.answer solved.searched.answered

@@ -76,7 +76,7 @@ pub record LeavesOpen (job : JobOf) (before now : ShelfState) (text : List ℕ) 
   pub unsettled : IsUnsettled tables.network plan
   pub dearer : (other : List Bool) → IsCertified tables.network other → cost_of tables.network.candidates plan < cost_of tables.network.candidates other
   pub open_limit : IsFirstOpen tables.network plan number step lo hi
-  pub printed : text ≡ tables_undecided_text tables plan open_limit.limit.kind step lo hi
+  pub printed : text ≡ tables_undecided_text tables plan open_limit.here.limit.kind step lo hi
 
 -- ---- the unknowns and rows, and a log that is checked
 
