@@ -104,7 +104,7 @@ module _ (job : JobOf) (before now : ShelfState) (tables : TablesOf) (bound : Bo
         lo = lo;
         hi = hi;
         leaves = leaves_as (AtLeast (cost_of tables.network.candidates plan)) is.price;
-        unsettled = record { long = is.long; unsettled = is.unsettled };
+        unsettled = is.unsettled;
         dearer = is.dearer;
         open_limit = is.open_limit;
         printed = said;
@@ -149,7 +149,7 @@ PlanStands-unwritten job tables read why before middle now ends text has failed 
 can_report : (tables : TablesOf) (bound : Bound) (given : Answer) → IsAnswer tables.network bound given → CanReport tables given
 can_report tables bound (answer.Best plan) is = is.certified.long
 can_report tables bound answer.NoPlan is = tt
-can_report tables bound (answer.Undecided plan number step lo hi) is = (is.long, record { limit = is.open_limit.here.limit; named = is.open_limit.here.named })
+can_report tables bound (answer.Undecided plan number step lo hi) is = (is.unsettled.long, record { limit = is.open_limit.here.limit; named = is.open_limit.here.named })
 
 pub CanReport-solved : (tables : TablesOf) (log : List ℕ) (done : SearchDone) (before now : ShelfState) → Solves tables log done before now → CanReport tables done.answer
 CanReport-solved tables log done before now solved = can_report tables (bound_at tables.network (root_of tables.network) solved.tree) done.answer solved.searched.answered
