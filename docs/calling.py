@@ -104,14 +104,14 @@ def functions(path):
         if not match or "#[test]" in "".join(lines[max(0, at - 2):at]):
             continue
         indent, end = match.group(1), at
-        while not re.match("^%s[{}]" % indent, lines[end]) and not lines[end].rstrip().endswith(";"):
+        while not re.search(r"(^%s[{}]|[{;]$)" % indent, lines[end]):
             end += 1
-            if end == len(lines):
-                break
         last = end
-        if end < len(lines) and lines[end] == indent + "{":
+        if lines[end].endswith("{"):
             while lines[last] != indent + "}":
                 last += 1
+        if end == at:
+            end += 1
         doc = at
         while doc and (lines[doc - 1].startswith(indent + "///") or lines[doc - 1].startswith(indent + "#[")):
             doc -= 1
@@ -137,7 +137,7 @@ def contract(owner, name, head):
     signature = re.sub(r",\)", ")", signature)
     if owner:
         signature = signature.replace("fn %s" % name, "fn %s::%s" % (owner, name), 1)
-    return [signature.rstrip(" {")] + ["  " + re.sub(r"\s+", " ", part) for part in parts[1:]]
+    return [signature.rstrip(" {")] + ["  " + re.sub(r"\s+", " ", part).strip() for part in parts[1:]]
 
 
 def exported(crate):
