@@ -1,4 +1,15 @@
-//! The log of a search: its lines, the tree that they spell, and the bound that it proves.
+//! The lines of a log, written and read, the tree that they spell, its bound, and the law that
+//! this is a lower bound for any text whatever.
+//!
+//! Proved: a line is read exactly where it is in the grammar, as the one line that it spells; what
+//! a put call appends reads back; a text has at most one tree of numbers of at most 19 digits, and
+//! as a log of a network at most one bound; the bound of any text is at most the price of every
+//! plan that meets the limits, whoever wrote it.
+//!
+//! Said by: `read_line`, `a_text_is_one_line`, `numbers_are_numerals`, `written_lines_are_read`;
+//! `a_text_has_one_tree`, `a_text_has_one_bound`; `checker_is_sound`.
+//!
+//! Caller: `take_text` of `log_check/src/replaying.rt`.
 #![tactic(auto)]
 
 mod bound;

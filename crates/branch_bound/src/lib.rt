@@ -1,4 +1,14 @@
-//! The search for the cheapest plan that meets the limits, which writes a log of bounds as it goes.
+//! The search for the cheapest certified plan of a network. It appends a log that proves its
+//! answer to the name that a shelf has started.
+//!
+//! Proved: in any network, the answer of a search is what its log says: a certified plan whose
+//! price is the log's bound; or that no plan is left; or an unsettled plan whose price is the
+//! bound, where every certified plan costs more, with its first open limit. After a fault the
+//! beginning of a log stands under its name.
+//!
+//! Said by: `search`, clauses `searched`, `refused`.
+//!
+//! Caller: `solve` of `geoplan/src/solve.rt`.
 #![tactic(auto)]
 
 mod answer;

@@ -1,4 +1,12 @@
-//! The candidates table: its records read by field against the points, or its first fault.
+//! The candidates table against accepted points: its records by field, or its first fault.
+//!
+//! Proved: the candidates table against the points, the same; accepted candidates name points that
+//! have the parts they need.
+//!
+//! Said by: `read_candidates`, clauses `answer`, `accepted`; `Candidates::find`,
+//! `first_candidate_fault_is_least`.
+//!
+//! Caller: `judge` of `geoplan/src/load.rt`.
 #![tactic(auto)]
 
 mod candidates;

@@ -1,4 +1,13 @@
-//! The numbered unknowns of a network, and the weighted rows of each candidate.
+//! The unknowns of both tables by their numbers, and the weighted rows of a candidate.
+//!
+//! Proved: the unknowns in the order of their numbers, which all differ, each found at its number
+//! and nothing else; the rows of an accepted candidate are those of the observation equations,
+//! within the bounds of a network's rows.
+//!
+//! Said by: `Columns::number`, `Columns::find`, `rows_of`; `unknowns_differ`,
+//! `rows_are_within_bounds`.
+//!
+//! Caller: `candidate_of` of `net_build/src/candidates.rt`.
 #![tactic(auto)]
 
 mod columns;

@@ -1,5 +1,13 @@
-//! What every layer stands on: the one answer that no caller can rule out, and the
-//! exact arithmetic of whole numbers.
+//! Exact division, shifts, roots, and `NoMemory`, the one answer that has no cause. Each call
+//! equals its formula under its condition and takes no memory.
+//!
+//! Proved: floor, ceiling, nearest number, root, shift and exponent equal their formulas, and are
+//! the only numbers that meet their inequalities.
+//!
+//! Said by: the six calls; `rounded_quotients_are_unique`,
+//! `shifts_exponents_and_roots_are_unique`.
+//!
+//! Caller: `weight_of` of `coefficient_round/src/weight.rt`.
 #![tactic(auto)]
 
 mod division;

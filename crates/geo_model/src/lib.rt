@@ -1,4 +1,13 @@
-//! The types of a control network and its plans, and what they mean: energy, limits, cost.
+//! Networks, plans, limits, energy and price. Contracts see a `Plan` as a list of truth values and
+//! a `Network` as a record of lists, which keeps its bounds.
+//!
+//! Proved: a network keeps its bounds; a larger plan keeps each limit that is met, and costs at
+//! least as much; no sum over a network leaves 128 bits at displacements of up to 2^15.
+//!
+//! Said by: `Network::new`, `larger_plans_keep_limits`, `larger_plans_cost_more`,
+//! `sums_stay_within_128_bits`.
+//!
+//! Caller: `is_cheaper` of `branch_bound/src/node_tests.rt`.
 #![tactic(auto)]
 
 mod answer;

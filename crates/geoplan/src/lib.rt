@@ -1,4 +1,7 @@
-//! Plans for control networks.
+//! The top call: the words of a command line, a shelf and a sink; it answers the exit status.
+//! docs/DESIGN.md says in which order its contract is read.
+//!
+//! Caller: `main` of `geoplan_cli/src/main.rt`.
 #![tactic(auto)]
 
 mod answer;

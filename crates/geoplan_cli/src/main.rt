@@ -1,4 +1,5 @@
-//! The program `geoplan`: the top call over the files of the system and the standard output.
+//! The program: it hands the words of the system, its files and its standard output to the top
+//! call, and ends with the status.
 #![tactic(auto)]
 
 use geoplan::{Words, geoplan};

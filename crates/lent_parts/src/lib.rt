@@ -1,5 +1,13 @@
-//! Parts that are lent and not copied: rows of a triangle of whole numbers, tokens of a line and
-//! lines of a text.
+//! A triangle of numbers whose rows are lent for writing, and walks that lend the tokens of a line
+//! and the lines of a text: nothing is copied.
+//!
+//! Proved: a triangle of numbers, whose rows are lent for writing; the tokens of a line are its
+//! slices at their starts, and joined by spaces they are the line; the lines of a text with their
+//! LFs are the text; nothing is copied.
+//!
+//! Said by: `Tri::row_mut`; `tokens`, `lines`, `tokens_make_the_line`, `lines_make_the_text`.
+//!
+//! Caller: `write_grids` of `pivot_chain/src/judging.rt`.
 #![tactic(auto)]
 
 mod laws;

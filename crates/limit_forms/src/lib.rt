@@ -1,4 +1,14 @@
-//! The form of a limit under a plan, and the whole-number grid on which it is judged.
+//! The form of a limit under a plan, and the rows of its two grid matrices, between which the form
+//! lies.
+//!
+//! Proved: the rows that the code writes are those of the two grid matrices, between which the
+//! form lies; the verdict of the chains on them decides the limit, in any network; entries below
+//! 2^109, diagonals of the chains below 2^61.
+//!
+//! Said by: `grid_row`, `form_entry`; `grid_matrices_surround_the_form`,
+//! `grid_verdicts_decide_limits`, `grid_matrices_are_small`, `grid_chains_stay_low`.
+//!
+//! Caller: `write_grids` of `pivot_chain/src/judging.rt`.
 #![tactic(auto)]
 
 mod exponents;

@@ -1,5 +1,13 @@
-//! The replay of a log: its bound and the counts of its lines, or its first fault. It stands on no
-//! part of the search.
+//! The replay of a log over a network: its bound and the counts of its lines, or its first fault.
+//! It stands on no crate of the search; all its memory is taken at its start.
+//!
+//! Proved: a text is replayed to the bound and the counts of its one tree, or to its first fault,
+//! a line and a kind; each text is a log or has a first fault, never both, nor two.
+//!
+//! Said by: `replay`, clauses `replayed`, `fault`; `each_text_has_one_verdict`,
+//! `rules_say_what_is_allowed`.
+//!
+//! Caller: `replayed` of `geoplan/src/answer.rt`.
 #![tactic(auto)]
 
 mod fault;

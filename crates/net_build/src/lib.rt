@@ -1,4 +1,13 @@
-//! The network of a points table and a candidates table, with its limits.
+//! The network of both tables with its limits, or the count that is too large.
+//!
+//! Proved: the network of both tables is the defined one and keeps the bounds of networks; a fault
+//! comes exactly where there are more than 64 unknowns, or else more than 512 rows, with their
+//! count; its grid matrices stay below 2^71 beside the diagonal.
+//!
+//! Said by: `build`, clauses `answer`, `bounds`; `built_networks_are_networks`,
+//! `built_grids_are_small`.
+//!
+//! Caller: `accept` of `geoplan/src/load.rt`.
 #![tactic(auto)]
 
 mod candidates;

@@ -1,4 +1,14 @@
-//! The verdict of a plan on a limit of a network: met for all displacements, refuted by one, or open.
+//! The verdict of a plan on a limit. A `ChainRoom` takes all memory before; a verdict takes none.
+//!
+//! Proved: the verdict of a plan on a limit is exactly the defined one, whatever the room was used
+//! for before, and takes no memory; Met holds for all displacements and for all larger plans,
+//! Refuted is broken by one, Open has an interval with 0 in it; a certified plan meets the limits,
+//! and a plan within one that is refuted on a limit doesn't meet that limit.
+//!
+//! Said by: `verdict`, clauses `exact`, `met`, `larger`, `refuted`, `interval`;
+//! `certified_plans_meet_limits`, `refuted_plans_fail`.
+//!
+//! Caller: `is_met` of `branch_bound/src/limit_tests.rt`.
 #![tactic(auto)]
 
 mod chain;

@@ -1,4 +1,10 @@
-//! The texts that the program prints of a network.
+//! The text of a network's unknowns and rows.
+//!
+//! Proved: the text of the unknowns and rows of a network.
+//!
+//! Said by: `rows_text`.
+//!
+//! Caller: `list` of `geoplan/src/answer.rt`.
 #![tactic(auto)]
 
 mod rows;

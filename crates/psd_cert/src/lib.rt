@@ -1,5 +1,10 @@
-//! Certificates by dominance: smaller and smaller matrices that show a quadratic form to be nowhere
-//! negative. Besides, the arithmetic of one step of an interval chain.
+//! Certificates by dominance: made from the lower chain of a matrix, checked step by step, and
+//! sound for all lists of whole numbers.
+//!
+//! Proved: a certificate by dominance is made from the lower chain wherever that doesn't stop, and
+//! checked step by step; one that holds proves its form nowhere negative.
+//!
+//! Said by: `SquareCert::make`, `step_holds`, `holds`.
 #![tactic(auto)]
 
 mod arithmetic;

@@ -1,7 +1,14 @@
-//! Named files and a stream to write to, behind traits whose clauses tell which bytes stand where after each
-//! answer, and why a call failed. Two forms in memory keep their bytes: one never fails but for want of
-//! memory, the other fails at the calls that it is told. Two adapters reach the files and the standard
-//! output of the system.
+//! Named files and a stream for output, as traits whose contracts tell what is held and written
+//! after each answer; forms in memory for tests (`MemShelf`, `MemSink` with calls that fail,
+//! `SureShelf`, `SureSink`), and the adapters to real files.
+//!
+//! Proved: what is held, started and written after each answer, and that a fault comes only where
+//! the count rose.
+//!
+//! Said by: traits `Shelf`, `Sink`, kept by `MemShelf`, `SureShelf`, `FileShelf`, `MemSink`,
+//! `SureSink`, `OutSink`.
+//!
+//! Caller: `read_file` of `geoplan/src/load.rt`.
 #![tactic(auto)]
 
 mod access;

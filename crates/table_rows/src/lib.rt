@@ -1,4 +1,12 @@
-//! The stream of records that every table is read from.
+//! The records of a table, one after another, each field as its text. After `NoMemory` the stream
+//! is at its end.
+//!
+//! Proved: the records of a table, one after another, and that its first fault is the least pair
+//! of record and rule.
+//!
+//! Said by: `TableRows::next`, `first_fault_is_least`.
+//!
+//! Caller: `read_candidates` of `candidate_tables/src/read.rt`.
 #![tactic(auto)]
 
 mod faults;

@@ -1,4 +1,13 @@
-//! Decimal numbers as text: reading them, and writing them without a leading zero.
+//! Decimals with a fixed number of places, both ways, and numbers of digits alone. A text outside
+//! the grammar is `None`.
+//!
+//! Proved: a decimal is read to its value, exactly where it is one; what is written reads back;
+//! numbers of digits alone.
+//!
+//! Said by: `read_decimal`, clauses `value`, `none`; `decimals_are_the_grammar`,
+//! `written_decimals_are_read`; `put_decimal`, `put_whole`, `read_digits`.
+//!
+//! Caller: `read_number` of `point_tables/src/number.rt`.
 #![tactic(auto)]
 
 mod laws;

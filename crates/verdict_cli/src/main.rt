@@ -1,5 +1,10 @@
-//! A program that stands beside the product, for comparison and measurement: it reads two tables and plans
-//! from the standard input, and prints the verdict of each plan on each limit of their network.
+//! A program beside the product: from two tables and plans on standard input it prints the verdict
+//! of each plan on each limit, for comparison and measurement.
+//!
+//! Proved: no part of the product: from two tables and plans on standard input it prints each
+//! plan's verdict on each limit, exactly those of the definition.
+//!
+//! Said by: `put_answer`, clauses `answer`, `refused`.
 #![tactic(auto)]
 
 mod answer;

@@ -1,5 +1,13 @@
-//! Whole numbers and symmetric matrices of them: laws, interval chains of pivots, and certificates. All here is proved
-//! of the definitions in `specs/`, which upper crates cite; nothing runs.
+//! Definitions and laws over whole numbers and symmetric matrices of them; nothing runs. Upper
+//! crates cite its words in clauses and its lemmas in proofs.
+//!
+//! Proved: completing the square; rounding with slack bounds a form from below and above; where
+//! the lower chain doesn't stop, the form is nowhere negative; where the upper one stops, over at
+//! most 64 rows whose diagonals stay low (as those of grid matrices do), it is negative somewhere;
+//! a certificate by dominance proves its form nowhere negative.
+//!
+//! Said by: `pivot_completes_the_square`, `slack_covers_the_rounding`, `lower_chain_is_sound`,
+//! `upper_chain_refutes`, `verdicts_are_sound`, `certificate_is_sound` and further laws.
 #![tactic(auto)]
 
 mod certificates;

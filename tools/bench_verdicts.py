@@ -1,7 +1,7 @@
 """Measures what a verdict costs, with the built program verdict_cli.
 
-    python3 docs/bench_verdicts.py PROGRAM [TIMES]    prints a row of a table for each network
-    python3 docs/bench_verdicts.py --inputs FOLDER    writes the inputs alone, each verdict once
+    python3 tools/bench_verdicts.py PROGRAM [TIMES]    prints a row of a table for each network
+    python3 tools/bench_verdicts.py --inputs FOLDER    writes the inputs alone, each verdict once
 
 PROGRAM is crates/verdict_cli/out/verdict_cli after `rt run` there. Each verdict is reckoned TIMES times (200
 if it isn't told) and once, three times each, and the least processor times are subtracted. The networks are
