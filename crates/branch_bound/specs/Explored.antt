@@ -23,7 +23,7 @@ use Rattle.branch_bound.specs.Found.{IsDone}
 pub record Adds (name text : List ℕ) (before now : ShelfState) : Type 0 where
   pub written : now.held ≡ with_piece before.held name text
   pub started : now.started ≡ Some name
-  pub quiet : KeepsFaults before.faults now.faults before.last_fault now.last_fault
+  pub quiet : KeepsFaults before now
 
 -- the beginning of a text was added under the name, and then a fault came, for want of memory or as a write failed
 pub record Breaks (name text : List ℕ) (why : SearchFault) (before now : ShelfState) : Type 0 where
@@ -33,7 +33,7 @@ pub record Breaks (name text : List ℕ) (why : SearchFault) (before now : Shelf
   pub written : now.held ≡ with_piece before.held name piece
   pub later : before.faults ≤ now.faults
   pub failed : why ≡ fault.WriteFault → Rose before.faults now.faults × (now.last_fault ≡ Some (write_of name))
-  pub no_memory : why ≡ fault.NoMemory → KeepsFaults before.faults now.faults before.last_fault now.last_fault
+  pub no_memory : why ≡ fault.NoMemory → KeepsFaults before now
 
 -- the line of a log that a value of the code stands for
 abbrev pub line_of : Line → LineOf

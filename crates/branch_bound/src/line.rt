@@ -3,7 +3,6 @@ ghost use Rattle.std.specs.Prelude.{◌≡◌, [], ◌∷◌, ◌++◌, Some, On
 ghost use Rattle.bound_log.specs.Counted.{counts_with};
 ghost use Rattle.bound_log.specs.LogLines.{log_line_of};
 ghost use Rattle.bound_log.specs.LogText.{line_text};
-ghost use Rattle.shelf_io.specs.States.{state_of};
 ghost use Rattle.branch_bound.specs.Explored.{Adds, Breaks, line_of};
 
 use crate::search_fault::SearchFault;
@@ -46,13 +45,9 @@ fn counted_line(line: Line) -> LogLine
 
 /// Appends a piece under the started name.
 pub fn write_piece<H: Shelf>(shelf: &mut H, name: &str, piece: &[u8]) -> Result<(), SearchFault>
-    requires { H.started shelf.old ≡ Some name.now }
-    ensures added { OnOk result (Adds name.now piece.now
-        (state_of H.held H.faults H.last_fault H.started shelf.old)
-        (state_of H.held H.faults H.last_fault H.started shelf.new)) }
-    ensures refused { IfErr result (λ why. Breaks name.now piece.now why
-        (state_of H.held H.faults H.last_fault H.started shelf.old)
-        (state_of H.held H.faults H.last_fault H.started shelf.new)) }
+    requires { (H.state shelf.old).started ≡ Some name.now }
+    ensures added { OnOk result (Adds name.now piece.now (H.state shelf.old) (H.state shelf.new)) }
+    ensures refused { IfErr result (λ why. Breaks name.now piece.now why (H.state shelf.old) (H.state shelf.new)) }
 {
     match shelf.append(name, piece) {
         Ok(()) => Ok(()),
@@ -69,14 +64,11 @@ pub fn write_line<H: Shelf>(
     counts: &mut Counts,
     line: Line,
 ) -> Result<(), SearchFault>
-    requires { H.started shelf.old ≡ Some name.now }
-    ensures added { OnOk result (Adds name.now (line_text (line_of line))
-        (state_of H.held H.faults H.last_fault H.started shelf.old)
-        (state_of H.held H.faults H.last_fault H.started shelf.new)) }
+    requires { (H.state shelf.old).started ≡ Some name.now }
+    ensures added { OnOk result (Adds name.now (line_text (line_of line)) (H.state shelf.old) (H.state shelf.new)) }
     ensures counted { OnOk result (counts.new ≡ counts_with counts.old (line_of line ∷ [])) }
-    ensures refused { IfErr result (λ why. Breaks name.now (line_text (line_of line)) why
-        (state_of H.held H.faults H.last_fault H.started shelf.old)
-        (state_of H.held H.faults H.last_fault H.started shelf.new)) }
+    ensures refused { IfErr result (λ why. Breaks name.now (line_text (line_of line)) why (H.state shelf.old)
+        (H.state shelf.new)) }
 {
     buffer.clear();
     if spell(buffer, line).is_err() {

@@ -3,7 +3,6 @@ ghost use Rattle.std.specs.Prelude.{◌≡◌, Some, OnOk, IfErr, IfOk};
 ghost use Rattle.pivot_chain.specs.Room.{IsRoomOf};
 ghost use Rattle.bound_log.specs.LogText.{head_text};
 ghost use Rattle.branch_bound.specs.declared.best.Best.TheVariants as found;
-ghost use Rattle.shelf_io.specs.States.{state_of};
 ghost use Rattle.branch_bound.specs.Explored.{IsNode, Adds, Breaks, Explores, BreaksOff};
 ghost use Rattle.branch_bound.specs.Found.{IsKept, IsAnswerOf};
 ghost use Rattle.branch_bound.specs.Logged.{Searches, BreaksLog};
@@ -75,20 +74,18 @@ fn explore<H: Shelf>(
     node: &mut Node,
     told: Told,
 ) -> Result<(), SearchFault>
-    requires started { H.started shelf.old ≡ Some name.now }
+    requires started { (H.state shelf.old).started ≡ Some name.now }
     requires node { IsNode network.now node.old }
     requires told { IsTold network.now node.old told }
     requires room { IsRoomOf network.now progress.old.room }
     requires kept { IsKept network.now progress.old.best }
     ensures explored { OnOk result (Explores network.now node.old name.now
-        progress.old.best progress.new.best progress.old.counts progress.new.counts
-        (state_of H.held H.faults H.last_fault H.started shelf.old)
-        (state_of H.held H.faults H.last_fault H.started shelf.new)) }
+        progress.old.best progress.new.best progress.old.counts progress.new.counts (H.state shelf.old)
+        (H.state shelf.new)) }
     ensures node { OnOk result (node.new ≡ node.old) }
     ensures room { OnOk result (IsRoomOf network.now progress.new.room) }
-    ensures refused { IfErr result (λ why. BreaksOff network.now node.old name.now why
-        (state_of H.held H.faults H.last_fault H.started shelf.old)
-        (state_of H.held H.faults H.last_fault H.started shelf.new)) }
+    ensures refused { IfErr result (λ why. BreaksOff network.now node.old name.now why (H.state shelf.old)
+        (H.state shelf.new)) }
 {
     let mut told = told;
     let line = line_at(
@@ -130,13 +127,9 @@ fn explore<H: Shelf>(
 
 /// Writes the first line of a log. `buffer` is room for its bytes.
 fn begin_log<H: Shelf>(shelf: &mut H, name: &str, buffer: &mut Vec<u8>) -> Result<(), SearchFault>
-    requires { H.started shelf.old ≡ Some name.now }
-    ensures added { OnOk result (Adds name.now head_text
-        (state_of H.held H.faults H.last_fault H.started shelf.old)
-        (state_of H.held H.faults H.last_fault H.started shelf.new)) }
-    ensures refused { IfErr result (λ why. Breaks name.now head_text why
-        (state_of H.held H.faults H.last_fault H.started shelf.old)
-        (state_of H.held H.faults H.last_fault H.started shelf.new)) }
+    requires { (H.state shelf.old).started ≡ Some name.now }
+    ensures added { OnOk result (Adds name.now head_text (H.state shelf.old) (H.state shelf.new)) }
+    ensures refused { IfErr result (λ why. Breaks name.now head_text why (H.state shelf.old) (H.state shelf.new)) }
 {
     buffer.clear();
     put_head(buffer)?;
@@ -159,17 +152,14 @@ pub fn search<H: Shelf>(
     shelf: &mut H,
     name: &str,
 ) -> Result<SearchDone, SearchFault>
-    requires started { H.started shelf.old ≡ Some name.now }
+    requires started { (H.state shelf.old).started ≡ Some name.now }
 
     // One whole log was added under the name, and the answer is what it says.
-    ensures searched { IfOk result (λ done. Searches network.now name.now done
-        (state_of H.held H.faults H.last_fault H.started shelf.old)
-        (state_of H.held H.faults H.last_fault H.started shelf.new)) }
+    ensures searched { IfOk result (λ done. Searches network.now name.now done (H.state shelf.old)
+        (H.state shelf.new)) }
 
     // The beginning of a log was added, and the fault has its cause.
-    ensures refused { IfErr result (λ why. BreaksLog network.now name.now why
-        (state_of H.held H.faults H.last_fault H.started shelf.old)
-        (state_of H.held H.faults H.last_fault H.started shelf.new)) }
+    ensures refused { IfErr result (λ why. BreaksLog network.now name.now why (H.state shelf.old) (H.state shelf.new)) }
 {
     let mut node = Node::whole(alloc, network.candidates().len() as u32)?;
     let room = ChainRoom::new(alloc, network)?;

@@ -1,16 +1,11 @@
 -- Why a call on a shelf or a sink answered as it did. This project's own.
-use Rattle.std.specs.Prelude.{◌≡◌, ℕ, ◌+◌, ◌-◌, ◌^◌, ◌≤◌, min, List, Option, Some, Result, Err, IsOk}
-use Rattle.shelf_io.specs.declared.access.Access.{Access}
+use Rattle.std.specs.Prelude.{◌≡◌, ℕ, ◌+◌, ◌-◌, ◌^◌, ◌≤◌, min, List, Some, Result, Err, IsOk}
 use Rattle.shelf_io.specs.declared.access.Access.TheVariants.{Read, Write}
 use Rattle.shelf_io.specs.declared.read_answer.ReadAnswer.{ReadAnswer}
 use Rattle.shelf_io.specs.declared.read_answer.ReadAnswer.TheVariants as read_answer
 use Rattle.shelf_io.specs.declared.write_answer.WriteAnswer.{WriteAnswer}
 use Rattle.shelf_io.specs.declared.write_answer.WriteAnswer.TheVariants as write_answer
-
--- the latest call of a shelf that answered `Failed`: whether it read or wrote, and the bytes of its name
-pub record LastFault : Type 0 where
-  pub access : Access
-  pub name : List ℕ
+use Rattle.shelf_io.specs.States.{LastFault, ShelfState, SinkState}
 
 -- a read of the name failed
 abbrev pub read_of : List ℕ → LastFault
@@ -29,37 +24,37 @@ abbrev pub Rose : ℕ → ℕ → Type 0
 Rose before now = next_count before ≤ now
 
 -- a call left the count of faults and the last fault as they were
-pub record KeepsFaults (before now : ℕ) (last last_now : Option LastFault) : Type 0 where
-  pub same_count : now ≡ before
-  pub same_last : last_now ≡ last
+pub record KeepsFaults (before now : ShelfState) : Type 0 where
+  pub same_count : now.faults ≡ before.faults
+  pub same_last : now.last_fault ≡ before.last_fault
 
--- what an answer to a read of the name says of the count of faults and of the last fault, before the call and now
-pub record HasReadCause {T : Type 0} (answer : Result T ReadAnswer) (name : List ℕ) (before now : ℕ) (last last_now : Option LastFault) : Type 0 where
+-- what an answer to a read of the name says of the count of faults and of the last fault
+pub record HasReadCause {T : Type 0} (answer : Result T ReadAnswer) (name : List ℕ) (before now : ShelfState) : Type 0 where
   -- a count never falls
-  pub later : before ≤ now
+  pub later : before.faults ≤ now.faults
   -- it failed only where the count rose in this call, and then this read is the last fault
-  pub failed : answer ≡ Err read_answer.Failed → Rose before now × (last_now ≡ Some (read_of name))
+  pub failed : answer ≡ Err read_answer.Failed → Rose before.faults now.faults × (now.last_fault ≡ Some (read_of name))
   -- any other answer counts no fault
-  pub done : IsOk answer → KeepsFaults before now last last_now
-  pub too_long : answer ≡ Err read_answer.TooLong → KeepsFaults before now last last_now
-  pub no_memory : answer ≡ Err read_answer.NoMemory → KeepsFaults before now last last_now
+  pub done : IsOk answer → KeepsFaults before now
+  pub too_long : answer ≡ Err read_answer.TooLong → KeepsFaults before now
+  pub no_memory : answer ≡ Err read_answer.NoMemory → KeepsFaults before now
 
--- what an answer to a write of the name says of the count of faults and of the last fault, before the call and now
-pub record HasWriteCause {T : Type 0} (answer : Result T WriteAnswer) (name : List ℕ) (before now : ℕ) (last last_now : Option LastFault) : Type 0 where
+-- what an answer to a write of the name says of the count of faults and of the last fault
+pub record HasWriteCause {T : Type 0} (answer : Result T WriteAnswer) (name : List ℕ) (before now : ShelfState) : Type 0 where
   -- a count never falls
-  pub later : before ≤ now
+  pub later : before.faults ≤ now.faults
   -- it failed only where the count rose in this call, and then this write is the last fault
-  pub failed : answer ≡ Err write_answer.Failed → Rose before now × (last_now ≡ Some (write_of name))
+  pub failed : answer ≡ Err write_answer.Failed → Rose before.faults now.faults × (now.last_fault ≡ Some (write_of name))
   -- any other answer counts no fault
-  pub done : IsOk answer → KeepsFaults before now last last_now
-  pub no_memory : answer ≡ Err write_answer.NoMemory → KeepsFaults before now last last_now
+  pub done : IsOk answer → KeepsFaults before now
+  pub no_memory : answer ≡ Err write_answer.NoMemory → KeepsFaults before now
 
--- what a sink's answer says of its count of faults, before the call and now
-pub record HasPutCause {T : Type 0} (answer : Result T WriteAnswer) (before now : ℕ) : Type 0 where
+-- what a sink's answer says of its count of faults
+pub record HasPutCause {T : Type 0} (answer : Result T WriteAnswer) (before now : SinkState) : Type 0 where
   -- a count never falls
-  pub later : before ≤ now
+  pub later : before.faults ≤ now.faults
   -- it failed only where the count rose in this call
-  pub failed : answer ≡ Err write_answer.Failed → Rose before now
+  pub failed : answer ≡ Err write_answer.Failed → Rose before.faults now.faults
   -- any other answer counts no fault
-  pub done : IsOk answer → now ≡ before
-  pub no_memory : answer ≡ Err write_answer.NoMemory → now ≡ before
+  pub done : IsOk answer → now.faults ≡ before.faults
+  pub no_memory : answer ≡ Err write_answer.NoMemory → now.faults ≡ before.faults

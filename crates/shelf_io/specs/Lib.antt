@@ -1,8 +1,8 @@
 pub mod Files
+pub mod States
 pub mod Faults
 pub mod Stored
 pub mod Written
-pub mod States
 pub mod FailingCalls
 pub mod MemShelf
 pub mod MemSink

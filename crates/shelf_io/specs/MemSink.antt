@@ -1,15 +1,12 @@
 -- What a sink in memory that fails where it is told to was given and counts. This project's own.
-use Rattle.std.specs.Prelude.{ℕ, List, Option, Some}
+use Rattle.std.specs.Prelude.{Some}
 use Rattle.shelf_io.specs.declared.failing_calls.FailingCalls.{FailingCalls}
 use Rattle.shelf_io.specs.declared.mem_sink.MemSink.{MemSink}
+use Rattle.shelf_io.specs.States.{SinkState}
 
--- the bytes that were written: it tells them always
-abbrev pub bytes_written : MemSink → Option (List ℕ)
-bytes_written sink = Some sink.bytes.items
-
--- how many calls failed
-abbrev pub fault_count : MemSink → ℕ
-fault_count sink = sink.faults
+-- its state: it tells the bytes that were written always
+abbrev pub sink_state : MemSink → SinkState
+sink_state sink = record { written = Some sink.bytes.items; faults = sink.faults }
 
 -- the calls that it counted, and those that are to fail
 abbrev pub calls_of : MemSink → FailingCalls

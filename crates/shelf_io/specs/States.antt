@@ -1,24 +1,30 @@
 -- What contracts above see of a shelf and of a sink at one moment. This project's own.
-use Rattle.std.specs.Prelude.{ℕ, List, Option}
+use Rattle.std.specs.Prelude.{ℕ, List, Option, None}
+use Rattle.shelf_io.specs.declared.access.Access.{Access}
 use Rattle.shelf_io.specs.Files.{Files}
-use Rattle.shelf_io.specs.Faults.{LastFault}
 
--- the state of a shelf
+-- the latest call of a shelf that answered `Failed`: whether it read or wrote, and the bytes of its name
+pub record LastFault : Type 0 where
+  pub access : Access
+  pub name : List ℕ
+
+-- the state of a shelf: the files that it holds, where it tells them; how many calls failed, and the latest of them; and
+-- the name that was started and may be appended to
 pub record ShelfState : Type 0 where
   pub held : Option Files
   pub faults : ℕ
   pub last_fault : Option LastFault
   pub started : Option (List ℕ)
 
--- the state of a shelf, from what its trait shows
-abbrev pub state_of : {S : Type 0} → (S → Option Files) → (S → ℕ) → (S → Option LastFault) → (S → Option (List ℕ)) → S → ShelfState
-state_of held faults last_fault started shelf = record { held = held shelf; faults = faults shelf; last_fault = last_fault shelf; started = started shelf }
+-- a shelf of which no call was made
+abbrev pub new_shelf : Option Files → ShelfState
+new_shelf held = record { held = held; faults = 0; last_fault = None; started = None }
 
--- the state of a sink
+-- the state of a sink: the bytes that were written, where it tells them, and how many calls failed
 pub record SinkState : Type 0 where
   pub written : Option (List ℕ)
   pub faults : ℕ
 
--- the state of a sink, from what its trait shows
-abbrev pub sink_state_of : {S : Type 0} → (S → Option (List ℕ)) → (S → ℕ) → S → SinkState
-sink_state_of written faults sink = record { written = written sink; faults = faults sink }
+-- a sink of which no call was made
+abbrev pub new_sink : Option (List ℕ) → SinkState
+new_sink written = record { written = written; faults = 0 }

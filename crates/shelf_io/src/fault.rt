@@ -10,7 +10,7 @@ pub(crate) struct Fault {
 
 impl Model for Fault {
     ghost use Rattle.std.specs.String.{string_bytes};
-    ghost use Rattle.shelf_io.specs.Faults.{LastFault};
+    ghost use Rattle.shelf_io.specs.States.{LastFault};
 
     ghost Value = { LastFault };
 

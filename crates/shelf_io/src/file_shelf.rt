@@ -1,6 +1,7 @@
 ghost use Rattle.std.specs.Prelude.{◌≡◌, ℕ, ◌^◌, ◌≤◌, List, ◌++◌, length, None, OnOk, OnErr};
 ghost use Rattle.std.specs.Option.{option_map};
 ghost use Rattle.std.specs.String.{string_bytes};
+ghost use Rattle.shelf_io.specs.States.{new_shelf};
 
 use crate::access::Access;
 use crate::faults::Faults;
@@ -29,13 +30,12 @@ pub struct FileShelf<'r, R: Files> {
 }
 
 impl<'r, R: Files> Shelf for FileShelf<'r, R> {
-    ghost held = { λ _. None };
-
-    ghost faults = { λ shelf. shelf.faults.count };
-
-    ghost last_fault = { λ shelf. shelf.faults.last };
-
-    ghost started = { λ shelf. option_map (λ opened. string_bytes opened.name) shelf.opened };
+    ghost state = { λ shelf. record {
+      held = None;
+      faults = shelf.faults.count;
+      last_fault = shelf.faults.last;
+      started = option_map (λ opened. string_bytes opened.name) shelf.opened;
+    } };
 
     ghost started_is_held = { λ shelf files name told started. absurd (Prim.cc) };
 
@@ -83,10 +83,7 @@ impl<'r, R: Files> Shelf for FileShelf<'r, R> {
 impl<'r, R: Files> FileShelf<'r, R> {
     /// No file is started.
     pub fn new(rt: &'r R, alloc: Global) -> FileShelf<'r, R>
-        ensures held { ⟦<FileShelf<'r, R> as Shelf>⟧.held result ≡ None }
-        ensures started { ⟦<FileShelf<'r, R> as Shelf>⟧.started result ≡ None }
-        ensures faults { ⟦<FileShelf<'r, R> as Shelf>⟧.faults result ≡ 0 }
-        ensures last_fault { ⟦<FileShelf<'r, R> as Shelf>⟧.last_fault result ≡ None }
+        ensures { ⟦<FileShelf<'r, R> as Shelf>⟧.state result ≡ new_shelf None }
     {
         FileShelf {
             rt,

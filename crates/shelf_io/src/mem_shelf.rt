@@ -2,7 +2,8 @@ ghost use Rattle.std.specs.Prelude.{◌≡◌, ◌⊎◌, ◌/◌, ℕ, ◌^◌,
 ghost use Rattle.std.specs.Option.{ForSome, option_copied};
 ghost use Rattle.std.specs.FinMap.{empty, get};
 ghost use Rattle.shelf_io.specs.Files.{IsHeld, bytes_of, with_bytes, with_piece};
-ghost use Rattle.shelf_io.specs.Faults.{HasReadCause, HasWriteCause};
+ghost use Rattle.shelf_io.specs.Faults.{KeepsFaults, HasReadCause, HasWriteCause};
+ghost use Rattle.shelf_io.specs.States.{new_shelf};
 
 use crate::access::Access;
 use crate::failing_calls::FailingCalls;
@@ -24,16 +25,10 @@ pub struct MemShelf {
 
 impl Shelf for MemShelf {
     ghost use Rattle.shelf_io.specs.FailingCalls.{IsNextFailing, CountsCall};
-    ghost use Rattle.shelf_io.specs.MemShelf.{calls_of, fault_count, files_held, latest_fault, name_started};
+    ghost use Rattle.shelf_io.specs.MemShelf.{calls_of, shelf_state};
     ghost use Rattle.shelf_io.specs.Stored.{started_of-held};
 
-    ghost held = { files_held };
-
-    ghost faults = { fault_count };
-
-    ghost last_fault = { latest_fault };
-
-    ghost started = { name_started };
+    ghost state = { shelf_state };
 
     ghost started_is_held = { λ shelf. started_of-held shelf.stored.files.items shelf.stored.is_started };
 
@@ -41,22 +36,22 @@ impl Shelf for MemShelf {
         requires { limit ≤ 2 ^ 28 }
         ensures appends { OnOk result ((bytes : List ℕ) × (length bytes ≤ limit)
             × (into.new.items ≡ into.old.items ++ bytes)) }
-        ensures bytes { OnOk result (ForSome (files_held self.old)
+        ensures bytes { OnOk result (ForSome (shelf_state self.old).held
             (λ files. into.new.items ≡ into.old.items ++ bytes_of files name.now)) }
-        ensures fits { OnOk result (ForSome (files_held self.old)
+        ensures fits { OnOk result (ForSome (shelf_state self.old).held
             (λ files. length (bytes_of files name.now) ≤ limit)) }
-        ensures too_long { IsErrOf result ReadAnswer.TooLong → ForSome (files_held self.old)
+        ensures too_long { IsErrOf result ReadAnswer.TooLong → ForSome (shelf_state self.old).held
             (λ files. limit < length (bytes_of files name.now)) }
         ensures unread { OnErr result (into.new.items ≡ into.old.items) }
-        ensures held { files_held self.new ≡ files_held self.old }
-        ensures started { name_started self.new ≡ name_started self.old }
-        ensures cause { HasReadCause result name.now (fault_count self.old) (fault_count self.new)
-            (latest_fault self.old) (latest_fault self.new) }
+        ensures held { (shelf_state self.new).held ≡ (shelf_state self.old).held }
+        ensures started { (shelf_state self.new).started ≡ (shelf_state self.old).started }
+        ensures cause { HasReadCause result name.now (shelf_state self.old) (shelf_state self.new) }
 
-        // It fails where it is told to, and where the name isn't held.
+        // It fails where it is told to, whatever the file's length, and where the name isn't held.
         ensures told { OnOk result (¬ (IsNextFailing (calls_of self.old))) }
-        ensures found { OnOk result (ForSome (files_held self.old) (λ files. IsHeld files name.now)) }
-        ensures failed { IsErrOf result ReadAnswer.Failed → ForSome (files_held self.old)
+        ensures told_first { IsErrOf result ReadAnswer.TooLong → ¬ (IsNextFailing (calls_of self.old)) }
+        ensures found { OnOk result (ForSome (shelf_state self.old).held (λ files. IsHeld files name.now)) }
+        ensures failed { IsErrOf result ReadAnswer.Failed → ForSome (shelf_state self.old).held
             (λ files. IsNextFailing (calls_of self.old) ⊎ (get files name.now ≡ None)) }
         ensures counts { CountsCall (calls_of self.old) (calls_of self.new) }
     {
@@ -70,18 +65,17 @@ impl Shelf for MemShelf {
     }
 
     fn start(&mut self, name: &str) -> Result<(), WriteAnswer>
-        ensures empty { OnOk result (files_held self.new ≡ with_bytes (files_held self.old) name.now []) }
-        ensures refused { OnErr result ((files_held self.new ≡ files_held self.old)
-            ⊎ (files_held self.new ≡ with_bytes (files_held self.old) name.now [])) }
-        ensures started { OnOk result (name_started self.new ≡ Some name.now) }
-        ensures stopped { OnErr result (name_started self.new ≡ None) }
-        ensures cause { HasWriteCause result name.now (fault_count self.old) (fault_count self.new)
-            (latest_fault self.old) (latest_fault self.new) }
+        ensures empty { OnOk result ((shelf_state self.new).held ≡ with_bytes (shelf_state self.old).held name.now []) }
+        ensures refused { OnErr result (((shelf_state self.new).held ≡ (shelf_state self.old).held)
+            ⊎ ((shelf_state self.new).held ≡ with_bytes (shelf_state self.old).held name.now [])) }
+        ensures started { OnOk result ((shelf_state self.new).started ≡ Some name.now) }
+        ensures stopped { OnErr result ((shelf_state self.new).started ≡ None) }
+        ensures cause { HasWriteCause result name.now (shelf_state self.old) (shelf_state self.new) }
 
         // It fails where it is told to, and then does nothing else.
         ensures told { OnOk result (¬ (IsNextFailing (calls_of self.old))) }
         ensures failed { IsErrOf result WriteAnswer.Failed → IsNextFailing (calls_of self.old) }
-        ensures nothing_else { OnErr result (files_held self.new ≡ files_held self.old) }
+        ensures nothing_else { OnErr result ((shelf_state self.new).held ≡ (shelf_state self.old).held) }
         ensures counts { CountsCall (calls_of self.old) (calls_of self.new) }
     {
         if self.calls.next_fails() {
@@ -95,20 +89,19 @@ impl Shelf for MemShelf {
     }
 
     fn append(&mut self, name: &str, piece: &[u8]) -> Result<(), WriteAnswer>
-        requires { name_started self.old ≡ Some name.now }
-        ensures added { OnOk result (files_held self.new ≡ with_piece (files_held self.old) name.now piece.now) }
+        requires { (shelf_state self.old).started ≡ Some name.now }
+        ensures added { OnOk result ((shelf_state self.new).held ≡ with_piece (shelf_state self.old).held name.now piece.now) }
         ensures refused { OnErr result ((n : ℕ)
-            × (files_held self.new ≡ with_piece (files_held self.old) name.now (take n piece.now))) }
-        ensures started { OnOk result (name_started self.new ≡ name_started self.old) }
-        ensures stopped { OnErr result (name_started self.new ≡ None) }
-        ensures cause { HasWriteCause result name.now (fault_count self.old) (fault_count self.new)
-            (latest_fault self.old) (latest_fault self.new) }
+            × ((shelf_state self.new).held ≡ with_piece (shelf_state self.old).held name.now (take n piece.now))) }
+        ensures started { OnOk result ((shelf_state self.new).started ≡ (shelf_state self.old).started) }
+        ensures stopped { OnErr result ((shelf_state self.new).started ≡ None) }
+        ensures cause { HasWriteCause result name.now (shelf_state self.old) (shelf_state self.new) }
 
         // It fails where it is told to, and then adds the first half of the piece.
         ensures told { OnOk result (¬ (IsNextFailing (calls_of self.old))) }
         ensures failed { IsErrOf result WriteAnswer.Failed → IsNextFailing (calls_of self.old) }
-        ensures half { IsErrOf result WriteAnswer.Failed → files_held self.new
-            ≡ with_piece (files_held self.old) name.now (take (length piece.now / 2) piece.now) }
+        ensures half { IsErrOf result WriteAnswer.Failed → (shelf_state self.new).held
+            ≡ with_piece (shelf_state self.old).held name.now (take (length piece.now / 2) piece.now) }
         ensures counts { CountsCall (calls_of self.old) (calls_of self.new) }
     {
         if self.calls.next_fails() {
@@ -123,15 +116,12 @@ impl Shelf for MemShelf {
 
 impl MemShelf {
     ghost use Rattle.shelf_io.specs.FailingCalls.{AwaitsCalls};
-    ghost use Rattle.shelf_io.specs.MemShelf.{calls_of, fault_count, files_held, latest_fault, name_started};
+    ghost use Rattle.shelf_io.specs.MemShelf.{calls_of, shelf_state};
 
     /// Holds no file. The calls with the numbers in `failing`, counted from 1 over all calls of the trait, are
     /// to fail.
     pub fn new(alloc: Global, failing: Vec<u64>) -> MemShelf
-        ensures held { ⟦<MemShelf as Shelf>⟧.held result ≡ Some empty }
-        ensures started { ⟦<MemShelf as Shelf>⟧.started result ≡ None }
-        ensures faults { ⟦<MemShelf as Shelf>⟧.faults result ≡ 0 }
-        ensures last_fault { ⟦<MemShelf as Shelf>⟧.last_fault result ≡ None }
+        ensures state { ⟦<MemShelf as Shelf>⟧.state result ≡ new_shelf (Some empty) }
         ensures calls { AwaitsCalls failing.items (calls_of result) }
     {
         MemShelf {
@@ -143,20 +133,19 @@ impl MemShelf {
 
     /// Makes the name hold these bytes, and no name started. Where memory runs out, the shelf stays as it was.
     pub fn put_file(&mut self, name: &str, bytes: &[u8]) -> Result<(), NoMemory>
-        ensures put { OnOk result (⟦<MemShelf as Shelf>⟧.held self.new
-            ≡ with_bytes (⟦<MemShelf as Shelf>⟧.held self.old) name.now bytes.now) }
-        ensures stopped { OnOk result (⟦<MemShelf as Shelf>⟧.started self.new ≡ None) }
-        ensures refused { OnErr result ((⟦<MemShelf as Shelf>⟧.held self.new ≡ ⟦<MemShelf as Shelf>⟧.held self.old)
-            × (⟦<MemShelf as Shelf>⟧.started self.new ≡ ⟦<MemShelf as Shelf>⟧.started self.old)) }
-        ensures faults { ⟦<MemShelf as Shelf>⟧.faults self.new ≡ ⟦<MemShelf as Shelf>⟧.faults self.old }
-        ensures last_fault { ⟦<MemShelf as Shelf>⟧.last_fault self.new ≡ ⟦<MemShelf as Shelf>⟧.last_fault self.old }
+        ensures put { OnOk result ((⟦<MemShelf as Shelf>⟧.state self.new).held
+            ≡ with_bytes (⟦<MemShelf as Shelf>⟧.state self.old).held name.now bytes.now) }
+        ensures stopped { OnOk result ((⟦<MemShelf as Shelf>⟧.state self.new).started ≡ None) }
+        ensures refused { OnErr result (⟦<MemShelf as Shelf>⟧.state self.new ≡ ⟦<MemShelf as Shelf>⟧.state self.old) }
+        ensures faults { KeepsFaults (⟦<MemShelf as Shelf>⟧.state self.old) (⟦<MemShelf as Shelf>⟧.state self.new) }
+        ensures calls { calls_of self.new ≡ calls_of self.old }
     {
         self.stored.put(name, bytes)
     }
 
     /// The bytes of the file, `None` where the name isn't held.
     pub fn file(&self, name: &str) -> Option<&[u8]>
-        ensures { ForSome (⟦<MemShelf as Shelf>⟧.held self.now)
+        ensures { ForSome (⟦<MemShelf as Shelf>⟧.state self.now).held
             (λ files. option_copied result ≡ get files name.now) }
     {
         self.stored.file(name)
@@ -164,15 +153,14 @@ impl MemShelf {
 
     /// Adds the first half of the piece to the started name, and fails.
     fn append_half(&mut self, name: &str, piece: &[u8]) -> Result<(), WriteAnswer>
-        requires { name_started self.old ≡ Some name.now }
+        requires { (shelf_state self.old).started ≡ Some name.now }
         ensures fails { IsErr result }
-        ensures half { IsErrOf result WriteAnswer.Failed → files_held self.new
-            ≡ with_piece (files_held self.old) name.now (take (length piece.now / 2) piece.now) }
-        ensures refused { OnErr result ((n : ℕ) × (files_held self.new
-            ≡ with_piece (files_held self.old) name.now (take n piece.now))) }
-        ensures stopped { name_started self.new ≡ None }
-        ensures cause { HasWriteCause result name.now (fault_count self.old) (fault_count self.new)
-            (latest_fault self.old) (latest_fault self.new) }
+        ensures half { IsErrOf result WriteAnswer.Failed → (shelf_state self.new).held
+            ≡ with_piece (shelf_state self.old).held name.now (take (length piece.now / 2) piece.now) }
+        ensures refused { OnErr result ((n : ℕ) × ((shelf_state self.new).held
+            ≡ with_piece (shelf_state self.old).held name.now (take n piece.now))) }
+        ensures stopped { (shelf_state self.new).started ≡ None }
+        ensures cause { HasWriteCause result name.now (shelf_state self.old) (shelf_state self.new) }
         ensures calls { calls_of self.new ≡ calls_of self.old }
     {
         let half = &piece[..piece.len() / 2];

@@ -1,5 +1,6 @@
 ghost use Rattle.std.specs.Prelude.{◌≡◌, ℕ, ◌/◌, [], length, take, Some, OnOk, OnErr, IsErr, IsErrOf};
 ghost use Rattle.shelf_io.specs.Faults.{HasPutCause};
+ghost use Rattle.shelf_io.specs.States.{new_sink};
 ghost use Rattle.shelf_io.specs.Written.{with_written};
 
 use crate::failing_calls::FailingCalls;
@@ -17,23 +18,21 @@ pub struct MemSink {
 
 impl Sink for MemSink {
     ghost use Rattle.shelf_io.specs.FailingCalls.{IsNextFailing, CountsCall};
-    ghost use Rattle.shelf_io.specs.MemSink.{bytes_written, calls_of, fault_count};
+    ghost use Rattle.shelf_io.specs.MemSink.{calls_of, sink_state};
 
-    ghost written = { bytes_written };
-
-    ghost faults = { fault_count };
+    ghost state = { sink_state };
 
     fn put(&mut self, piece: &[u8]) -> Result<(), WriteAnswer>
-        ensures added { OnOk result (bytes_written self.new ≡ with_written (bytes_written self.old) piece.now) }
+        ensures added { OnOk result ((sink_state self.new).written ≡ with_written (sink_state self.old).written piece.now) }
         ensures refused { OnErr result ((n : ℕ)
-            × (bytes_written self.new ≡ with_written (bytes_written self.old) (take n piece.now))) }
-        ensures cause { HasPutCause result (fault_count self.old) (fault_count self.new) }
+            × ((sink_state self.new).written ≡ with_written (sink_state self.old).written (take n piece.now))) }
+        ensures cause { HasPutCause result (sink_state self.old) (sink_state self.new) }
 
         // It fails where it is told to, and then adds the first half of the piece.
         ensures told { OnOk result (¬ (IsNextFailing (calls_of self.old))) }
         ensures failed { IsErrOf result WriteAnswer.Failed → IsNextFailing (calls_of self.old) }
-        ensures half { IsErrOf result WriteAnswer.Failed → bytes_written self.new
-            ≡ with_written (bytes_written self.old) (take (length piece.now / 2) piece.now) }
+        ensures half { IsErrOf result WriteAnswer.Failed → (sink_state self.new).written
+            ≡ with_written (sink_state self.old).written (take (length piece.now / 2) piece.now) }
         ensures counts { CountsCall (calls_of self.old) (calls_of self.new) }
     {
         if self.calls.next_fails() {
@@ -48,12 +47,11 @@ impl Sink for MemSink {
 
 impl MemSink {
     ghost use Rattle.shelf_io.specs.FailingCalls.{AwaitsCalls};
-    ghost use Rattle.shelf_io.specs.MemSink.{bytes_written, calls_of, fault_count};
+    ghost use Rattle.shelf_io.specs.MemSink.{calls_of, sink_state};
 
     /// Nothing was put to it. The calls with the numbers in `failing`, counted from 1, are to fail.
     pub fn new(alloc: Global, failing: Vec<u64>) -> MemSink
-        ensures written { ⟦<MemSink as Sink>⟧.written result ≡ Some [] }
-        ensures faults { ⟦<MemSink as Sink>⟧.faults result ≡ 0 }
+        ensures state { ⟦<MemSink as Sink>⟧.state result ≡ new_sink (Some []) }
         ensures calls { AwaitsCalls failing.items (calls_of result) }
     {
         MemSink {
@@ -65,7 +63,7 @@ impl MemSink {
 
     /// All that was put to it.
     pub fn bytes(&self) -> &[u8]
-        ensures { ⟦<MemSink as Sink>⟧.written self.now ≡ Some result.now }
+        ensures { (⟦<MemSink as Sink>⟧.state self.now).written ≡ Some result.now }
     {
         self.bytes.as_slice()
     }
@@ -73,11 +71,11 @@ impl MemSink {
     /// Adds the first half of the piece, and fails.
     fn put_half(&mut self, piece: &[u8]) -> Result<(), WriteAnswer>
         ensures fails { IsErr result }
-        ensures half { IsErrOf result WriteAnswer.Failed → bytes_written self.new
-            ≡ with_written (bytes_written self.old) (take (length piece.now / 2) piece.now) }
+        ensures half { IsErrOf result WriteAnswer.Failed → (sink_state self.new).written
+            ≡ with_written (sink_state self.old).written (take (length piece.now / 2) piece.now) }
         ensures refused { OnErr result ((n : ℕ)
-            × (bytes_written self.new ≡ with_written (bytes_written self.old) (take n piece.now))) }
-        ensures cause { HasPutCause result (fault_count self.old) (fault_count self.new) }
+            × ((sink_state self.new).written ≡ with_written (sink_state self.old).written (take n piece.now))) }
+        ensures cause { HasPutCause result (sink_state self.old) (sink_state self.new) }
         ensures calls { calls_of self.new ≡ calls_of self.old }
     {
         let half = &piece[..piece.len() / 2];

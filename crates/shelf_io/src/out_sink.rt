@@ -1,4 +1,5 @@
 ghost use Rattle.std.specs.Prelude.{◌≡◌, None};
+ghost use Rattle.shelf_io.specs.States.{new_sink};
 
 use crate::sink::Sink;
 use crate::transfer::print_whole;
@@ -12,9 +13,7 @@ pub struct OutSink<'r, R: Print> {
 }
 
 impl<'r, R: Print> Sink for OutSink<'r, R> {
-    ghost written = { λ _. None };
-
-    ghost faults = { λ sink. sink.faults };
+    ghost state = { λ sink. record { written = None; faults = sink.faults } };
 
     fn put(&mut self, piece: &[u8]) -> Result<(), WriteAnswer> {
         if print_whole(self.rt, piece) {
@@ -28,8 +27,7 @@ impl<'r, R: Print> Sink for OutSink<'r, R> {
 impl<'r, R: Print> OutSink<'r, R> {
     /// Nothing failed yet.
     pub fn new(rt: &'r R) -> OutSink<'r, R>
-        ensures written { ⟦<OutSink<'r, R> as Sink>⟧.written result ≡ None }
-        ensures faults { ⟦<OutSink<'r, R> as Sink>⟧.faults result ≡ 0 }
+        ensures { ⟦<OutSink<'r, R> as Sink>⟧.state result ≡ new_sink None }
     {
         OutSink { rt, faults: 0 }
     }

@@ -2,6 +2,7 @@ ghost use Rattle.std.specs.Prelude.{◌≡◌, Some, None, OnOk, OnErr};
 ghost use Rattle.std.specs.Option.{ForSome, option_copied};
 ghost use Rattle.std.specs.FinMap.{empty, get};
 ghost use Rattle.shelf_io.specs.Files.{with_bytes};
+ghost use Rattle.shelf_io.specs.States.{new_shelf};
 ghost use Rattle.shelf_io.specs.Stored.{files_of, started_of, started_of-held};
 
 use crate::read_answer::ReadAnswer;
@@ -18,13 +19,12 @@ pub struct SureShelf {
 }
 
 impl Shelf for SureShelf {
-    ghost held = { λ shelf. Some (files_of shelf.stored.files.items) };
-
-    ghost faults = { λ _. 0 };
-
-    ghost last_fault = { λ _. None };
-
-    ghost started = { λ shelf. started_of shelf.stored.files.items shelf.stored.is_started };
+    ghost state = { λ shelf. record {
+      held = Some (files_of shelf.stored.files.items);
+      faults = 0;
+      last_fault = None;
+      started = started_of shelf.stored.files.items shelf.stored.is_started;
+    } };
 
     ghost started_is_held = { λ shelf. started_of-held shelf.stored.files.items shelf.stored.is_started };
 
@@ -48,8 +48,7 @@ impl Shelf for SureShelf {
 impl SureShelf {
     /// Holds no file.
     pub fn new(alloc: Global) -> SureShelf
-        ensures held { ⟦<SureShelf as Shelf>⟧.held result ≡ Some empty }
-        ensures started { ⟦<SureShelf as Shelf>⟧.started result ≡ None }
+        ensures { ⟦<SureShelf as Shelf>⟧.state result ≡ new_shelf (Some empty) }
     {
         SureShelf {
             stored: StoredFiles::new(alloc),
@@ -58,18 +57,17 @@ impl SureShelf {
 
     /// Makes the name hold these bytes, and no name started. Where memory runs out, the shelf stays as it was.
     pub fn put_file(&mut self, name: &str, bytes: &[u8]) -> Result<(), NoMemory>
-        ensures put { OnOk result (⟦<SureShelf as Shelf>⟧.held self.new
-            ≡ with_bytes (⟦<SureShelf as Shelf>⟧.held self.old) name.now bytes.now) }
-        ensures stopped { OnOk result (⟦<SureShelf as Shelf>⟧.started self.new ≡ None) }
-        ensures refused { OnErr result ((⟦<SureShelf as Shelf>⟧.held self.new ≡ ⟦<SureShelf as Shelf>⟧.held self.old)
-            × (⟦<SureShelf as Shelf>⟧.started self.new ≡ ⟦<SureShelf as Shelf>⟧.started self.old)) }
+        ensures put { OnOk result ((⟦<SureShelf as Shelf>⟧.state self.new).held
+            ≡ with_bytes (⟦<SureShelf as Shelf>⟧.state self.old).held name.now bytes.now) }
+        ensures stopped { OnOk result ((⟦<SureShelf as Shelf>⟧.state self.new).started ≡ None) }
+        ensures refused { OnErr result (⟦<SureShelf as Shelf>⟧.state self.new ≡ ⟦<SureShelf as Shelf>⟧.state self.old) }
     {
         self.stored.put(name, bytes)
     }
 
     /// The bytes of the file, `None` where the name isn't held.
     pub fn file(&self, name: &str) -> Option<&[u8]>
-        ensures { ForSome (⟦<SureShelf as Shelf>⟧.held self.now)
+        ensures { ForSome (⟦<SureShelf as Shelf>⟧.state self.now).held
             (λ files. option_copied result ≡ get files name.now) }
     {
         self.stored.file(name)

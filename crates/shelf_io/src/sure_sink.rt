@@ -1,4 +1,5 @@
 ghost use Rattle.std.specs.Prelude.{◌≡◌, [], Some};
+ghost use Rattle.shelf_io.specs.States.{new_sink};
 
 use crate::sink::Sink;
 use crate::write_answer::WriteAnswer;
@@ -11,9 +12,7 @@ pub struct SureSink {
 }
 
 impl Sink for SureSink {
-    ghost written = { λ sink. Some sink.bytes.items };
-
-    ghost faults = { λ _. 0 };
+    ghost state = { λ sink. record { written = Some sink.bytes.items; faults = 0 } };
 
     fn put(&mut self, piece: &[u8]) -> Result<(), WriteAnswer> {
         match self.bytes.extend_from_slice(piece) {
@@ -26,7 +25,7 @@ impl Sink for SureSink {
 impl SureSink {
     /// Nothing was put to it.
     pub fn new(alloc: Global) -> SureSink
-        ensures { ⟦<SureSink as Sink>⟧.written result ≡ Some [] }
+        ensures { ⟦<SureSink as Sink>⟧.state result ≡ new_sink (Some []) }
     {
         SureSink {
             bytes: Vec::new(alloc),
@@ -35,7 +34,7 @@ impl SureSink {
 
     /// All that was put to it.
     pub fn bytes(&self) -> &[u8]
-        ensures { ⟦<SureSink as Sink>⟧.written self.now ≡ Some result.now }
+        ensures { (⟦<SureSink as Sink>⟧.state self.now).written ≡ Some result.now }
     {
         self.bytes.as_slice()
     }

@@ -2,7 +2,6 @@ use Rattle.std.proofs.lemmas.Result.{err_from_is_err_and}
 use Rattle.std.proofs.Common.{rules, ◌≡◌, ◌<◌, sym, ◌∙◌, subst, refl, Some, None, false}
 use Rattle.geo_model.specs.declared.plan.Node.{Node}
 use Rattle.bound_log.specs.LogTree.{with_chosen, without_chosen, IsOpenAt}
-use Rattle.shelf_io.specs.States.{state_of}
 use Rattle.branch_bound.specs.Explored.{IsNode}
 use Rattle.branch_bound.specs.Found.{IsKept}
 use Rattle.branch_bound.proofs.ExploreLemmas.{BreaksOff-nothing, BreaksOff-line, BreaksOff-first, BreaksOff-second, Explores-leaf, Explores-split, IsNode-with, IsNode-without, IsNode-same, IsKept-same, IsOpenAt-line, IsKept-line, unrefuted-line, Adds-line, Counts-line, BreaksOff-same, Explores-same, child_with, child_without, node_back}
@@ -13,11 +12,11 @@ use Rattle.branch_bound.proofs.run.+explore.Goals as goal
 
 pub returns-in_err-line-clause-refused : goal.returns-in_err-line-clause-refused
 returns-in_err-line-clause-refused g t c =
-    let started : g.H.Shelf.started c.args.shelf.now ≡ Some c.args.name.now = search rules in
+    let started : (g.H.Shelf.state c.args.shelf.now).started ≡ Some c.args.name.now = search rules in
     let p = err_from_is_err_and c.from_residual.result c.from_residual.ensures.1 in
     rw (p.1, p.2)
     (BreaksOff-nothing c.args.network.now c.args.node.now c.args.name.now
-    (state_of g.H.Shelf.held g.H.Shelf.faults g.H.Shelf.last_fault g.H.Shelf.started c.args.shelf.now)
+    (g.H.Shelf.state c.args.shelf.now)
     (λ files held. g.met.H.Shelf.started_is_held c.args.shelf.now files c.args.name.now held started))
 
 pub returns-in_err-write_line-clause-refused : goal.returns-in_err-write_line-clause-refused
@@ -25,15 +24,15 @@ returns-in_err-write_line-clause-refused g t c =
     let p = err_from_is_err_and c.from_residual-in_err-write_line.result c.from_residual-in_err-write_line.ensures.1 in
     rw (p.1, p.2)
     (BreaksOff-line c.args.network.now c.args.node.now c.args.name.now c.args.progress.now.best c.line_at.new.best c.in_err-write_line.field-0.0
-    (state_of g.H.Shelf.held g.H.Shelf.faults g.H.Shelf.last_fault g.H.Shelf.started c.args.shelf.now)
-    (state_of g.H.Shelf.held g.H.Shelf.faults g.H.Shelf.last_fault g.H.Shelf.started c.write_line.new.shelf)
+    (g.H.Shelf.state c.args.shelf.now)
+    (g.H.Shelf.state c.write_line.new.shelf)
     c.in_ok-line.line c.in_ok-line.ensures.line c.in_err-write_line.ensures.refused)
 
 pub returns-in_default : goal.returns-in_default
 returns-in_default g t c = record {
   explored = Explores-leaf c.args.network.now c.args.node.now c.args.name.now c.args.progress.now.best c.line_at.new.best c.args.progress.now.counts c.write_line.new.counts
-      (state_of g.H.Shelf.held g.H.Shelf.faults g.H.Shelf.last_fault g.H.Shelf.started c.args.shelf.now)
-      (state_of g.H.Shelf.held g.H.Shelf.faults g.H.Shelf.last_fault g.H.Shelf.started c.write_line.new.shelf)
+      (g.H.Shelf.state c.args.shelf.now)
+      (g.H.Shelf.state c.write_line.new.shelf)
       c.in_ok-line.line c.in_ok-line.ensures.line c.in_default.not-Split c.in_ok-write_line.ensures.added c.in_ok-write_line.ensures.counted;
   node = refl;
   room = c.in_ok-line.ensures.room;
@@ -84,19 +83,19 @@ returns-in_err-explore-clause-refused g t c =
     let is_open : IsOpenAt c.args.network.now c.args.node.now c.in-Split.candidate =
     IsOpenAt-line c.args.network.now c.args.node.now c.args.progress.now.best c.line_at.new.best c.in_ok-line.line c.in-Split.candidate c.in-Split.is c.in_ok-line.ensures.line in
     let added =
-    Adds-line c.args.name.now c.in_ok-line.line c.in-Split.candidate (state_of g.H.Shelf.held g.H.Shelf.faults g.H.Shelf.last_fault g.H.Shelf.started c.args.shelf.now) (state_of g.H.Shelf.held g.H.Shelf.faults g.H.Shelf.last_fault g.H.Shelf.started c.write_line.new.shelf) c.in-Split.is c.in_ok-write_line.ensures.added in
+    Adds-line c.args.name.now c.in_ok-line.line c.in-Split.candidate (g.H.Shelf.state c.args.shelf.now) (g.H.Shelf.state c.write_line.new.shelf) c.in-Split.is c.in_ok-write_line.ensures.added in
     let first : (record { inside = c.set.new.self; upper = c.args.node.now.upper }) ≡ with_chosen c.args.node.now c.in-Split.candidate =
     child_with c.args.node.now c.in-Split.candidate c.set.new.self c.set.ensures in
     let p = err_from_is_err_and c.from_residual-in_err-explore.result c.from_residual-in_err-explore.ensures.1 in
     rw (p.1, p.2)
     (BreaksOff-first c.args.network.now c.args.node.now c.args.name.now c.in-Split.candidate c.in_err-explore.field-0.0
-    (state_of g.H.Shelf.held g.H.Shelf.faults g.H.Shelf.last_fault g.H.Shelf.started c.args.shelf.now)
-    (state_of g.H.Shelf.held g.H.Shelf.faults g.H.Shelf.last_fault g.H.Shelf.started c.write_line.new.shelf)
-    (state_of g.H.Shelf.held g.H.Shelf.faults g.H.Shelf.last_fault g.H.Shelf.started c.explore.new.shelf)
+    (g.H.Shelf.state c.args.shelf.now)
+    (g.H.Shelf.state c.write_line.new.shelf)
+    (g.H.Shelf.state c.explore.new.shelf)
     is_open added
     (BreaksOff-same c.args.network.now (with_chosen c.args.node.now c.in-Split.candidate) (record { inside = c.set.new.self; upper = c.args.node.now.upper }) c.args.name.now c.in_err-explore.field-0.0
-    (state_of g.H.Shelf.held g.H.Shelf.faults g.H.Shelf.last_fault g.H.Shelf.started c.write_line.new.shelf)
-    (state_of g.H.Shelf.held g.H.Shelf.faults g.H.Shelf.last_fault g.H.Shelf.started c.explore.new.shelf)
+    (g.H.Shelf.state c.write_line.new.shelf)
+    (g.H.Shelf.state c.explore.new.shelf)
     first c.in_err-explore.ensures.refused))
 
 pub returns-in_err-explore-2-clause-refused : goal.returns-in_err-explore-2-clause-refused
@@ -104,7 +103,7 @@ returns-in_err-explore-2-clause-refused g t c =
     let is_open : IsOpenAt c.args.network.now c.args.node.now c.in-Split.candidate =
     IsOpenAt-line c.args.network.now c.args.node.now c.args.progress.now.best c.line_at.new.best c.in_ok-line.line c.in-Split.candidate c.in-Split.is c.in_ok-line.ensures.line in
     let added =
-    Adds-line c.args.name.now c.in_ok-line.line c.in-Split.candidate (state_of g.H.Shelf.held g.H.Shelf.faults g.H.Shelf.last_fault g.H.Shelf.started c.args.shelf.now) (state_of g.H.Shelf.held g.H.Shelf.faults g.H.Shelf.last_fault g.H.Shelf.started c.write_line.new.shelf) c.in-Split.is c.in_ok-write_line.ensures.added in
+    Adds-line c.args.name.now c.in_ok-line.line c.in-Split.candidate (g.H.Shelf.state c.args.shelf.now) (g.H.Shelf.state c.write_line.new.shelf) c.in-Split.is c.in_ok-write_line.ensures.added in
     let same =
     IsKept-line c.args.network.now c.args.node.now c.args.progress.now.best c.line_at.new.best c.in_ok-line.line c.in-Split.candidate c.in-Split.is c.in_ok-line.ensures.line in
     let first : (record { inside = c.set.new.self; upper = c.args.node.now.upper }) ≡ with_chosen c.args.node.now c.in-Split.candidate =
@@ -115,19 +114,19 @@ returns-in_err-explore-2-clause-refused g t c =
     rw (p.1, p.2)
     (BreaksOff-second c.args.network.now c.args.node.now c.args.name.now c.in-Split.candidate c.in_err-explore-2.field-0.0
     c.args.progress.now.best c.explore.new.progress.best c.write_line.new.counts c.explore.new.progress.counts
-    (state_of g.H.Shelf.held g.H.Shelf.faults g.H.Shelf.last_fault g.H.Shelf.started c.args.shelf.now)
-    (state_of g.H.Shelf.held g.H.Shelf.faults g.H.Shelf.last_fault g.H.Shelf.started c.write_line.new.shelf)
-    (state_of g.H.Shelf.held g.H.Shelf.faults g.H.Shelf.last_fault g.H.Shelf.started c.explore.new.shelf)
-    (state_of g.H.Shelf.held g.H.Shelf.faults g.H.Shelf.last_fault g.H.Shelf.started c.explore-2.new.shelf)
+    (g.H.Shelf.state c.args.shelf.now)
+    (g.H.Shelf.state c.write_line.new.shelf)
+    (g.H.Shelf.state c.explore.new.shelf)
+    (g.H.Shelf.state c.explore-2.new.shelf)
     is_open added
     (Explores-same c.args.network.now (with_chosen c.args.node.now c.in-Split.candidate) (record { inside = c.set.new.self; upper = c.args.node.now.upper }) c.args.name.now
     c.line_at.new.best c.args.progress.now.best c.explore.new.progress.best c.write_line.new.counts c.explore.new.progress.counts
-    (state_of g.H.Shelf.held g.H.Shelf.faults g.H.Shelf.last_fault g.H.Shelf.started c.write_line.new.shelf)
-    (state_of g.H.Shelf.held g.H.Shelf.faults g.H.Shelf.last_fault g.H.Shelf.started c.explore.new.shelf)
+    (g.H.Shelf.state c.write_line.new.shelf)
+    (g.H.Shelf.state c.explore.new.shelf)
     first same c.in_ok-explore.ensures.explored)
     (BreaksOff-same c.args.network.now (without_chosen c.args.node.now c.in-Split.candidate) (record { inside = c.set-2.new.self; upper = c.set-3.new.self }) c.args.name.now c.in_err-explore-2.field-0.0
-    (state_of g.H.Shelf.held g.H.Shelf.faults g.H.Shelf.last_fault g.H.Shelf.started c.explore.new.shelf)
-    (state_of g.H.Shelf.held g.H.Shelf.faults g.H.Shelf.last_fault g.H.Shelf.started c.explore-2.new.shelf)
+    (g.H.Shelf.state c.explore.new.shelf)
+    (g.H.Shelf.state c.explore-2.new.shelf)
     second c.in_err-explore-2.ensures.refused))
 
 pub returns-clause-explored : goal.returns-clause-explored
@@ -135,7 +134,7 @@ returns-clause-explored g t c =
     let is_open : IsOpenAt c.args.network.now c.args.node.now c.in-Split.candidate =
     IsOpenAt-line c.args.network.now c.args.node.now c.args.progress.now.best c.line_at.new.best c.in_ok-line.line c.in-Split.candidate c.in-Split.is c.in_ok-line.ensures.line in
     let added =
-    Adds-line c.args.name.now c.in_ok-line.line c.in-Split.candidate (state_of g.H.Shelf.held g.H.Shelf.faults g.H.Shelf.last_fault g.H.Shelf.started c.args.shelf.now) (state_of g.H.Shelf.held g.H.Shelf.faults g.H.Shelf.last_fault g.H.Shelf.started c.write_line.new.shelf) c.in-Split.is c.in_ok-write_line.ensures.added in
+    Adds-line c.args.name.now c.in_ok-line.line c.in-Split.candidate (g.H.Shelf.state c.args.shelf.now) (g.H.Shelf.state c.write_line.new.shelf) c.in-Split.is c.in_ok-write_line.ensures.added in
     let same =
     IsKept-line c.args.network.now c.args.node.now c.args.progress.now.best c.line_at.new.best c.in_ok-line.line c.in-Split.candidate c.in-Split.is c.in_ok-line.ensures.line in
     let first : (record { inside = c.set.new.self; upper = c.args.node.now.upper }) ≡ with_chosen c.args.node.now c.in-Split.candidate =
@@ -147,20 +146,20 @@ returns-clause-explored g t c =
     Explores-split c.args.network.now c.args.node.now c.args.name.now c.in-Split.candidate
     c.args.progress.now.best c.explore.new.progress.best c.explore-2.new.progress.best
     c.args.progress.now.counts c.write_line.new.counts c.explore.new.progress.counts c.explore-2.new.progress.counts
-    (state_of g.H.Shelf.held g.H.Shelf.faults g.H.Shelf.last_fault g.H.Shelf.started c.args.shelf.now)
-    (state_of g.H.Shelf.held g.H.Shelf.faults g.H.Shelf.last_fault g.H.Shelf.started c.write_line.new.shelf)
-    (state_of g.H.Shelf.held g.H.Shelf.faults g.H.Shelf.last_fault g.H.Shelf.started c.explore.new.shelf)
-    (state_of g.H.Shelf.held g.H.Shelf.faults g.H.Shelf.last_fault g.H.Shelf.started c.explore-2.new.shelf)
+    (g.H.Shelf.state c.args.shelf.now)
+    (g.H.Shelf.state c.write_line.new.shelf)
+    (g.H.Shelf.state c.explore.new.shelf)
+    (g.H.Shelf.state c.explore-2.new.shelf)
     is_open added counted
     (Explores-same c.args.network.now (with_chosen c.args.node.now c.in-Split.candidate) (record { inside = c.set.new.self; upper = c.args.node.now.upper }) c.args.name.now
     c.line_at.new.best c.args.progress.now.best c.explore.new.progress.best c.write_line.new.counts c.explore.new.progress.counts
-    (state_of g.H.Shelf.held g.H.Shelf.faults g.H.Shelf.last_fault g.H.Shelf.started c.write_line.new.shelf)
-    (state_of g.H.Shelf.held g.H.Shelf.faults g.H.Shelf.last_fault g.H.Shelf.started c.explore.new.shelf)
+    (g.H.Shelf.state c.write_line.new.shelf)
+    (g.H.Shelf.state c.explore.new.shelf)
     first same c.in_ok-explore.ensures.explored)
     (Explores-same c.args.network.now (without_chosen c.args.node.now c.in-Split.candidate) (record { inside = c.set-2.new.self; upper = c.set-3.new.self }) c.args.name.now
     c.explore.new.progress.best c.explore.new.progress.best c.explore-2.new.progress.best c.explore.new.progress.counts c.explore-2.new.progress.counts
-    (state_of g.H.Shelf.held g.H.Shelf.faults g.H.Shelf.last_fault g.H.Shelf.started c.explore.new.shelf)
-    (state_of g.H.Shelf.held g.H.Shelf.faults g.H.Shelf.last_fault g.H.Shelf.started c.explore-2.new.shelf)
+    (g.H.Shelf.state c.explore.new.shelf)
+    (g.H.Shelf.state c.explore-2.new.shelf)
     second refl c.in_ok-explore-2.ensures.explored)
 
 pub returns-clause-node : goal.returns-clause-node

@@ -2,7 +2,6 @@ use Rattle.std.proofs.Common.{◌≡◌, ◌∙◌, ap, length}
 use Rattle.std.proofs.lemmas.Result.{err_from_is_err_and}
 use Rattle.geo_model.specs.Nodes.{all_plans}
 use Rattle.bound_log.specs.LogTree.{root_of}
-use Rattle.shelf_io.specs.States.{state_of}
 use Rattle.branch_bound.proofs.ExploreLemmas.{IsNode-root, IsNode-same}
 use Rattle.branch_bound.proofs.SearchLemmas.{BreaksLog-nothing, BreaksLog-head, BreaksLog-tree, Searches-done}
 use Rattle.branch_bound.proofs.ToldLemmas.{IsTold-nothing}
@@ -12,14 +11,14 @@ pub returns-in_err-node-clause-refused : goal.returns-in_err-node-clause-refused
 returns-in_err-node-clause-refused g c =
     let p = err_from_is_err_and c.from_residual.result c.from_residual.ensures.1 in
     rw (p.1, p.2)
-    (BreaksLog-nothing c.args.network.now c.args.name.now (state_of g.H.Shelf.held g.H.Shelf.faults g.H.Shelf.last_fault g.H.Shelf.started c.args.shelf.now)
+    (BreaksLog-nothing c.args.network.now c.args.name.now (g.H.Shelf.state c.args.shelf.now)
     (λ files held. g.met.H.Shelf.started_is_held c.args.shelf.now files c.args.name.now held c.requires.started))
 
 pub returns-in_err-room-clause-refused : goal.returns-in_err-room-clause-refused
 returns-in_err-room-clause-refused g c =
     let p = err_from_is_err_and c.from_residual-in_err-room.result c.from_residual-in_err-room.ensures.1 in
     rw (p.1, p.2)
-    (BreaksLog-nothing c.args.network.now c.args.name.now (state_of g.H.Shelf.held g.H.Shelf.faults g.H.Shelf.last_fault g.H.Shelf.started c.args.shelf.now)
+    (BreaksLog-nothing c.args.network.now c.args.name.now (g.H.Shelf.state c.args.shelf.now)
     (λ files held. g.met.H.Shelf.started_is_held c.args.shelf.now files c.args.name.now held c.requires.started))
 
 pub returns-in_err-begin_log-clause-refused : goal.returns-in_err-begin_log-clause-refused
@@ -27,8 +26,8 @@ returns-in_err-begin_log-clause-refused g c =
     let p = err_from_is_err_and c.from_residual-in_err-begin_log.result c.from_residual-in_err-begin_log.ensures.1 in
     rw (p.1, p.2)
     (BreaksLog-head c.args.network.now c.args.name.now c.in_err-begin_log.field-0.0
-    (state_of g.H.Shelf.held g.H.Shelf.faults g.H.Shelf.last_fault g.H.Shelf.started c.args.shelf.now)
-    (state_of g.H.Shelf.held g.H.Shelf.faults g.H.Shelf.last_fault g.H.Shelf.started c.begin_log.new.shelf)
+    (g.H.Shelf.state c.args.shelf.now)
+    (g.H.Shelf.state c.begin_log.new.shelf)
     c.in_err-begin_log.ensures.refused)
 
 pub returns-in_err-explore-clause-refused : goal.returns-in_err-explore-clause-refused
@@ -37,18 +36,18 @@ returns-in_err-explore-clause-refused g c =
     let p = err_from_is_err_and c.from_residual-in_err-explore.result c.from_residual-in_err-explore.ensures.1 in
     rw (p.1, p.2)
     (BreaksLog-tree c.args.network.now c.in_ok-node.node c.args.name.now c.in_err-explore.field-0.0
-    (state_of g.H.Shelf.held g.H.Shelf.faults g.H.Shelf.last_fault g.H.Shelf.started c.args.shelf.now)
-    (state_of g.H.Shelf.held g.H.Shelf.faults g.H.Shelf.last_fault g.H.Shelf.started c.begin_log.new.shelf)
-    (state_of g.H.Shelf.held g.H.Shelf.faults g.H.Shelf.last_fault g.H.Shelf.started c.explore.new.shelf)
+    (g.H.Shelf.state c.args.shelf.now)
+    (g.H.Shelf.state c.begin_log.new.shelf)
+    (g.H.Shelf.state c.explore.new.shelf)
     root c.in_ok-begin_log.ensures.added c.in_err-explore.ensures.refused)
 
 pub returns-clause-searched : goal.returns-clause-searched
 returns-clause-searched g c =
     let root : c.in_ok-node.node ≡ root_of c.args.network.now = c.in_ok-node.ensures ∙ ap (λ cs. all_plans (length cs)) c.candidates.ensures.value in
     Searches-done c.args.network.now c.in_ok-node.node c.args.name.now c.new-progress.result.best c.explore.new.progress.best c.new-progress.result.counts c.explore.new.progress.counts c.done.result
-    (state_of g.H.Shelf.held g.H.Shelf.faults g.H.Shelf.last_fault g.H.Shelf.started c.args.shelf.now)
-    (state_of g.H.Shelf.held g.H.Shelf.faults g.H.Shelf.last_fault g.H.Shelf.started c.begin_log.new.shelf)
-    (state_of g.H.Shelf.held g.H.Shelf.faults g.H.Shelf.last_fault g.H.Shelf.started c.explore.new.shelf)
+    (g.H.Shelf.state c.args.shelf.now)
+    (g.H.Shelf.state c.begin_log.new.shelf)
+    (g.H.Shelf.state c.explore.new.shelf)
     root c.new-progress.ensures.best c.new-progress.ensures.counts c.in_ok-begin_log.ensures.added c.in_ok-explore.ensures.explored c.done.ensures.answer c.done.ensures.counts
 
 pub explore-requires-clause-node : goal.explore-requires-clause-node
