@@ -22,9 +22,11 @@ use Rattle.point_tables.proofs.StoredFacts.{apart-push}
 use Rattle.candidate_tables.proofs.RecordFacts.{by_name}
 use Rattle.candidate_tables.specs.declared.kind.Kind.{Kind}
 use Rattle.candidate_tables.specs.declared.record.CandidateRecord.{CandidateRecord}
-use Rattle.candidate_tables.specs.Accepted.{AreCandidates, IsBetween, IsCandidateRecord, IsEnd, IsLine}
-use Rattle.candidate_tables.specs.CandidateTable.{candidate_of, deviation_of, deviation_rules, end_rules, figure_rules, foresight_in, foresight_rules, height_deviation_of, height_rules, kind_at, length_rules, line_rules, lines_rules, names_of, part_rules, place_rules, point_rules, price_of, price_rules, rules_after}
-use Rattle.candidate_tables.specs.Kinds.{has_line, is_angle, is_vector, needs_height, needs_plane}
+use Rattle.candidate_tables.specs.declared.kind_rules.LineBounds.{LineBounds}
+use Rattle.candidate_tables.specs.Accepted.{AreCandidates, IsBetween, IsCandidateRecord, IsEnd, IsLine, IsWithin}
+use Rattle.candidate_tables.specs.CandidateTable.{bound_rules, candidate_of, deviation_of, deviation_rules, end_rules, figure_rules, foresight_in, foresight_rules, height_deviation_of, height_rules, kind_at, length_rules, line_rules, lines_rules, names_of, part_rules, place_rules, point_rules, price_of, price_rules, rules_after}
+use Rattle.candidate_tables.specs.Kinds.{rules_of}
+use Rattle.candidate_tables.specs.Lines.{length_squared}
 use Rattle.candidate_tables.specs.Places.{has_repeat, lacks_height, lacks_plane, named, place_in}
 
 -- ---- tests
@@ -99,7 +101,7 @@ unfolding lacks_height
 height-kept points place point is e = rw is at e
 
 end-of : (points : List PointRecord) (kind : Kind) (place : ℕ) → ((point : PointRecord) × (slice_get points place ≡ Some point))
-    → (needs_plane kind ≡ true → lacks_plane points place ≡ false) → (needs_height kind ≡ true → lacks_height points place ≡ false) → IsEnd points kind place
+    → ((rules_of kind).needs_plane ≡ true → lacks_plane points place ≡ false) → ((rules_of kind).needs_height ≡ true → lacks_height points place ≡ false) → IsEnd points kind place
 end-of points kind place (point, is) plane height = record {
   point = point;
   is = is;
@@ -107,16 +109,19 @@ end-of points kind place (point, is) plane height = record {
   height = λ needs. height-kept points place point is (height needs);
 }
 
+-- a square of a length that breaks no rule
+within-of : (square : ℕ) (bounds : LineBounds) → first_broken (bound_rules square bounds) ≡ None → IsWithin square bounds
+unfolding bound_rules
+within-of square bounds e =
+    let (near, rest) = each-kept _ _ e in
+    let (far, none) = each-kept _ _ rest in
+    record { least = grind (arith, nat_tests); greatest = grind (arith, nat_tests) }
+
 -- a line that breaks no rule
 line-of : (points : List PointRecord) (kind : Kind) (from to : ℕ) → first_broken (line_rules points kind from to) ≡ None → IsLine points kind from to
 unfolding length_rules
-line-of points kind from to e =
-    let (near, rest) = each-kept _ _ e in
-    let (far, none) = each-kept _ _ rest in
-    record {
-      least = λ has. let long = and-false (has_line kind) _ near has in grind (arith, nat_tests);
-      most = λ has. let short = and-false (has_line kind) _ far has in grind (arith, nat_tests);
-    }
+line-of points kind from to e = λ bounds is.
+    within-of (length_squared points from to) bounds (subst (λ (o : Option LineBounds). first_broken (option_map_or (bound_rules (length_squared points from to)) o []) ≡ None) is e)
 
 -- the lines from the station, where they break no rule
 lines-of : (points : List PointRecord) (kind : Kind) (from to : ℕ) (to2 : Option ℕ) → first_broken (lines_rules points kind from to to2) ≡ None
@@ -131,8 +136,8 @@ lines-of points kind from to to2 e =
 -- the points that are named, where they and their parts break no rule
 record PartsKept (points : List PointRecord) (kind : Kind) (from to : ℕ) (to2 : Option ℕ) : Type 0 where
   apart : (from ≢ to) × ForSome to2 (λ foresight. (from ≢ foresight) × (to ≢ foresight))
-  plane : needs_plane kind ≡ true → (lacks_plane points from ≡ false) × (lacks_plane points to ≡ false) × ForSome to2 (λ foresight. lacks_plane points foresight ≡ false)
-  height : needs_height kind ≡ true → (lacks_height points from ≡ false) × (lacks_height points to ≡ false) × ForSome to2 (λ foresight. lacks_height points foresight ≡ false)
+  plane : (rules_of kind).needs_plane ≡ true → (lacks_plane points from ≡ false) × (lacks_plane points to ≡ false) × ForSome to2 (λ foresight. lacks_plane points foresight ≡ false)
+  height : (rules_of kind).needs_height ≡ true → (lacks_height points from ≡ false) × (lacks_height points to ≡ false) × ForSome to2 (λ foresight. lacks_height points foresight ≡ false)
 
 parts-of : (points : List PointRecord) (kind : Kind) (from to : ℕ) (to2 : Option ℕ) → first_broken (part_rules points kind (named from to to2)) ≡ None → PartsKept points kind from to to2
 unfolding part_rules
@@ -142,15 +147,15 @@ parts-of points kind from to to2 e =
     let (height, none) = each-kept _ _ more in
     record {
       apart = named-apart from to to2 same;
-      plane = λ needs. named-none (lacks_plane points) from to to2 (and-false (needs_plane kind) _ plane needs);
-      height = λ needs. named-none (lacks_height points) from to to2 (and-false (needs_height kind) _ height needs);
+      plane = λ needs. named-none (lacks_plane points) from to to2 (and-false (rules_of kind).needs_plane _ plane needs);
+      height = λ needs. named-none (lacks_height points) from to to2 (and-false (rules_of kind).needs_height _ height needs);
     }
 
 -- the foresight that an angle names is a point
 foresight-named : (points : List PointRecord) (kind : Kind) (text : List ℕ) (foresight : ℕ) → first_broken (foresight_rules points kind text) ≡ None
     → foresight_in points kind text ≡ Some foresight → (point : PointRecord) × (slice_get points foresight ≡ Some point)
 unfolding foresight_rules foresight_in
-foresight-named points kind text foresight e is = by (is_angle kind) e is
+foresight-named points kind text foresight e is = by (rules_of kind).has_foresight e is
   where
     by : (t : Bool) → first_broken (if t then point_rules points text else []) ≡ None → (if t then Some (place_in points text) else None) ≡ Some foresight
         → (point : PointRecord) × (slice_get points foresight ≡ Some point)
@@ -159,9 +164,9 @@ foresight-named points kind text foresight e is = by (is_angle kind) e is
         subst (λ (k : ℕ). (point : PointRecord) × (slice_get points k ≡ Some point)) place (point-named points text f)
     by false f same = absurd (cc same)
 
-foresight-given : (points : List PointRecord) (kind : Kind) (text : List ℕ) → is_some (foresight_in points kind text) ≡ is_angle kind
+foresight-given : (points : List PointRecord) (kind : Kind) (text : List ℕ) → is_some (foresight_in points kind text) ≡ (rules_of kind).has_foresight
 unfolding foresight_in
-foresight-given points kind text = by (is_angle kind)
+foresight-given points kind text = by (rules_of kind).has_foresight
   where
     by : (t : Bool) → is_some (if t then Some (place_in points text) else None) ≡ t
     by true = refl
@@ -207,9 +212,9 @@ price-of text e =
     rw written (most-price value low high)
 
 height-of : (kind : Kind) (text : List ℕ) → first_broken (height_rules kind text) ≡ None
-    → (is_some (height_deviation_of kind text) ≡ is_vector kind) × ForSome (height_deviation_of kind text) IsBetween
+    → (is_some (height_deviation_of kind text) ≡ (rules_of kind).has_height_deviation) × ForSome (height_deviation_of kind text) IsBetween
 unfolding height_rules height_deviation_of
-height-of kind text e = by (is_vector kind) e
+height-of kind text e = by (rules_of kind).has_height_deviation e
   where
     by : (t : Bool) → first_broken (if t then deviation_rules text else []) ≡ None
         → (is_some (if t then Some (deviation_of text) else None) ≡ t) × ForSome (if t then Some (deviation_of text) else None) IsBetween

@@ -16,7 +16,7 @@ use Rattle.point_tables.specs.PointTable.{names_of}
 use Rattle.point_tables.proofs.PlaceFacts.{among-is, place-at}
 use Rattle.candidate_tables.specs.declared.kind.Kind.{Kind}
 use Rattle.candidate_tables.specs.CandidateTable.{deviation_of, deviation_rules, end_rules, figure_rules, foresight_in, foresight_rules, height_deviation_of, height_rules, kind_at, kind_rules, point_rules, price_of, price_rules}
-use Rattle.candidate_tables.specs.Kinds.{is_angle, is_vector, kind_of}
+use Rattle.candidate_tables.specs.Kinds.{kind_of, rules_of}
 use Rattle.candidate_tables.specs.Places.{place_in}
 use Rattle.candidate_tables.specs.declared.ends.Ends.{Ends}
 use Rattle.candidate_tables.specs.Read.{IsEnds, IsForesight, IsPlaceOf}
@@ -39,16 +39,16 @@ pub point-none : (points : List PointRecord) (text : List ℕ) → place_of text
 unfolding point_rules first_broken
 point-none points text e = rw (among-is text (names_of points), e) refl
 
-pub foresight-other : (points : List PointRecord) (kind : Kind) (text : List ℕ) → is_angle kind ≡ false
+pub foresight-other : (points : List PointRecord) (kind : Kind) (text : List ℕ) → (rules_of kind).has_foresight ≡ false
     → (first_broken (foresight_rules points kind text) ≡ None) × IsForesight points kind text None
 unfolding foresight_rules first_broken foresight_in
 foresight-other points kind text e = (rw e refl, record { value = rw e refl; within = λ x f. cc f })
 
-pub foresight-rules : (points : List PointRecord) (kind : Kind) (text : List ℕ) → is_angle kind ≡ true → foresight_rules points kind text ≡ point_rules points text
+pub foresight-rules : (points : List PointRecord) (kind : Kind) (text : List ℕ) → (rules_of kind).has_foresight ≡ true → foresight_rules points kind text ≡ point_rules points text
 unfolding foresight_rules
 foresight-rules points kind text e = rw e refl
 
-pub foresight-found : (points : List PointRecord) (kind : Kind) (text : List ℕ) (place : ℕ) → is_angle kind ≡ true → IsPlaceOf points text place
+pub foresight-found : (points : List PointRecord) (kind : Kind) (text : List ℕ) (place : ℕ) → (rules_of kind).has_foresight ≡ true → IsPlaceOf points text place
     → IsForesight points kind text (Some place)
 unfolding foresight_in
 foresight-found points kind text place e is = record {
@@ -78,15 +78,15 @@ pub price-is : (text : List ℕ) → price_rules text ≡ number_rules 0 (pos 0)
 unfolding price_rules
 price-is text = refl
 
-pub height-other : (kind : Kind) (text : List ℕ) → is_vector kind ≡ false → (first_broken (height_rules kind text) ≡ None) × (None ≡ height_deviation_of kind text)
+pub height-other : (kind : Kind) (text : List ℕ) → (rules_of kind).has_height_deviation ≡ false → (first_broken (height_rules kind text) ≡ None) × (None ≡ height_deviation_of kind text)
 unfolding height_rules first_broken height_deviation_of
 height-other kind text e = (rw e refl, rw e refl)
 
-pub height-rules : (kind : Kind) (text : List ℕ) → is_vector kind ≡ true → height_rules kind text ≡ deviation_rules text
+pub height-rules : (kind : Kind) (text : List ℕ) → (rules_of kind).has_height_deviation ≡ true → height_rules kind text ≡ deviation_rules text
 unfolding height_rules
 height-rules kind text e = rw e refl
 
-pub height-found : (kind : Kind) (text : List ℕ) (value : ℕ) → is_vector kind ≡ true → value ≡ deviation_of text → Some value ≡ height_deviation_of kind text
+pub height-found : (kind : Kind) (text : List ℕ) (value : ℕ) → (rules_of kind).has_height_deviation ≡ true → value ≡ deviation_of text → Some value ≡ height_deviation_of kind text
 unfolding height_deviation_of
 height-found kind text value e same = rw e (ap Some same)
 

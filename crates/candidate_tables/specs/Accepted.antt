@@ -9,20 +9,25 @@ use Rattle.point_tables.specs.Names.{is_name}
 use Rattle.candidate_tables.specs.declared.kind.Kind.{Kind}
 use Rattle.candidate_tables.specs.declared.record.CandidateRecord.{CandidateRecord}
 use Rattle.candidate_tables.specs.CandidateTable.{names_of}
-use Rattle.candidate_tables.specs.Kinds.{has_line, is_angle, is_vector, least_square, needs_height, needs_plane}
+use Rattle.candidate_tables.specs.declared.kind_rules.LineBounds.{LineBounds}
+use Rattle.candidate_tables.specs.Kinds.{rules_of}
 use Rattle.candidate_tables.specs.Lines.{length_squared}
 
 -- the number is that of a point, which has the parts that the kind needs
 pub record IsEnd (points : List PointRecord) (kind : Kind) (place : ℕ) : Type 0 where
   pub point : PointRecord
   pub is : slice_get points place ≡ Some point
-  pub plane : needs_plane kind ≡ true → is_absent point.plane ≡ false
-  pub height : needs_height kind ≡ true → is_absent point.height ≡ false
+  pub plane : (rules_of kind).needs_plane ≡ true → is_absent point.plane ≡ false
+  pub height : (rules_of kind).needs_height ≡ true → is_absent point.height ≡ false
+
+-- the square of a length is within these bounds
+pub record IsWithin (square : ℕ) (bounds : LineBounds) : Type 0 where
+  pub least : bounds.least ≤ square
+  pub greatest : square ≤ bounds.greatest
 
 -- the line between two points is within the bounds of the kind, if it has any
-pub record IsLine (points : List PointRecord) (kind : Kind) (from to : ℕ) : Type 0 where
-  pub least : has_line kind ≡ true → least_square kind ≤ length_squared points from to
-  pub most : has_line kind ≡ true → length_squared points from to ≤ 10 ^ 16
+abbrev pub IsLine : List PointRecord → Kind → ℕ → ℕ → Type 0
+IsLine points kind from to = ForSome (rules_of kind).line (IsWithin (length_squared points from to))
 
 -- a foresight is a point other than the vertex and the backsight, on a line from the vertex within the bounds
 pub record IsForesightOf (points : List PointRecord) (kind : Kind) (from to foresight : ℕ) : Type 0 where
@@ -43,10 +48,10 @@ pub record IsCandidateRecord (points : List PointRecord) (candidate : CandidateR
   pub to : IsEnd points candidate.kind candidate.to
   pub other : candidate.from ≢ candidate.to
   pub line : IsLine points candidate.kind candidate.from candidate.to
-  pub has_to2 : is_some candidate.to2 ≡ is_angle candidate.kind
+  pub has_to2 : is_some candidate.to2 ≡ (rules_of candidate.kind).has_foresight
   pub to2 : ForSome candidate.to2 (IsForesightOf points candidate.kind candidate.from candidate.to)
   pub sd : IsBetween candidate.sd
-  pub has_sdh : is_some candidate.sdh ≡ is_vector candidate.kind
+  pub has_sdh : is_some candidate.sdh ≡ (rules_of candidate.kind).has_height_deviation
   pub sdh : ForSome candidate.sdh IsBetween
   pub price : candidate.price ≤ 10 ^ 9
 

@@ -14,7 +14,8 @@ use Rattle.point_tables.specs.PointTable as points_table
 use Rattle.candidate_tables.specs.declared.kind.Kind.{Kind}
 use Rattle.candidate_tables.specs.declared.kind.Kind.TheVariants as kind
 use Rattle.candidate_tables.specs.declared.record.CandidateRecord.{CandidateRecord}
-use Rattle.candidate_tables.specs.Kinds.{has_line, is_angle, is_vector, kind_of, least_square, needs_height, needs_plane}
+use Rattle.candidate_tables.specs.declared.kind_rules.LineBounds.{LineBounds}
+use Rattle.candidate_tables.specs.Kinds.{kind_of, rules_of}
 use Rattle.candidate_tables.specs.Lines.{length_squared}
 use Rattle.candidate_tables.specs.Places.{has_repeat, lacks_height, lacks_plane, named, place_in}
 
@@ -29,17 +30,17 @@ candidate_header =
 unfoldable pub kind_at : List (List ℕ) → Kind
 kind_at row = unwrap_or (kind_of (text_at row 1)) kind.Distance
 
--- the number of the foresight, which an angle alone has
+-- the number of the foresight, if the kind has one
 unfoldable pub foresight_in : List PointRecord → Kind → List ℕ → Option ℕ
-foresight_in points kind text = if is_angle kind then Some (place_in points text) else None
+foresight_in points kind text = if (rules_of kind).has_foresight then Some (place_in points text) else None
 
 -- a standard deviation in hundredths, and 0 outside the grammar
 unfoldable pub deviation_of : List ℕ → ℕ
 deviation_of text = option_map_or unsigned_abs (decimal_of 2 text) 0
 
--- the standard deviation of the height, which a vector alone has
+-- the standard deviation of the height, if the kind has one
 unfoldable pub height_deviation_of : Kind → List ℕ → Option ℕ
-height_deviation_of kind text = if is_vector kind then Some (deviation_of text) else None
+height_deviation_of kind text = if (rules_of kind).has_height_deviation then Some (deviation_of text) else None
 
 -- a price, and 0 outside the grammar
 unfoldable pub price_of : List ℕ → ℕ
@@ -60,7 +61,7 @@ candidate_of points row = record {
 
 -- ---- the rules, in their order
 
--- the kind is one of the five
+-- the text is the word of a kind
 unfoldable pub kind_rules : List ℕ → List (Rule FaultKind)
 kind_rules text = rule (is_none (kind_of text)) fault.Kind ∷ []
 
@@ -68,11 +69,11 @@ kind_rules text = rule (is_none (kind_of text)) fault.Kind ∷ []
 unfoldable pub point_rules : List PointRecord → List ℕ → List (Rule FaultKind)
 point_rules points text = rule (not (is_among text (points_table.names_of points))) fault.NoPoint ∷ []
 
--- a point has the name of an angle's foresight
+-- a point has the name of the foresight, if the kind has one
 unfoldable pub foresight_rules : List PointRecord → Kind → List ℕ → List (Rule FaultKind)
-foresight_rules points kind text = if is_angle kind then point_rules points text else []
+foresight_rules points kind text = if (rules_of kind).has_foresight then point_rules points text else []
 
--- the kind, and then the points that are named: from, to, and for an angle to2
+-- the kind, and then the points that are named: from, to, and to2 if the kind has a foresight
 unfoldable pub end_rules : List PointRecord → List (List ℕ) → List (Rule FaultKind)
 end_rules points row =
     kind_rules (text_at row 1)
@@ -80,27 +81,28 @@ end_rules points row =
     ++ (point_rules points (text_at row 3)
     ++ foresight_rules points (kind_at row) (text_at row 4)))
 
--- to2 is empty but for an angle, and sdh but for a vector
+-- to2 is empty but for a kind with a foresight, and sdh but for one with a standard deviation of the height
 unfoldable pub extra_rules : Kind → List (List ℕ) → List (Rule FaultKind)
 extra_rules kind row =
-    rule (not (is_angle kind) && not (is_empty (text_at row 4))) fault.Extra
-    ∷ rule (not (is_vector kind) && not (is_empty (text_at row 6))) fault.Extra
+    rule (not ((rules_of kind).has_foresight) && not (is_empty (text_at row 4))) fault.Extra
+    ∷ rule (not ((rules_of kind).has_height_deviation) && not (is_empty (text_at row 6))) fault.Extra
     ∷ []
 
 -- the points that are named differ, and have the parts that the kind needs
 unfoldable pub part_rules : List PointRecord → Kind → List ℕ → List (Rule FaultKind)
 part_rules points kind places =
     rule (has_repeat places) fault.SamePoint
-    ∷ rule (needs_plane kind && list_any (lacks_plane points) places) fault.NoPlane
-    ∷ rule (needs_height kind && list_any (lacks_height points) places) fault.NoHeight
+    ∷ rule ((rules_of kind).needs_plane && list_any (lacks_plane points) places) fault.NoPlane
+    ∷ rule ((rules_of kind).needs_height && list_any (lacks_height points) places) fault.NoHeight
     ∷ []
 
--- a line by the square of its length in mm^2: it isn't too short for the kind, nor longer than 100 km
+-- a square of a length against these bounds
+unfoldable pub bound_rules : ℕ → LineBounds → List (Rule FaultKind)
+bound_rules square bounds = rule (nat_lt square bounds.least) fault.Near ∷ rule (nat_lt bounds.greatest square) fault.Far ∷ []
+
+-- a line by the square of its length in mm^2: it is within the bounds of the kind, if it has any
 unfoldable pub length_rules : Kind → ℕ → List (Rule FaultKind)
-length_rules kind square =
-    rule (has_line kind && nat_lt square (least_square kind)) fault.Near
-    ∷ rule (has_line kind && nat_lt (10 ^ 16) square) fault.Far
-    ∷ []
+length_rules kind square = option_map_or (bound_rules square) (rules_of kind).line []
 
 -- the line between two points
 abbrev pub line_rules : List PointRecord → Kind → ℕ → ℕ → List (Rule FaultKind)
@@ -121,15 +123,15 @@ place_rules points row kind from to to2 =
 unfoldable pub deviation_rules : List ℕ → List (Rule FaultKind)
 deviation_rules text = number_rules 2 (pos 10) (pos 10000) text
 
--- the standard deviation of a vector's height is one
+-- the standard deviation of the height is one, if the kind has it
 unfoldable pub height_rules : Kind → List ℕ → List (Rule FaultKind)
-height_rules kind text = if is_vector kind then deviation_rules text else []
+height_rules kind text = if (rules_of kind).has_height_deviation then deviation_rules text else []
 
 -- a price is a whole number from 0 to 1000000000
 unfoldable pub price_rules : List ℕ → List (Rule FaultKind)
 price_rules text = number_rules 0 (pos 0) (pos (10 ^ 9)) text
 
--- sd, for a vector sdh, and price
+-- sd, then sdh if the kind has it, and price
 unfoldable pub figure_rules : Kind → List (List ℕ) → List (Rule FaultKind)
 figure_rules kind row = deviation_rules (text_at row 5) ++ (height_rules kind (text_at row 6) ++ price_rules (text_at row 7))
 

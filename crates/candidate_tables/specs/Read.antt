@@ -19,7 +19,7 @@ pub record IsPlaceOf (points : List PointRecord) (text : List ℕ) (place : ℕ)
   pub value : place ≡ place_in points text
   pub within : place < length points
 
--- a number is that of an angle's foresight, and there is none for another kind
+-- a number is that of the foresight, and there is none for a kind without one
 pub record IsForesight (points : List PointRecord) (kind : Kind) (text : List ℕ) (place : Option ℕ) : Type 0 where
   pub value : place ≡ foresight_in points kind text
   pub within : ForSome place (λ number. number < length points)

@@ -26,11 +26,11 @@ fn read_point(text: &[u8], points: &Points) -> Result<u32, FaultKind>
     }
 }
 
-// The number of the foresight, which an angle alone has.
+// The number of the foresight, if the kind has one.
 fn read_foresight(kind: Kind, text: &[u8], points: &Points) -> Result<Option<u32>, FaultKind>
     ensures { Reads (foresight_rules points.now kind text.now) (IsForesight points.now kind text.now) result }
 {
-    if !kind.is_angle() {
+    if !kind.rules().has_foresight {
         return Ok(None);
     }
     match read_point(text, points) {

@@ -33,11 +33,11 @@ fn read_deviation(text: &[u8]) -> Result<u32, FaultKind>
     }
 }
 
-// The standard deviation of the height, which a vector alone has.
+// The standard deviation of the height, if the kind has one.
 fn read_height(kind: Kind, text: &[u8]) -> Result<Option<u32>, FaultKind>
     ensures { Reads (height_rules kind text.now) (λ value. value ≡ height_deviation_of kind text.now) result }
 {
-    if !kind.is_vector() {
+    if !kind.rules().has_height_deviation {
         return Ok(None);
     }
     match read_deviation(text) {

@@ -1,9 +1,11 @@
 ghost use Rattle.std.specs.Prelude.{◌≡◌};
+ghost use Rattle.std.specs.Str.{bytes_eq};
 ghost use Rattle.point_tables.specs.Columns.{Reads};
 ghost use Rattle.candidate_tables.specs.CandidateTable.{kind_rules};
 ghost use Rattle.candidate_tables.specs.Read.{IsKindOf};
-ghost use Rattle.candidate_tables.specs.Kinds.{has_line, is_angle, is_vector, kind_of, least_square, needs_height, needs_plane};
+ghost use Rattle.candidate_tables.specs.Kinds.{kind_of, rules_of};
 
+use crate::kind_rules::{KindRules, LineBounds};
 use point_tables::FaultKind;
 
 /// What a candidate observes.
@@ -21,90 +23,112 @@ pub enum Kind {
     Vector,
 }
 
+// The largest square of the length of a line, in square millimetres: that of 100 km.
+const MOST_SQUARE: u128 = 10_000_000_000_000_000;
+
+// The bounds of lines of at least 1 m.
+const FROM_1_M: Option<LineBounds> = Some(LineBounds {
+    least: 1_000_000,
+    greatest: MOST_SQUARE,
+});
+
+// The bounds of lines of at least 10 m.
+const FROM_10_M: Option<LineBounds> = Some(LineBounds {
+    least: 100_000_000,
+    greatest: MOST_SQUARE,
+});
+
+// The rules of a kind of one row that names two points and asks nothing of them.
+const PLAIN: KindRules = KindRules {
+    word: "",
+    has_foresight: false,
+    has_height_deviation: false,
+    needs_plane: false,
+    needs_height: false,
+    line: None,
+    rows: 1,
+    has_orientation: false,
+    occupies_station: false,
+};
+
+const DISTANCE: KindRules = KindRules {
+    word: "distance",
+    needs_plane: true,
+    line: FROM_1_M,
+    occupies_station: true,
+    ..PLAIN
+};
+
+const DIRECTION: KindRules = KindRules {
+    word: "direction",
+    needs_plane: true,
+    line: FROM_10_M,
+    has_orientation: true,
+    occupies_station: true,
+    ..PLAIN
+};
+
+const ANGLE: KindRules = KindRules {
+    word: "angle",
+    has_foresight: true,
+    needs_plane: true,
+    line: FROM_10_M,
+    occupies_station: true,
+    ..PLAIN
+};
+
+const LEVEL: KindRules = KindRules {
+    word: "level",
+    needs_height: true,
+    ..PLAIN
+};
+
+const VECTOR: KindRules = KindRules {
+    word: "vector",
+    has_height_deviation: true,
+    needs_plane: true,
+    needs_height: true,
+    rows: 3,
+    ..PLAIN
+};
+
 impl Kind {
-    // Whether a third point is named.
-    pub(crate) fn is_angle(self) -> bool
-        ensures { result ≡ is_angle self }
+    /// What the kind asks of a record, and what it gives to a network.
+    #[tactic(auto, unfolding(crate::specs::Kinds::rules_of))]
+    pub fn rules(self) -> KindRules
+        ensures { result ≡ rules_of self }
     {
         match self {
-            Kind::Angle => true,
-            Kind::Distance | Kind::Direction | Kind::Level | Kind::Vector => false,
+            Kind::Distance => DISTANCE,
+            Kind::Direction => DIRECTION,
+            Kind::Angle => ANGLE,
+            Kind::Level => LEVEL,
+            Kind::Vector => VECTOR,
         }
     }
 
-    // Whether there is a standard deviation of the height.
-    pub(crate) fn is_vector(self) -> bool
-        ensures { result ≡ is_vector self }
+    // Whether a text is its word.
+    fn is_named(self, text: &[u8]) -> bool
+        ensures { result ≡ bytes_eq text.now (rules_of self).word }
     {
-        match self {
-            Kind::Vector => true,
-            Kind::Distance | Kind::Direction | Kind::Angle | Kind::Level => false,
-        }
-    }
-
-    // Whether the points that are named need a plane part.
-    pub(crate) fn needs_plane(self) -> bool
-        ensures { result ≡ needs_plane self }
-    {
-        match self {
-            Kind::Level => false,
-            Kind::Distance | Kind::Direction | Kind::Angle | Kind::Vector => true,
-        }
-    }
-
-    // Whether the points that are named need a height part.
-    pub(crate) fn needs_height(self) -> bool
-        ensures { result ≡ needs_height self }
-    {
-        match self {
-            Kind::Level | Kind::Vector => true,
-            Kind::Distance | Kind::Direction | Kind::Angle => false,
-        }
-    }
-
-    // Whether the length of its lines is bounded.
-    pub(crate) fn has_line(self) -> bool
-        ensures { result ≡ has_line self }
-    {
-        match self {
-            Kind::Distance | Kind::Direction | Kind::Angle => true,
-            Kind::Level | Kind::Vector => false,
-        }
-    }
-
-    // The least square of the length of its lines, in square millimetres.
-    pub(crate) fn least_square(self) -> u128
-        ensures { result ≡ least_square self }
-    {
-        match self {
-            Kind::Distance => 1_000_000,
-            Kind::Direction | Kind::Angle => 100_000_000,
-            Kind::Level | Kind::Vector => 0,
-        }
+        text == self.rules().word.as_bytes()
     }
 }
 
-// The kind that a text names.
-#[tactic(auto, unfolding(crate::specs::Kinds::kind_of))]
+// Every kind.
+const KINDS: [Kind; 5] = [
+    Kind::Distance,
+    Kind::Direction,
+    Kind::Angle,
+    Kind::Level,
+    Kind::Vector,
+];
+
+// The kind whose word a text is.
 fn kind_of(text: &[u8]) -> Option<Kind>
     ensures { result ≡ kind_of text.now }
 {
-    if text == b"distance".as_slice() {
-        return Some(Kind::Distance);
-    }
-    if text == b"direction".as_slice() {
-        return Some(Kind::Direction);
-    }
-    if text == b"angle".as_slice() {
-        return Some(Kind::Angle);
-    }
-    if text == b"level".as_slice() {
-        return Some(Kind::Level);
-    }
-    if text == b"vector".as_slice() {
-        return Some(Kind::Vector);
-    }
-    None
+    KINDS.iter().copied().find(|kind| kind.is_named(text))
 }
 
 // The kind of a record.

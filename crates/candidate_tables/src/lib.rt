@@ -13,6 +13,7 @@ mod candidates;
 mod ends;
 mod figures;
 mod kind;
+mod kind_rules;
 mod laws;
 mod line;
 mod places;
@@ -21,7 +22,8 @@ mod record;
 
 pub use candidates::Candidates;
 pub use kind::Kind;
-pub use laws::first_candidate_fault_is_least;
+pub use kind_rules::{KindRules, LineBounds};
+pub use laws::{first_candidate_fault_is_least, words_name_kinds};
 pub use read::read_candidates;
 pub use record::CandidateRecord;
 

@@ -7,9 +7,6 @@ use crate::kind::Kind;
 use coefficient_round::length_squared;
 use point_tables::{FaultKind, Points};
 
-// The largest square of the length of a line, in square millimetres.
-const MOST_SQUARE: u128 = 10_000_000_000_000_000;
-
 // The square of the length of the line between two points, in square millimetres.
 fn square_between(points: &Points, from: u32, to: u32) -> u128
     requires from { from < length points.now }
@@ -20,14 +17,17 @@ fn square_between(points: &Points, from: u32, to: u32) -> u128
 }
 
 // The first rule that the square of a line's length breaks.
-#[tactic(auto, unfolding(table_rows::specs::Faults::first_broken, crate::specs::CandidateTable::length_rules))]
+#[tactic(auto, unfolding(table_rows::specs::Faults::first_broken, crate::specs::CandidateTable::bound_rules, crate::specs::CandidateTable::length_rules))]
 fn broken_length(kind: Kind, square: u128) -> Option<FaultKind>
     ensures { result ≡ first_broken (length_rules kind square) }
 {
-    if kind.has_line() && square < kind.least_square() {
+    let Some(bounds) = kind.rules().line else {
+        return None;
+    };
+    if square < bounds.least {
         return Some(FaultKind::Near);
     }
-    if kind.has_line() && MOST_SQUARE < square {
+    if bounds.greatest < square {
         return Some(FaultKind::Far);
     }
     None

@@ -17,10 +17,11 @@ fn broken_extra(kind: Kind, row: &TableRow) -> Option<FaultKind>
     requires { length row.now ≡ 8 }
     ensures { result ≡ first_broken (extra_rules kind row.now) }
 {
-    if !kind.is_angle() && !row.field(4).is_empty() {
+    let rules = kind.rules();
+    if !rules.has_foresight && !row.field(4).is_empty() {
         return Some(FaultKind::Extra);
     }
-    if !kind.is_vector() && !row.field(6).is_empty() {
+    if !rules.has_height_deviation && !row.field(6).is_empty() {
         return Some(FaultKind::Extra);
     }
     None
@@ -86,10 +87,11 @@ impl Ends {
         if self.has_repeat() {
             return Some(FaultKind::SamePoint);
         }
-        if self.kind.needs_plane() && self.lacks_plane(points) {
+        let rules = self.kind.rules();
+        if rules.needs_plane && self.lacks_plane(points) {
             return Some(FaultKind::NoPlane);
         }
-        if self.kind.needs_height() && self.lacks_height(points) {
+        if rules.needs_height && self.lacks_height(points) {
             return Some(FaultKind::NoHeight);
         }
         None

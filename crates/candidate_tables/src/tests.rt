@@ -1,4 +1,4 @@
-use crate::{Candidates, first_candidate_fault_is_least, read_candidates};
+use crate::{Candidates, first_candidate_fault_is_least, read_candidates, words_name_kinds};
 use geo_base::NoMemory;
 use point_tables::{Points, TableAnswer, TableName, read_points};
 use std::alloc::Global;
@@ -205,6 +205,7 @@ fn expect_shown(rt: &impl Abort, alloc: Global, rows: &[(&str, &str)]) -> Result
 fn tables_read_as_candidates_or_as_their_first_fault(rt: HostRuntime) -> Result<(), Fail> {
     expect_shown(&rt, rt.alloc(), &RECORDS)?;
     first_candidate_fault_is_least();
+    words_name_kinds();
     Ok(())
 }
 
