@@ -1,3 +1,4 @@
 pub mod EnergyLemmas
 pub mod PlanLemmas
 pub mod SizeLemmas
+pub mod SumSteps

@@ -44,7 +44,7 @@ row-form_small row x bounds narrow =
 pub light : (w : ℤ) → pos 1 ≤ℤ w → w ≤ℤ pos 1000000 → unsigned_abs w ≤ 1000000
 light w low high = omega (arith, ints)
 
-row_energy-size : (row : RowOf) (x : Displaced) → IsRow row → IsNarrow x → unsigned_abs (row_energy row x) ≤ 1000000 * 2 ^ 76
+pub row_energy-size : (row : RowOf) (x : Displaced) → IsRow row → IsNarrow x → unsigned_abs (row_energy row x) ≤ 1000000 * 2 ^ 76
 row_energy-size row x bounds narrow =
     let f = row-form_small row x bounds narrow in
     let square = size-mul (form_at row.entries x) (form_at row.entries x) (2 ^ 38) (2 ^ 38) (omega arith) (omega arith) in
@@ -62,7 +62,7 @@ rows_energy-size (row ∷ rows) x all narrow =
     let both = size-add (row_energy row x) (int_sum_by (λ r. row_energy r x) rows) in
     omega arith
 
-part_energy-size : (chosen : Bool) (n : ℕ) (candidate : CandidateOf) (x : Displaced) → IsCandidate n candidate → IsNarrow x
+pub part_energy-size : (chosen : Bool) (n : ℕ) (candidate : CandidateOf) (x : Displaced) → IsCandidate n candidate → IsNarrow x
     → unsigned_abs (if chosen then candidate_energy candidate x else pos 0) ≤ length candidate.rows * (1000000 * 2 ^ 76)
 part_energy-size true n candidate x bounds narrow = rows_energy-size candidate.rows x bounds.rows narrow
 part_energy-size false n candidate x bounds narrow = omega arith
@@ -100,7 +100,7 @@ gather b t =
     ∙ sym (mul_assoc b (t * t) (2 ^ 30))
     ∙ ap (λ s. (b * s) * 2 ^ 30) (sym (square_is t))
 
-square-size : (square : SquareOf) (x : Displaced) → IsNarrow x → unsigned_abs (square.beta *ℤ form_squared square.entries x) ≤ (unsigned_abs square.beta * total_size square.entries ^ 2) * 2 ^ 30
+pub square-size : (square : SquareOf) (x : Displaced) → IsNarrow x → unsigned_abs (square.beta *ℤ form_squared square.entries x) ≤ (unsigned_abs square.beta * total_size square.entries ^ 2) * 2 ^ 30
 square-size square x narrow =
     let t = total_size square.entries in
     let f = form_at-size square.entries x (2 ^ 15) narrow in
@@ -108,7 +108,7 @@ square-size square x narrow =
     rw (← gather (unsigned_abs square.beta) t)
     (size-mul square.beta (form_squared square.entries x) (unsigned_abs square.beta) ((t * 2 ^ 15) * (t * 2 ^ 15)) (same_le (unsigned_abs square.beta)) squared)
 
-load-size : (squares : List SquareOf) (x : Displaced) → IsNarrow x → unsigned_abs (load squares x) ≤ sum_by (λ square. unsigned_abs square.beta * total_size square.entries ^ 2) squares * 2 ^ 30
+pub load-size : (squares : List SquareOf) (x : Displaced) → IsNarrow x → unsigned_abs (load squares x) ≤ sum_by (λ square. unsigned_abs square.beta * total_size square.entries ^ 2) squares * 2 ^ 30
 load-size [] x narrow = omega arith
 load-size (square ∷ squares) x narrow =
     let first = square-size square x narrow in

@@ -12,6 +12,8 @@
 
 mod answer;
 mod candidate;
+mod displacement;
+mod forms;
 mod laws;
 mod limit;
 mod network;
@@ -21,6 +23,8 @@ mod verdict;
 
 pub use answer::{Answer, Counts, SearchDone};
 pub use candidate::Candidate;
+pub use displacement::Displacement;
+pub use forms::{breaks, candidate_energy, energy, load};
 pub use laws::{larger_plans_cost_more, larger_plans_keep_limits, sums_stay_within_128_bits};
 pub use limit::{Limit, LimitKind, Square};
 pub use network::{Component, Network, Unknown, cost};
