@@ -1,7 +1,8 @@
 -- Triangles of rows: their shape, and what a written row leaves of it.
-use Rattle.std.proofs.Common.{◌≡◌, ℕ, zero, suc, ◌+◌, ◌-◌, ◌<◌, List, [], ◌∷◌, ◌++◌, length, get_or, take, drop, replicate, refl, sym, ◌∙◌, ap, ap₂, subst, arith, append_assoc, ℤ, pos}
+use Rattle.std.proofs.Common.{◌≡◌, ℕ, zero, suc, ◌+◌, ◌-◌, ◌<◌, ◌≤◌, List, [], ◌∷◌, ◌++◌, length, get_or, take, drop, replicate, refl, sym, ◌∙◌, ap, ap₂, subst, arith, append_assoc, ℤ, pos}
 use Rattle.std.specs.Prelude.{slice_set}
-use Rattle.lent_parts.specs.Triangle.{IsTri, zero_tri, tri_row, refilled}
+use Rattle.std.proofs.lemmas.Grind.{common_steps}
+use Rattle.lent_parts.specs.Triangle.{IsKept, IsTri, zero_tri, tri_row, refilled}
 
 -- ---- rows
 pub length-zeros : (n : ℕ) → length (replicate n (pos 0)) ≡ n
@@ -92,3 +93,70 @@ made_of_zeros n rows held e f =
 pub row_given_back : (old : List (List ℤ)) (rows : List (List ℤ)) (k : ℕ) (held filled : List ℤ)
     → slice_set rows k held ≡ old → slice_set rows k filled ≡ slice_set old k filled
 row_given_back old rows k held filled e = sym (written_twice rows k held filled) ∙ ap (λ t. slice_set t k filled) e
+
+length-refilled : (row filled : List ℤ) → length (refilled row filled) ≡ length row
+length-refilled row filled = grind (arith, common_steps)
+
+-- what is written in a row plays no part in the rows before it
+take-written : {X : Type 0} (xs : List X) (k : ℕ) (y : X) → take k (slice_set xs k y) ≡ take k xs
+take-written [] k y = refl
+take-written (x ∷ xs) zero y = refl
+take-written (x ∷ xs) (suc k) y = ap (λ t. x ∷ t) (take-written xs k y)
+
+-- A triangle of n rows whose row k was taken out to be lent: `rows` are those left, with that row, `held`, missing in
+-- place k.
+pub record IsTakenOut (n : ℕ) (old rows : List (List ℤ)) (k : ℕ) (held : List ℤ) : Type 0 where
+  pub shape : IsTri n old
+  pub few : n ≤ 64
+  pub within : k < n
+  pub len : length rows ≡ n
+  pub same : slice_set rows k held ≡ old
+  pub row : held ≡ tri_row old k
+
+-- the row has its places
+pub long_row : {n : ℕ} {old rows : List (List ℤ)} {k : ℕ} {held : List ℤ} → IsTakenOut n old rows k held → length held ≡ n - k
+long_row {n} {old} {rows} {k} {held} out = ap length out.row ∙ length-tri_row n old k out.shape out.within
+
+-- the triangle keeps what it keeps, whatever is written in the places of the row
+pub IsKept-refilled : {n : ℕ} {old rows : List (List ℤ)} {k : ℕ} {held : List ℤ} → IsTakenOut n old rows k held → (filled : List ℤ)
+    → IsKept rows k (refilled held filled)
+IsKept-refilled {n} {old} {rows} {k} {held} out filled =
+    let few = out.few in
+    let within = out.within in
+    let len = out.len in
+    record {
+      few = omega arith;
+      within = λ _. omega arith;
+      shape = subst (λ m. IsTri m (slice_set rows k (refilled held filled))) (sym len)
+          (subst (IsTri n) (sym (row_given_back old rows k held (refilled held filled) out.same))
+          (IsTri-slice_set n old k (refilled held filled) out.shape (length-refilled held filled ∙ long_row out)));
+    }
+
+-- and it ends in its place
+pub row_given : {n : ℕ} {old rows : List (List ℤ)} {k : ℕ} {held : List ℤ} → IsTakenOut n old rows k held → (filled : List ℤ)
+    → slice_set rows k (refilled held filled) ≡ slice_set old k (refilled (tri_row old k) filled)
+row_given {n} {old} {rows} {k} {held} out filled =
+    row_given_back old rows k held (refilled held filled) out.same ∙ ap (λ row. slice_set old k (refilled row filled)) out.row
+
+-- the rows before it are those of the triangle
+pub rows_kept : {n : ℕ} {old rows : List (List ℤ)} {k : ℕ} {held : List ℤ} → IsTakenOut n old rows k held → take k rows ≡ take k old
+rows_kept {n} {old} {rows} {k} {held} out = sym (take-written rows k held) ∙ ap (take k) out.same
+
+-- row k is taken out, where another one was held before
+pub taken_out : (rows : List (List ℤ)) (place : ℕ) (first : List ℤ) (old left : List (List ℤ)) (k : ℕ) (held : List ℤ)
+    → IsKept rows place first → slice_set rows place first ≡ old → k < length old
+    → held ≡ tri_row (slice_set rows place first) k → slice_set left k held ≡ slice_set rows place first → length left ≡ length rows
+    → IsTakenOut (length old) old left k held
+taken_out rows place first old left k held kept is lt row same len =
+    let n = length rows in
+    let shape : IsTri n old = subst (IsTri n) is kept.shape in
+    let tall = length-IsTri n old shape in
+    let few = kept.few in
+    record {
+      shape = subst (λ m. IsTri m old) (sym tall) shape;
+      few = omega arith;
+      within = lt;
+      len = len ∙ sym tall;
+      same = same ∙ is;
+      row = row ∙ ap (λ rows. tri_row rows k) is;
+    }

@@ -1,6 +1,6 @@
 -- Symmetric matrices of whole numbers, kept as triangles of rows: row k holds the entries of row k of the matrix from
 -- the diagonal on. This project's own layout.
-use Rattle.std.specs.Prelude.{◌≡◌, ℕ, zero, suc, ◌<◌, ◌≤◌, List, [], ◌∷◌, length, replicate, take, drop, ◌++◌, get_or, ℤ, pos}
+use Rattle.std.specs.Prelude.{◌≡◌, ℕ, zero, suc, ◌<◌, ◌≤◌, List, [], ◌∷◌, length, replicate, take, drop, ◌++◌, get_or, slice_set, ℤ, pos}
 
 -- n rows, the first with n entries and each with one fewer than the row before
 abbrev pub IsTri : ℕ → List (List ℤ) → Type 0
@@ -22,6 +22,9 @@ tri_row rows k = get_or rows k []
 abbrev pub refilled : List ℤ → List ℤ → List ℤ
 refilled row filled = take (length row) (filled ++ drop (length filled) row)
 
--- a triangle keeps at most 64 rows, and the place whose row is held outside is one of theirs
-abbrev pub IsKept : List (List ℤ) → ℕ → Type 0
-IsKept rows at = (length rows ≤ 64) × (0 < length rows → at < length rows)
+-- What a triangle keeps: at most 64 rows, a place among theirs whose row is held outside, and with the held row in that
+-- place the shape of a triangle.
+pub record IsKept (rows : List (List ℤ)) (place : ℕ) (held : List ℤ) : Type 0 where
+  pub few : length rows ≤ 64
+  pub within : 0 < length rows → place < length rows
+  pub shape : IsTri (length rows) (slice_set rows place held)

@@ -13,6 +13,7 @@
 mod laws;
 mod line_walk;
 mod pieces;
+mod rows;
 #[cfg(test)]
 mod tests;
 mod token_walk;
@@ -21,6 +22,7 @@ mod tri_row;
 
 pub use laws::{lines_make_the_text, tokens_make_the_line};
 pub use line_walk::{Line, LineWalk, lines};
+pub use rows::Rows;
 pub use token_walk::{Token, TokenWalk, tokens};
 pub use tri::Tri;
 use tri_row::TriRow;

@@ -15,6 +15,18 @@ fn rows_of_a_triangle(rt: HostRuntime) -> Result<(), NoMemory> {
 }
 
 #[test]
+fn rows_before_a_row(rt: HostRuntime) -> Result<(), NoMemory> {
+    let mut tri = Tri::new(rt.alloc(), 3)?;
+    tri.row_mut(0)[2] = 7;
+    tri.row_mut(1)[0] = 4;
+    let (before, row) = tri.rows_before(2);
+    row[0] = before.row(0)[2] - before.row(1)[0];
+    assert_eq!(rt; tri.row(0), [0i128, 0, 7].as_slice());
+    assert_eq!(rt; tri.row(2), [3i128].as_slice());
+    Ok(())
+}
+
+#[test]
 fn tokens_between_single_spaces(rt: HostRuntime) {
     let mut walk = tokens(b"d 17  x");
     assert_eq!(rt;

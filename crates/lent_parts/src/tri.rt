@@ -1,16 +1,17 @@
-ghost use Rattle.std.specs.Prelude.{◌≡◌, ◌<◌, ◌≤◌, length, IfOk, slice_set};
+ghost use Rattle.std.specs.Prelude.{◌≡◌, ◌-◌, ◌<◌, ◌≤◌, length, take, IfOk, slice_set};
 ghost use Rattle.std.specs.Borrow.{sem};
 ghost use Rattle.lent_parts.specs.Triangle.{IsTri, zero_tri, tri_row};
 ghost use Rattle.lent_parts.specs.TriLending.{LendsRow};
 
-use crate::TriRow;
+use crate::{Rows, TriRow};
 use geo_base::NoMemory;
 use std::alloc::Global;
 use std::marker::Model;
 use std::mem;
 
 /// A symmetric matrix of whole numbers. Contracts see it as the list of its rows, where row `k` holds
-/// the entries of row `k` of the matrix from the diagonal on.
+/// the entries of row `k` of the matrix from the diagonal on. It keeps this shape: whoever writes a
+/// row writes its entries and not its length.
 ///
 /// One row is held outside the others, so that it can be written beside them.
 #[derive(Debug, Drop)]
@@ -28,7 +29,7 @@ impl Model for Tri {
 
     ghost view = { λ tri. slice_set tri.rows.items tri.at tri.held };
 
-    ghost invariant = { λ tri. IsKept tri.rows.items tri.at };
+    ghost invariant = { λ tri. IsKept tri.rows.items tri.at tri.held };
 }
 
 impl Tri {
@@ -51,6 +52,7 @@ impl Tri {
     pub fn size(&self) -> u32
         ensures rows { result ≡ length self.now }
         ensures most { result ≤ 64 }
+        ensures shape { IsTri result self.now }
     {
         self.rows.len() as u32
     }
@@ -58,7 +60,8 @@ impl Tri {
     /// Row `k`, from the diagonal on.
     pub fn row(&self, k: u32) -> &[i128]
         requires { k < length self.now }
-        ensures { result.now ≡ tri_row self.now k }
+        ensures value { result.now ≡ tri_row self.now k }
+        ensures places { length result.now ≡ length self.now - k }
     {
         let place = k as usize;
         if place == self.at {
@@ -73,11 +76,29 @@ impl Tri {
         requires { k < length self.old }
         ensures* writes_back { sem 𝓛 (LendsRow self.entry k result) }
         ensures value { result.now ≡ tri_row self.old k }
+        ensures places { length result.now ≡ length self.old - k }
     {
         let at = self.at;
         exchange(&mut self.rows, &mut self.held, at, k as usize);
         self.at = k as usize;
         self.held.entries_mut()
+    }
+
+    /// The rows before row `k` for reading, and row `k`, from the diagonal on, for writing. No other
+    /// row changes, and none is copied.
+    pub fn rows_before(&mut self, k: u32) -> (Rows<'_>, &mut [i128])
+        requires { k < length self.old }
+        ensures* writes_back { sem 𝓛 (LendsRow self.entry k result.1) }
+        ensures before { result.0 ≡ take k self.old }
+        ensures value { result.1.now ≡ tri_row self.old k }
+        ensures places { length result.1.now ≡ length self.old - k }
+    {
+        let at = self.at;
+        let place = k as usize;
+        exchange(&mut self.rows, &mut self.held, at, place);
+        self.at = place;
+        let before = Rows::of(&self.rows[..place]);
+        (before, self.held.entries_mut())
     }
 }
 

@@ -1,0 +1,18 @@
+use Rattle.std.proofs.Common.{refl, ◌∙◌, ap, length, take}
+use Rattle.lent_parts.proofs.Triangles.{taken_out, IsKept-refilled, long_row, row_given, rows_kept}
+use Rattle.lent_parts.proofs.tri.Tri.rows_before.Goals as goal
+
+pub invariant_of-self-lent : goal.invariant_of-self-lent
+invariant_of-self-lent c =
+    let out = taken_out c.self.inside.rows.items c.self.inside.at c.self.inside.held c.args.self.now c.exchange.new.rows.items c.args.k c.exchange.new.held
+    c.self.invariant c.self.view_is c.requires c.exchange.ensures.held c.exchange.ensures.rows c.exchange.ensures.len in
+    IsKept-refilled out
+
+pub returns : goal.returns
+returns c =
+    let out = taken_out c.self.inside.rows.items c.self.inside.at c.self.inside.held c.args.self.now c.exchange.new.rows.items c.args.k c.exchange.new.held
+    c.self.invariant c.self.view_is c.requires c.exchange.ensures.held c.exchange.ensures.rows c.exchange.ensures.len in
+    let lent = c.entries_mut.ensures.value in (
+      (refl, row_given out),
+      record { writes_back = tt; before = c.of-before.ensures ∙ (ap (take c.args.k) c.deref.ensures.value ∙ rows_kept out); value = lent ∙ out.row; places = ap length lent ∙ long_row out },
+    )

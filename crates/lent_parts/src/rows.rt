@@ -1,0 +1,36 @@
+use crate::TriRow;
+use std::marker::Model;
+
+/// The first rows of a triangle, lent for reading. Contracts see it as their list.
+#[derive(Debug, Drop)]
+pub struct Rows<'a> {
+    rows: &'a [TriRow],
+}
+
+impl<'a> Model for Rows<'a> {
+    ghost use Rattle.std.specs.Prelude.{List, ℤ};
+
+    ghost Value = { List (List ℤ) };
+
+    ghost view = { λ rows. rows.rows.now };
+}
+
+impl<'a> Rows<'a> {
+    ghost use Rattle.std.specs.Prelude.{◌≡◌, ◌<◌, length};
+    ghost use Rattle.lent_parts.specs.Triangle.{tri_row};
+
+    // The rows of a list.
+    pub(crate) fn of(rows: &'a [TriRow]) -> Rows<'a>
+        ensures { result ≡ rows.now }
+    {
+        Rows { rows }
+    }
+
+    /// Row `j`, from the diagonal on.
+    pub fn row(&self, j: u32) -> &'a [i128]
+        requires { j < length self.now }
+        ensures { result.now ≡ tri_row self.now j }
+    {
+        self.rows[j as usize].entries()
+    }
+}
