@@ -1,0 +1,4 @@
+pub mod Sums
+pub mod Products
+pub mod Cauchy
+pub mod Law
