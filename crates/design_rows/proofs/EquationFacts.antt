@@ -1,6 +1,6 @@
 -- The equations of an accepted candidate are within their bounds.
 use Rattle.std.proofs.Common.{◌≡◌, ◌≢◌, ◌∙◌, ◌+◌, ◌≤◌, ◌^◌, ℕ, ℤ, true, false, List, Option, Some, None, refl, ap, arith, eqb, inl, inr}
-use Rattle.std.specs.Prelude.{◌-ℤ◌, ◌⊎◌, neg_ℤ, is_some, unsigned_abs, unwrap_or}
+use Rattle.std.specs.Prelude.{◌-ℤ◌, neg_ℤ, is_some, unsigned_abs, unwrap_or}
 use Rattle.std.specs.List.{AllByRecursion, IsDistinct}
 use Rattle.std.proofs.lemmas.Bool.Decides.{nat_tests}
 use Rattle.std.proofs.lemmas.Int.{ints}
@@ -13,8 +13,8 @@ use Rattle.point_tables.specs.declared.record.PointRecord.{PointRecord}
 use Rattle.candidate_tables.specs.declared.kind.Kind.{Kind}
 use Rattle.candidate_tables.specs.declared.kind.Kind.TheVariants as kind
 use Rattle.candidate_tables.specs.declared.record.CandidateRecord.{CandidateRecord}
-use Rattle.candidate_tables.specs.Accepted.{IsBetween, IsCandidateRecord, IsForesightOf, IsLine}
-use Rattle.candidate_tables.specs.Kinds.{is_angle, is_vector}
+use Rattle.candidate_tables.specs.Accepted.{IsBetween, IsCandidateRecord, IsForesightOf, IsLine, IsWithin}
+use Rattle.candidate_tables.specs.Kinds.{line_from, rules_of}
 use Rattle.candidate_tables.specs.Lines.{length_squared}
 use Rattle.candidate_tables.proofs.PlaceFacts.{squared-is}
 use Rattle.design_rows.specs.Bounds.{AreTerms}
@@ -136,39 +136,67 @@ given : {A : Type 0} (o : Option A) (d : A) → is_some o ≡ true → o ≡ Som
 given None d e = absurd (cc e)
 given (Some x) d e = refl
 
+pub has-foresight : (points : List PointRecord) (candidate : CandidateRecord) → IsCandidateRecord points candidate → candidate.kind ≡ kind.Angle
+    → is_some candidate.to2 ≡ true
+unfolding rules_of
+has-foresight points candidate is angle = is.has_to2 ∙ ap (λ (k : Kind). (rules_of k).has_foresight) angle
+
 pub foresight : (points : List PointRecord) (candidate : CandidateRecord) → IsCandidateRecord points candidate → candidate.kind ≡ kind.Angle
     → IsForesightOf points candidate.kind candidate.from candidate.to (unwrap_or candidate.to2 0)
-foresight points candidate is angle = is.to2 (unwrap_or candidate.to2 0) (given candidate.to2 0 (is.has_to2 ∙ ap is_angle angle))
+foresight points candidate is angle = is.to2 (unwrap_or candidate.to2 0) (given candidate.to2 0 (has-foresight points candidate is angle))
+
+pub has-height : (points : List PointRecord) (candidate : CandidateRecord) → IsCandidateRecord points candidate → candidate.kind ≡ kind.Vector
+    → is_some candidate.sdh ≡ true
+unfolding rules_of
+has-height points candidate is vector = is.has_sdh ∙ ap (λ (k : Kind). (rules_of k).has_height_deviation) vector
 
 pub height : (points : List PointRecord) (candidate : CandidateRecord) → IsCandidateRecord points candidate → candidate.kind ≡ kind.Vector
     → IsBetween (unwrap_or candidate.sdh 0)
-height points candidate is vector = is.sdh (unwrap_or candidate.sdh 0) (given candidate.sdh 0 (is.has_sdh ∙ ap is_vector vector))
+height points candidate is vector = is.sdh (unwrap_or candidate.sdh 0) (given candidate.sdh 0 (has-height points candidate is vector))
 
-pub long : (points : List PointRecord) (k : Kind) (from to : ℕ) → IsLine points k from to → (k ≡ kind.Direction) ⊎ (k ≡ kind.Angle) → 10 ^ 8 ≤ length_squared points from to
-long points kind.Direction from to line e = line.least refl
-long points kind.Angle from to line e = line.least refl
-long points kind.Distance from to line e = absurd (neither e)
-  where
-    neither : (kind.Distance ≡ kind.Direction) ⊎ (kind.Distance ≡ kind.Angle) → ⊥
-    neither (inl f) = cc f
-    neither (inr f) = cc f
-long points kind.Level from to line e = absurd (neither e)
-  where
-    neither : (kind.Level ≡ kind.Direction) ⊎ (kind.Level ≡ kind.Angle) → ⊥
-    neither (inl f) = cc f
-    neither (inr f) = cc f
-long points kind.Vector from to line e = absurd (neither e)
-  where
-    neither : (kind.Vector ≡ kind.Direction) ⊎ (kind.Vector ≡ kind.Angle) → ⊥
-    neither (inl f) = cc f
-    neither (inr f) = cc f
+-- the bounds of the lines of a kind
+distance-line : (k : Kind) → k ≡ kind.Distance → (rules_of k).line ≡ line_from (10 ^ 6)
+unfolding rules_of
+distance-line k e = ap (λ (j : Kind). (rules_of j).line) e
+
+direction-line : (k : Kind) → k ≡ kind.Direction → (rules_of k).line ≡ line_from (10 ^ 8)
+unfolding rules_of
+direction-line k e = ap (λ (j : Kind). (rules_of j).line) e
+
+angle-line : (k : Kind) → k ≡ kind.Angle → (rules_of k).line ≡ line_from (10 ^ 8)
+unfolding rules_of
+angle-line k e = ap (λ (j : Kind). (rules_of j).line) e
+
+-- a line of a kind with bounds is within them
+line-within : (points : List PointRecord) (k : Kind) (from to least : ℕ) → (rules_of k).line ≡ line_from least → IsLine points k from to
+    → IsWithin (length_squared points from to) (record { least = least; greatest = 10 ^ 16 })
+line-within points k from to least e line = line (record { least = least; greatest = 10 ^ 16 }) e
+
+-- the line to the target of an accepted candidate
+pub distance-within : (points : List PointRecord) (candidate : CandidateRecord) → IsCandidateRecord points candidate → candidate.kind ≡ kind.Distance
+    → IsWithin (length_squared points candidate.from candidate.to) (record { least = 10 ^ 6; greatest = 10 ^ 16 })
+distance-within points candidate is e = line-within points candidate.kind candidate.from candidate.to (10 ^ 6) (distance-line candidate.kind e) is.line
+
+pub direction-within : (points : List PointRecord) (candidate : CandidateRecord) → IsCandidateRecord points candidate → candidate.kind ≡ kind.Direction
+    → IsWithin (length_squared points candidate.from candidate.to) (record { least = 10 ^ 8; greatest = 10 ^ 16 })
+direction-within points candidate is e = line-within points candidate.kind candidate.from candidate.to (10 ^ 8) (direction-line candidate.kind e) is.line
+
+pub angle-within : (points : List PointRecord) (candidate : CandidateRecord) → IsCandidateRecord points candidate → candidate.kind ≡ kind.Angle
+    → IsWithin (length_squared points candidate.from candidate.to) (record { least = 10 ^ 8; greatest = 10 ^ 16 })
+angle-within points candidate is e = line-within points candidate.kind candidate.from candidate.to (10 ^ 8) (angle-line candidate.kind e) is.line
+
+-- and the line to an angle's foresight
+pub foresight-within : (points : List PointRecord) (candidate : CandidateRecord) → IsCandidateRecord points candidate → candidate.kind ≡ kind.Angle
+    → IsWithin (length_squared points candidate.from (unwrap_or candidate.to2 0)) (record { least = 10 ^ 8; greatest = 10 ^ 16 })
+foresight-within points candidate is e =
+    line-within points candidate.kind candidate.from (unwrap_or candidate.to2 0) (10 ^ 8) (angle-line candidate.kind e) (foresight points candidate is e).line
 
 equations-by : (points : List PointRecord) (candidate : CandidateRecord) → IsCandidateRecord points candidate → (k : Kind) → candidate.kind ≡ k
     → AllByRecursion IsEquation (equations_by k points candidate)
 equations-by points candidate is kind.Distance e = (record { terms = distance-terms points candidate.from candidate.to is.other; deviation = is.sd }, tt)
 equations-by points candidate is kind.Direction e = (
   record {
-    terms = direction-terms points candidate.from candidate.to is.other (long points candidate.kind candidate.from candidate.to is.line (inl e));
+    terms = direction-terms points candidate.from candidate.to is.other (direction-within points candidate is e).least;
     deviation = is.sd;
   },
   tt,
@@ -177,7 +205,7 @@ equations-by points candidate is kind.Angle e =
     let c = foresight points candidate is e in (
       record {
         terms = angle-terms points candidate.from candidate.to (unwrap_or candidate.to2 0) is.other c.other_from c.other_to
-            (long points candidate.kind candidate.from candidate.to is.line (inr e)) (long points candidate.kind candidate.from (unwrap_or candidate.to2 0) c.line (inr e));
+            (angle-within points candidate is e).least (foresight-within points candidate is e).least;
         deviation = is.sd;
       },
       tt,

@@ -1,5 +1,5 @@
 -- The rows of a candidate by its kind.
-use Rattle.std.proofs.Common.{◌≡◌, ◌∙◌, ℕ, List, [], ◌∷◌, ◌++◌, Option, Some, map, refl, sym, ap}
+use Rattle.std.proofs.Common.{◌≡◌, ◌∙◌, ℕ, List, [], ◌∷◌, ◌++◌, Option, Some, length, map, refl, sym, ap}
 use Rattle.std.specs.Prelude.{unwrap_or}
 use Rattle.geo_model.specs.declared.network.Component.TheVariants as component
 use Rattle.geo_model.specs.declared.network.Unknown.{Unknown}
@@ -8,6 +8,7 @@ use Rattle.point_tables.specs.declared.record.PointRecord.{PointRecord}
 use Rattle.candidate_tables.specs.declared.kind.Kind.{Kind}
 use Rattle.candidate_tables.specs.declared.kind.Kind.TheVariants as kind
 use Rattle.candidate_tables.specs.declared.record.CandidateRecord.{CandidateRecord}
+use Rattle.candidate_tables.specs.Kinds.{rules_of}
 use Rattle.design_rows.specs.Equations.{angle_terms, difference_terms, direction_terms, distance_terms, equations_by, equations_of, observed}
 use Rattle.design_rows.specs.Rows.{row_of, rows_of}
 
@@ -51,3 +52,18 @@ module _ (points : List PointRecord) (unknowns : List Unknown) (candidate : Cand
   vector-rows x y z height e third xs ys zs =
       let last = zs ∙ ap (λ (d : ℕ). row_of unknowns (observed (difference_terms component.Z candidate.from candidate.to) d)) (given candidate.sdh height third) in
       rw (xs, ys, last) (sym (rows-by kind.Vector e))
+
+-- ---- how many there are
+
+equations-counted : (points : List PointRecord) (unknowns : List Unknown) (candidate : CandidateRecord) (k : Kind)
+    → length (map (row_of unknowns) (equations_by k points candidate)) ≡ (rules_of k).rows
+unfolding rules_of
+equations-counted points unknowns candidate kind.Distance = refl
+equations-counted points unknowns candidate kind.Direction = refl
+equations-counted points unknowns candidate kind.Angle = refl
+equations-counted points unknowns candidate kind.Level = refl
+equations-counted points unknowns candidate kind.Vector = refl
+
+pub rows-counted : (points : List PointRecord) (unknowns : List Unknown) (candidate : CandidateRecord) → length (rows_of points unknowns candidate) ≡ (rules_of candidate.kind).rows
+unfolding rows_of equations_of
+rows-counted points unknowns candidate = equations-counted points unknowns candidate candidate.kind

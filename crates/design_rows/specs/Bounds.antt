@@ -1,10 +1,11 @@
 -- What holds of the rows of every accepted pair of tables. This project's own.
-use Rattle.std.specs.Prelude.{ℕ, ◌<◌, ◌≤◌, ◌^◌, List, length, map, All, sum_by, unsigned_abs}
+use Rattle.std.specs.Prelude.{ℕ, ◌≡◌, ◌<◌, ◌≤◌, ◌^◌, List, length, map, All, sum_by, unsigned_abs}
 use Rattle.std.specs.List.{AllByRecursion, IsDistinct}
 use Rattle.geo_model.specs.declared.network.Unknown.{Unknown}
 use Rattle.geo_model.specs.Row.{RowOf, IsRow}
 use Rattle.point_tables.specs.declared.record.PointRecord.{PointRecord}
 use Rattle.candidate_tables.specs.declared.record.CandidateRecord.{CandidateRecord}
+use Rattle.candidate_tables.specs.Kinds.{rules_of}
 use Rattle.design_rows.specs.declared.term.Term.{Term}
 use Rattle.design_rows.specs.Rows.{IsNumbered, rows_of}
 use Rattle.design_rows.specs.Unknowns.{is_same, unknowns_of}
@@ -33,6 +34,12 @@ pub record AreRows (unknowns : List Unknown) (rows : List RowOf) : Type 0 where
 -- the unknowns of any points and candidates all differ
 abbrev pub UnknownsDiffer : Type 0
 UnknownsDiffer = (points : List PointRecord) (candidates : List CandidateRecord) → IsDistinct is_same (unknowns_of points candidates)
+
+-- a candidate has as many rows as its kind gives
+abbrev pub RowsAreCounted : Type 0
+RowsAreCounted =
+    (points : List PointRecord) (unknowns : List Unknown) (candidate : CandidateRecord) →
+    length (rows_of points unknowns candidate) ≡ (rules_of candidate.kind).rows
 
 -- the rows of a candidate of an accepted table are within the bounds of rows
 abbrev pub RowsAreWithinBounds : Type 0

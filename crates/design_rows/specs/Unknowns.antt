@@ -7,9 +7,8 @@ use Rattle.geo_model.specs.declared.network.Unknown.{Unknown}
 use Rattle.point_tables.specs.declared.part.Part.{Part}
 use Rattle.point_tables.specs.declared.part.Part.TheVariants as part
 use Rattle.point_tables.specs.declared.record.PointRecord.{PointRecord}
-use Rattle.candidate_tables.specs.declared.kind.Kind.{Kind}
-use Rattle.candidate_tables.specs.declared.kind.Kind.TheVariants as kind
 use Rattle.candidate_tables.specs.declared.record.CandidateRecord.{CandidateRecord}
+use Rattle.candidate_tables.specs.Kinds.{rules_of}
 
 -- a component of the point of this number
 abbrev pub unknown : ℕ → Component → Unknown
@@ -33,23 +32,15 @@ height_coordinates place height = if is_new height then unknown place component.
 abbrev pub coordinates : ℕ × PointRecord → List Unknown
 coordinates (place, point) = plane_coordinates place point.plane ++ height_coordinates place point.height
 
--- whether a candidate is a direction
-abbrev pub is_direction : Kind → Bool
-is_direction kind.Distance = false
-is_direction kind.Direction = true
-is_direction kind.Angle = false
-is_direction kind.Level = false
-is_direction kind.Vector = false
+-- whether a candidate is observed against the orientation of the point of this number, as a direction from there is
+abbrev pub turns_with : ℕ → CandidateRecord → Bool
+turns_with place candidate = (rules_of candidate.kind).has_orientation && candidate.from == place
 
--- whether a candidate is a direction from the point of this number
-abbrev pub is_direction_from : ℕ → CandidateRecord → Bool
-is_direction_from place candidate = is_direction candidate.kind && candidate.from == place
-
--- whether directions are observed at the point of this number
+-- whether the point of this number has an orientation
 abbrev pub is_station : List CandidateRecord → ℕ → Bool
-is_station candidates place = list_any (is_direction_from place) candidates
+is_station candidates place = list_any (turns_with place) candidates
 
--- the unknown orientation of a point with its number, where directions are observed there
+-- the unknown orientation of a point with its number, if it has one
 abbrev pub orientation : List CandidateRecord → ℕ × PointRecord → List Unknown
 orientation candidates (place, point) = if is_station candidates place then unknown place component.Turn ∷ [] else []
 

@@ -1,5 +1,5 @@
 //! Laws of unknowns and rows. Each function is its contract: it does nothing.
-ghost use Rattle.design_rows.specs.Bounds.{RowsAreWithinBounds, UnknownsDiffer};
+ghost use Rattle.design_rows.specs.Bounds.{RowsAreCounted, RowsAreWithinBounds, UnknownsDiffer};
 
 /// The unknowns of any points and candidates all differ.
 pub fn unknowns_differ()
@@ -11,4 +11,9 @@ pub fn unknowns_differ()
 /// to 1000000.
 pub fn rows_are_within_bounds()
     ensures { RowsAreWithinBounds }
+{}
+
+/// A candidate has as many rows as its kind gives.
+pub fn rows_are_counted()
+    ensures { RowsAreCounted }
 {}

@@ -20,7 +20,7 @@ mod rows;
 mod term;
 
 pub use columns::Columns;
-pub use laws::{rows_are_within_bounds, unknowns_differ};
+pub use laws::{rows_are_counted, rows_are_within_bounds, unknowns_differ};
 pub use rows::rows_of;
 
 #[cfg(test)]

@@ -2,9 +2,9 @@
 ghost use Rattle.std.specs.Prelude.{◌≡◌, ◌≤◌, ◌++◌, length, IfOk, OnOk};
 ghost use Rattle.std.specs.List.{enumerate_from, flat_map};
 ghost use Rattle.point_tables.specs.declared.record.PointRecord.{PointRecord};
-ghost use Rattle.design_rows.specs.Unknowns.{coordinates, height_coordinates, is_direction_from, is_station, orientation, plane_coordinates};
+ghost use Rattle.design_rows.specs.Unknowns.{coordinates, height_coordinates, is_station, orientation, plane_coordinates, turns_with};
 
-use candidate_tables::{CandidateRecord, Candidates, Kind};
+use candidate_tables::{CandidateRecord, Candidates};
 use geo_base::NoMemory;
 use geo_model::{Component, Unknown};
 use point_tables::{Part, PointRecord, Points};
@@ -65,29 +65,26 @@ pub(crate) fn coordinates_of(alloc: Global, points: &Points) -> Result<Vec<Unkno
     Ok(unknowns)
 }
 
-// Whether a candidate is a direction from a point.
-fn is_direction_from(place: u32, candidate: &CandidateRecord) -> bool
-    ensures { result ≡ is_direction_from place candidate.now }
+// Whether a candidate is observed against the orientation of a point.
+fn turns_with(place: u32, candidate: &CandidateRecord) -> bool
+    ensures { result ≡ turns_with place candidate.now }
 {
-    match candidate.kind {
-        Kind::Direction => candidate.from == place,
-        Kind::Distance | Kind::Angle | Kind::Level | Kind::Vector => false,
-    }
+    candidate.kind.rules().has_orientation && candidate.from == place
 }
 
-// Whether directions are observed at a point.
+// Whether a point has an orientation.
 fn is_station(candidates: &Candidates, place: u32) -> bool
     ensures { result ≡ is_station candidates.now place }
 {
     for k in 0..candidates.len() {
-        if is_direction_from(place, candidates.get(k)) {
+        if turns_with(place, candidates.get(k)) {
             return true;
         }
     }
     false
 }
 
-// Adds the unknown orientation of a point where directions are observed there.
+// Adds the unknown orientation of a point, if it has one.
 fn push_orientation(
     unknowns: &mut Vec<Unknown>,
     candidates: &Candidates,

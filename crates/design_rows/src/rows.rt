@@ -60,14 +60,13 @@ fn vector_rows(
     Ok(rows)
 }
 
-/// The weighted rows of a candidate: one of a distance, a direction, an angle or a level, and three
-/// of a vector. They are the linearised observation equations of any textbook of plane networks and
-/// of levelling. An entry is a column with 10000 times the change of the observation, in millimetres
-/// or cc, by a millimetre of a coordinate or a cc of an orientation; a weight is 10^8 over the
-/// square of the standard deviation in hundredths; both are rounded to the nearest whole number,
-/// which is this project's own. Fixed components and entries of 0 are left out. The columns are
-/// those of these points and of the candidates table that the candidate is one of. Refused for
-/// want of memory alone.
+/// The weighted rows of a candidate, as many as its kind gives. They are the linearised observation
+/// equations of any textbook of plane networks and of levelling. An entry is a column with 10000
+/// times the change of the observation, in millimetres or cc, by a millimetre of a coordinate or a
+/// cc of an orientation; a weight is 10^8 over the square of the standard deviation in hundredths;
+/// both are rounded to the nearest whole number, which is this project's own. Fixed components and
+/// entries of 0 are left out. The columns are those of these points and of the candidates table
+/// that the candidate is one of. Refused for want of memory alone.
 pub fn rows_of(
     alloc: Global,
     candidate: &CandidateRecord,

@@ -2,7 +2,7 @@ ghost use Rattle.std.specs.Prelude.{◌≡◌, ◌<◌, length};
 ghost use Rattle.candidate_tables.specs.Accepted.{AreCandidates};
 ghost use Rattle.design_rows.specs.Unknowns.{unknowns_of};
 
-use crate::{Columns, rows_are_within_bounds, rows_of, unknowns_differ};
+use crate::{Columns, rows_are_counted, rows_are_within_bounds, rows_of, unknowns_differ};
 use candidate_tables::{Candidates, read_candidates};
 use geo_base::NoMemory;
 use geo_model::{Component, Row, Unknown};
@@ -154,6 +154,7 @@ fn unknowns_and_rows_of_tables(rt: HostRuntime) -> Result<(), Fail> {
     assert!(rt; text.as_slice() == expected.as_bytes());
     unknowns_differ();
     rows_are_within_bounds();
+    rows_are_counted();
     Ok(())
 }
 

@@ -1,5 +1,5 @@
 -- Counts, limits and networks from their parts.
-use Rattle.std.proofs.Common.{◌≡◌, ◌≢◌, ◌∙◌, ◌⊎◌, ◌*◌, ◌≤◌, ℕ, ℤ, pos, ◌-ℤ◌, ◌*ℤ◌, false, List, [], ◌∷◌, ◌++◌, Some, None, length, map, refl, sym, ap, ap₂, arith, inl, inr, append-nil, eqb, FitsSigned, to_z, of_z, w64}
+use Rattle.std.proofs.Common.{◌≡◌, ◌≢◌, ◌∙◌, ◌*◌, ◌≤◌, ℕ, ℤ, pos, ◌-ℤ◌, ◌*ℤ◌, false, List, [], ◌∷◌, ◌++◌, Some, None, length, map, refl, sym, ap, ap₂, arith, append-nil, eqb, FitsSigned, to_z, of_z, w64}
 use mir.Syntax.{w128}
 use Rattle.std.proofs.Math.Nat.{mul-le-mul}
 use Rattle.std.proofs.lemmas.Bool.Decides.{nat_tests}
@@ -15,40 +15,26 @@ use Rattle.point_tables.specs.declared.record.PointRecord.{PointRecord}
 use Rattle.candidate_tables.specs.declared.kind.Kind.{Kind}
 use Rattle.candidate_tables.specs.declared.kind.Kind.TheVariants as kind
 use Rattle.candidate_tables.specs.declared.record.CandidateRecord.{CandidateRecord}
-use Rattle.design_rows.specs.Equations.{equations_of}
+use Rattle.candidate_tables.specs.Kinds.{rules_of}
 use Rattle.design_rows.specs.Rows.{rows_of}
 use Rattle.design_rows.specs.Unknowns.{unknown, unknowns_of}
+use Rattle.design_rows.proofs.RowFacts.{rows-counted}
 use Rattle.net_build.specs.Build.{axis_limit, candidate_of, count_fault, height_limit, limits_of, network_fault, network_of, network_on, point_limits, redundancy_limit, redundancy_limits, row_count, square_on}
 use Rattle.net_build.proofs.SquareFacts.{numbered}
 
--- how many rows a candidate has
-abbrev pub count_of : Kind → ℕ
-count_of kind.Distance = 1
-count_of kind.Direction = 1
-count_of kind.Angle = 1
-count_of kind.Level = 1
-count_of kind.Vector = 3
+-- a kind gives at most three rows
+pub few-rows : (k : Kind) → (rules_of k).rows ≤ 3
+unfolding rules_of
+few-rows kind.Distance = omega arith
+few-rows kind.Direction = omega arith
+few-rows kind.Angle = omega arith
+few-rows kind.Level = omega arith
+few-rows kind.Vector = omega arith
 
-pub rows-by : (points : List PointRecord) (unknowns : List Unknown) (candidate : CandidateRecord) (is : Kind) → candidate.kind ≡ is → count_of is ≡ length (rows_of points unknowns candidate)
-unfolding rows_of equations_of
-rows-by points unknowns candidate kind.Distance e = rw e refl
-rows-by points unknowns candidate kind.Direction e = rw e refl
-rows-by points unknowns candidate kind.Angle e = rw e refl
-rows-by points unknowns candidate kind.Level e = rw e refl
-rows-by points unknowns candidate kind.Vector e = rw e refl
-
--- but a vector, each has one
-pub rows-single : (points : List PointRecord) (unknowns : List Unknown) (candidate : CandidateRecord)
-    → (candidate.kind ≡ kind.Distance) ⊎ ((candidate.kind ≡ kind.Direction) ⊎ ((candidate.kind ≡ kind.Angle) ⊎ (candidate.kind ≡ kind.Level)))
-    → 1 ≡ length (rows_of points unknowns candidate)
-rows-single points unknowns candidate is =
-    elim is [
-      | inl e ↦ rows-by points unknowns candidate kind.Distance e
-      | inr others ↦ elim others [
-        | inl e ↦ rows-by points unknowns candidate kind.Direction e
-        | inr rest ↦ elim rest [ inl e ↦ rows-by points unknowns candidate kind.Angle e | inr e ↦ rows-by points unknowns candidate kind.Level e ]
-      ]
-    ]
+-- the rows of a candidate, by their count
+pub rows-by : (points : List PointRecord) (unknowns : List Unknown) (candidate : CandidateRecord) (count : ℕ) → count ≡ (rules_of candidate.kind).rows
+    → count ≡ length (rows_of points unknowns candidate)
+rows-by points unknowns candidate count e = e ∙ sym (rows-counted points unknowns candidate)
 
 -- ---- factors
 

@@ -5,7 +5,7 @@ ghost use Rattle.point_tables.specs.declared.record.PointRecord.{PointRecord};
 ghost use Rattle.design_rows.specs.Rows.{rows_of};
 ghost use Rattle.net_build.specs.Build.{count_fault, row_count};
 
-use candidate_tables::{CandidateRecord, Candidates, Kind};
+use candidate_tables::{CandidateRecord, Candidates};
 use point_tables::FaultKind;
 
 // The largest counts of a network.
@@ -18,10 +18,7 @@ fn rows_by(candidate: &CandidateRecord) -> u32
     ensures rows { (points : List PointRecord) (unknowns : List Unknown) → result ≡ length (rows_of points unknowns candidate.now) }
     ensures few { result ≤ 3 }
 {
-    match candidate.kind {
-        Kind::Vector => 3,
-        Kind::Distance | Kind::Direction | Kind::Angle | Kind::Level => 1,
-    }
+    candidate.kind.rules().rows
 }
 
 // How many rows the candidates have, wherever the points lie.

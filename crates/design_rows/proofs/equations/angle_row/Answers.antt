@@ -1,11 +1,11 @@
-use Rattle.std.proofs.Common.{◌≡◌, [], ◌∷◌, List, rules, refl, subst, sym, inr}
+use Rattle.std.proofs.Common.{◌≡◌, [], ◌∷◌, List, rules, subst, sym}
 use Rattle.std.specs.Prelude.{IfOk}
 use Rattle.std.proofs.lemmas.Option.{slice_get_within}
 use Rattle.design_rows.specs.declared.term.Term.{Term}
 use Rattle.design_rows.specs.Bounds.{AreTerms}
 use Rattle.design_rows.specs.Equations.{angle_terms, observed}
 use Rattle.design_rows.specs.Rows.{row_of}
-use Rattle.design_rows.proofs.EquationFacts.{angle-terms, foresight, long}
+use Rattle.design_rows.proofs.EquationFacts.{angle-terms, angle-within, foresight, foresight-within}
 use Rattle.design_rows.proofs.equations.angle_row.Goals as goal
 
 pub direction_parts-fore-requires-clause-to : goal.direction_parts-fore-requires-clause-to
@@ -15,13 +15,20 @@ direction_parts-fore-requires-clause-to c =
 
 pub direction_parts-fore-requires-clause-least : goal.direction_parts-fore-requires-clause-least
 direction_parts-fore-requires-clause-least c =
-    let third = foresight c.args.points.now c.args.candidate.now c.requires.accepted c.requires.kind in
-    rw c.requires.foresight (long c.args.points.now c.args.candidate.now.kind c.args.candidate.now.from _ third.line (inr c.requires.kind))
+    rw c.requires.foresight (foresight-within c.args.points.now c.args.candidate.now c.requires.accepted c.requires.kind).least
 
 pub direction_parts-fore-requires-clause-most : goal.direction_parts-fore-requires-clause-most
 direction_parts-fore-requires-clause-most c =
-    let third = foresight c.args.points.now c.args.candidate.now c.requires.accepted c.requires.kind in
-    rw c.requires.foresight (third.line.most (rw c.requires.kind refl))
+    rw c.requires.foresight (foresight-within c.args.points.now c.args.candidate.now c.requires.accepted c.requires.kind).greatest
+
+pub direction_parts-fore-requires-clause-from : goal.direction_parts-fore-requires-clause-from
+direction_parts-fore-requires-clause-from c = slice_get_within c.args.points.now _ c.requires.accepted.from.point c.requires.accepted.from.is
+
+pub direction_parts-back-requires-clause-least : goal.direction_parts-back-requires-clause-least
+direction_parts-back-requires-clause-least c = (angle-within c.args.points.now c.args.candidate.now c.requires.accepted c.requires.kind).least
+
+pub direction_parts-back-requires-clause-most : goal.direction_parts-back-requires-clause-most
+direction_parts-back-requires-clause-most c = (angle-within c.args.points.now c.args.candidate.now c.requires.accepted c.requires.kind).greatest
 
 pub row_of-requires-clause-terms : goal.row_of-requires-clause-terms
 row_of-requires-clause-terms c =
@@ -30,8 +37,8 @@ row_of-requires-clause-terms c =
     ≡ angle_terms c.args.points.now c.args.candidate.now.from c.args.candidate.now.to c.args.foresight = search rules in
     subst AreTerms (sym same) (rw c.requires.foresight (angle-terms c.args.points.now c.args.candidate.now.from c.args.candidate.now.to _
     c.requires.accepted.other third.other_from third.other_to
-    (long c.args.points.now c.args.candidate.now.kind c.args.candidate.now.from c.args.candidate.now.to c.requires.accepted.line (inr c.requires.kind))
-    (long c.args.points.now c.args.candidate.now.kind c.args.candidate.now.from _ third.line (inr c.requires.kind))))
+    (angle-within c.args.points.now c.args.candidate.now c.requires.accepted c.requires.kind).least
+    (foresight-within c.args.points.now c.args.candidate.now c.requires.accepted c.requires.kind).least))
 
 pub returns : goal.returns
 returns c =

@@ -1,8 +1,14 @@
 use Rattle.std.proofs.Common.{◌≡◌, [], ◌∷◌, rules, subst, sym}
 use Rattle.design_rows.specs.Bounds.{AreTerms}
 use Rattle.design_rows.specs.Equations.{distance_terms}
-use Rattle.design_rows.proofs.EquationFacts.{distance-terms}
+use Rattle.design_rows.proofs.EquationFacts.{distance-terms, distance-within}
 use Rattle.design_rows.proofs.equations.distance_row.Goals as goal
+
+pub distance_parts-parts-requires-clause-least : goal.distance_parts-parts-requires-clause-least
+distance_parts-parts-requires-clause-least c = (distance-within c.args.points.now c.args.candidate.now c.requires.accepted c.requires.kind).least
+
+pub distance_parts-parts-requires-clause-most : goal.distance_parts-parts-requires-clause-most
+distance_parts-parts-requires-clause-most c = (distance-within c.args.points.now c.args.candidate.now c.requires.accepted c.requires.kind).greatest
 
 pub row_of-requires-clause-terms : goal.row_of-requires-clause-terms
 row_of-requires-clause-terms c =

@@ -1,6 +1,11 @@
-use Rattle.std.proofs.Common.{◌∙◌}
+use Rattle.std.proofs.Common.{◌∙◌, ap}
+use Rattle.std.specs.Prelude.{is_some}
+use Rattle.design_rows.proofs.EquationFacts.{has-height}
 use Rattle.design_rows.proofs.RowFacts.{three, vector-rows}
 use Rattle.design_rows.proofs.rows.vector_rows.Goals as goal
+
+pub unreachable-requires : goal.unreachable-requires
+unreachable-requires c = cc (has-height c.requires.accepted.0 c.args.candidate.now c.requires.accepted.1 c.requires.kind, ap is_some c.in_default.is)
 
 pub returns : goal.returns
 returns c points =

@@ -1,10 +1,16 @@
-use Rattle.std.proofs.Common.{arith}
-use Rattle.candidate_tables.specs.declared.kind.Kind.TheVariants as kind
-use Rattle.net_build.proofs.PartFacts.{rows-by, rows-single}
+use Rattle.std.proofs.Common.{◌≡◌, ap}
+use Rattle.candidate_tables.specs.Kinds.{KindRulesOf, rules_of}
+use Rattle.net_build.proofs.PartFacts.{few-rows, rows-by}
 use Rattle.net_build.proofs.counts.rows_by.Goals as goal
 
-pub returns-in-Vector-clause-rows : goal.returns-in-Vector-clause-rows
-returns-in-Vector-clause-rows c = λ points unknowns. rows-by points unknowns c.args.candidate.now kind.Vector c.in-Vector.is
+pub returns-clause-rows : goal.returns-clause-rows
+returns-clause-rows c = λ points unknowns.
+    let count : c.result.inside.rows ≡ (rules_of c.args.candidate.now.kind).rows =
+    cc (ap (λ (rules : KindRulesOf). rules.rows) c.rules.ensures, ap (λ (rules : KindRulesOf). rules.rows) c.result.view_is) in
+    rows-by points unknowns c.args.candidate.now c.result.inside.rows count
 
-pub returns-in-Distance : goal.returns-in-Distance
-returns-in-Distance c = record { rows = λ points unknowns. rows-single points unknowns c.args.candidate.now c.in-Distance.is; few = omega arith }
+pub returns-clause-few : goal.returns-clause-few
+returns-clause-few c =
+    let count : c.result.inside.rows ≡ (rules_of c.args.candidate.now.kind).rows =
+    cc (ap (λ (rules : KindRulesOf). rules.rows) c.rules.ensures, ap (λ (rules : KindRulesOf). rules.rows) c.result.view_is) in
+    rw count (few-rows c.args.candidate.now.kind)
