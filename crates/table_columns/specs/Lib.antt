@@ -1,0 +1,4 @@
+pub mod Names
+pub mod Columns
+pub mod Read
+pub mod Stored
