@@ -142,18 +142,22 @@ row_given {n} {old} {rows} {k} {held} out filled =
 pub rows_kept : {n : ℕ} {old rows : List (List ℤ)} {k : ℕ} {held : List ℤ} → IsTakenOut n old rows k held → take k rows ≡ take k old
 rows_kept {n} {old} {rows} {k} {held} out = sym (take-written rows k held) ∙ ap (take k) out.same
 
+-- a triangle has its shape, however it is kept
+pub kept_shape : (rows : List (List ℤ)) (place : ℕ) (held : List ℤ) (tri : List (List ℤ)) → IsKept rows place held → slice_set rows place held ≡ tri → IsTri (length tri) tri
+kept_shape rows place held tri kept is =
+    let shape : IsTri (length rows) tri = subst (IsTri (length rows)) is kept.shape in
+    subst (λ n. IsTri n tri) (sym (length-IsTri (length rows) tri shape)) shape
+
 -- row k is taken out, where another one was held before
 pub taken_out : (rows : List (List ℤ)) (place : ℕ) (first : List ℤ) (old left : List (List ℤ)) (k : ℕ) (held : List ℤ)
     → IsKept rows place first → slice_set rows place first ≡ old → k < length old
     → held ≡ tri_row (slice_set rows place first) k → slice_set left k held ≡ slice_set rows place first → length left ≡ length rows
     → IsTakenOut (length old) old left k held
 taken_out rows place first old left k held kept is lt row same len =
-    let n = length rows in
-    let shape : IsTri n old = subst (IsTri n) is kept.shape in
-    let tall = length-IsTri n old shape in
+    let tall = length-IsTri (length rows) old (subst (IsTri (length rows)) is kept.shape) in
     let few = kept.few in
     record {
-      shape = subst (λ m. IsTri m old) (sym tall) shape;
+      shape = kept_shape rows place first old kept is;
       few = omega arith;
       within = lt;
       len = len ∙ sym tall;

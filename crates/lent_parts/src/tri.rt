@@ -52,7 +52,7 @@ impl Tri {
     pub fn size(&self) -> u32
         ensures rows { result ≡ length self.now }
         ensures most { result ≤ 64 }
-        ensures shape { IsTri result self.now }
+        ensures shape { IsTri (length self.now) self.now }
     {
         self.rows.len() as u32
     }
@@ -62,6 +62,7 @@ impl Tri {
         requires { k < length self.now }
         ensures value { result.now ≡ tri_row self.now k }
         ensures places { length result.now ≡ length self.now - k }
+        ensures shape { IsTri (length self.now) self.now }
     {
         let place = k as usize;
         if place == self.at {
@@ -77,6 +78,7 @@ impl Tri {
         ensures* writes_back { sem 𝓛 (LendsRow self.entry k result) }
         ensures value { result.now ≡ tri_row self.old k }
         ensures places { length result.now ≡ length self.old - k }
+        ensures shape { IsTri (length self.old) self.old }
     {
         let at = self.at;
         exchange(&mut self.rows, &mut self.held, at, k as usize);
@@ -92,6 +94,7 @@ impl Tri {
         ensures before { result.0 ≡ take k self.old }
         ensures value { result.1.now ≡ tri_row self.old k }
         ensures places { length result.1.now ≡ length self.old - k }
+        ensures shape { IsTri (length self.old) self.old }
     {
         let at = self.at;
         let place = k as usize;

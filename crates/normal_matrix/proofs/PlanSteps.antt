@@ -155,20 +155,19 @@ rows_of_candidate network candidates k candidate rows bounds same inside is list
 
 -- one candidate's rows were added or taken off
 pub IsNormalOf-changed : (network : NetworkOf) (normal : NormalOf) (before after : List (List ℤ)) (plan : List Bool) (candidates : List CandidateOf) (k : ℕ) (candidate : CandidateOf) (rows : List RowOf) (old new : Bool) (sign : ℤ)
-    → IsNormalOf network normal → before ≡ normal.rows → plan ≡ slice_set normal.plan k new → slice_get normal.plan k ≡ Some old → IsTri (length before) after
+    → IsNormalOf network normal → before ≡ normal.rows → plan ≡ slice_set normal.plan k new → slice_get normal.plan k ≡ Some old → length after ≡ length before
     → candidates ≡ network.candidates → candidate ≡ get_or candidates k candidate → rows ≡ candidate.rows
     → ((i j : ℕ) → i ≤ j → j < length before → entry after i j ≡ entry before i j +ℤ sign *ℤ int_sum_by (λ row. row_entry row i j) rows)
     → ((i j : ℕ) → part_entry old candidate i j +ℤ sign *ℤ candidate_entry candidate i j ≡ part_entry new candidate i j)
     → IsNormalOf network (record { plan = plan; rows = after })
-IsNormalOf-changed network normal before after plan candidates k candidate rows old new sign made same planned flag shape listed is given added parts =
+IsNormalOf-changed network normal before after plan candidates k candidate rows old new sign made same planned flag tall listed is given added parts =
     let size = made.size in
     let places = made.places in
     let inside = got_inside normal.plan k old flag in
     let here : candidate ≡ get_or network.candidates k candidate = is ∙ ap (λ (l : List CandidateOf). get_or l k candidate) listed in
     let len = ap length same in
     let kept = length-set normal.plan k new in
-    let long = ap length planned in
-    let tall = length-IsTri (length before) after shape in record {
+    let long = ap length planned in record {
       places = omega arith;
       size = omega arith;
       exact = λ i j le lt.

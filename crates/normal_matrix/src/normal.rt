@@ -20,15 +20,11 @@ pub struct Normal {
 }
 
 impl Model for Normal {
-    ghost use Rattle.std.specs.Prelude.{length};
-    ghost use Rattle.lent_parts.specs.Triangle.{IsTri};
     ghost use Rattle.normal_matrix.specs.Normal.{NormalOf};
 
     ghost Value = { NormalOf };
 
     ghost view = { λ normal. record { plan = normal.plan; rows = normal.sums } };
-
-    ghost invariant = { λ normal. IsTri (length normal.sums) normal.sums };
 }
 
 impl Normal {

@@ -3,7 +3,6 @@ ghost use Rattle.std.specs.Prelude.{◌≡◌, ℕ, ◌+◌, ◌<◌, ◌≤◌,
 ghost use Rattle.whole_algebra.specs.Sums.{int_sum_by};
 ghost use Rattle.whole_algebra.specs.Matrices.{at};
 ghost use Rattle.whole_algebra.specs.Grid.{entry};
-ghost use Rattle.lent_parts.specs.Triangle.{IsTri};
 ghost use Rattle.geo_model.specs.Row.{IsRow, total_size};
 ghost use Rattle.normal_matrix.specs.Changes.{sign_of};
 ghost use Rattle.normal_matrix.specs.Entries.{coefficient, row_entry};
@@ -14,12 +13,11 @@ use lent_parts::Tri;
 
 /// Adds the weighted products of rows to a triangle, or takes them off.
 pub fn add_rows(sums: &mut Tri, rows: &[Row], change: Change)
-    requires shape { IsTri (length sums.old) sums.old }
     requires size { (i j : ℕ) → i ≤ j → j < length sums.old → unsigned_abs (entry sums.old i j) ≤ 2 ^ 100 }
     requires few { length rows.now ≤ 512 }
     requires each_row { All IsRow rows.now }
     requires columns { All (λ row. All (λ entry. entry.0 < length sums.old) row.entries) rows.now }
-    ensures shape { IsTri (length sums.old) sums.new }
+    ensures size { length sums.new ≡ length sums.old }
     ensures sum { (i j : ℕ) → i ≤ j → j < length sums.old → entry sums.new i j ≡ entry sums.old i j +ℤ sign_of change *ℤ int_sum_by (λ row. row_entry row i j) rows.now }
 {
     let sign = change.sign();
@@ -30,12 +28,11 @@ pub fn add_rows(sums: &mut Tri, rows: &[Row], change: Change)
 
 // Adds the products of one row, each times a weight.
 fn add_row(sums: &mut Tri, entries: &[(u32, i64)], weight: i64)
-    requires shape { IsTri (length sums.old) sums.old }
     requires size { (i j : ℕ) → i ≤ j → j < length sums.old → unsigned_abs (entry sums.old i j) ≤ 2 ^ 101 }
     requires columns { All (λ entry. entry.0 < length sums.old) entries.now }
     requires total { total_size entries.now < 2 ^ 23 }
     requires weight { unsigned_abs weight ≤ 1000000 }
-    ensures shape { IsTri (length sums.old) sums.new }
+    ensures size { length sums.new ≡ length sums.old }
     ensures sum { (i j : ℕ) → i ≤ j → j < length sums.old → entry sums.new i j ≡ entry sums.old i j +ℤ weight *ℤ (coefficient entries.now i *ℤ coefficient entries.now j) }
 {
     for &(column, size) in entries {
@@ -61,7 +58,6 @@ fn add_products(line: &mut [i128], first: u32, factor: i128, entries: &[(u32, i6
 
 /// The entry of row `i` and column `j`.
 pub fn entry_of(sums: &Tri, i: u32, j: u32) -> i128
-    requires shape { IsTri (length sums.now) sums.now }
     requires row { i < length sums.now }
     requires column { j < length sums.now }
     ensures upper { i ≤ j → result ≡ entry sums.now i j }

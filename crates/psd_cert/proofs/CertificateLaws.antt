@@ -19,30 +19,28 @@ slice_parts (y ∷ ys) x h e = ap (λ t. t ∷ ys) (sym e) ∙ ap (λ t. x ∷ t
 
 -- what is known of the first remainder and of the rest
 pub record FirstOf (m : List (List ℤ)) (r : List (List ℤ)) (rest : List (List (List ℤ))) : Type 0 where
-  pub shape : IsTri (suc (length r)) m
-  pub remainder_shape : IsTri (length r) r
-  pub rest_shape : IsTri (length rest) r
+  pub size : length m ≡ suc (length r)
+  pub rest_size : length r ≡ length rest
   pub sizes : IsCertificate (length rest) rest
   pub fits : Fits r
   pub rest_fit : All Fits rest
 
 first_of_cons : (m r : List (List ℤ)) (rest : List (List (List ℤ)))
-    → IsTri (suc (length rest)) m → IsCertificate (suc (length rest)) (r ∷ rest) → All Fits (r ∷ rest) → FirstOf m r rest
+    → length m ≡ suc (length rest) → IsCertificate (suc (length rest)) (r ∷ rest) → All Fits (r ∷ rest) → FirstOf m r rest
 first_of_cons m r rest t s f =
-    let e : length rest ≡ length r = sym (length-IsTri (length rest) r s.0) in
+    let e : length r ≡ length rest = length-IsTri (length rest) r s.0 in
     record {
-      shape = subst (λ n. IsTri (suc n) m) e t;
-      remainder_shape = subst (λ n. IsTri n r) e s.0;
-      rest_shape = s.0;
+      size = t ∙ ap suc (sym e);
+      rest_size = e;
       sizes = s.1;
       fits = f 0 [] (omega arith);
       rest_fit = λ k d lt. f (suc k) d (omega arith);
     }
 
 pub first_of : (m r : List (List ℤ)) (rs rest : List (List (List ℤ))) → rs ≡ r ∷ rest
-    → IsTri (length rs) m → IsCertificate (length rs) rs → All Fits rs → FirstOf m r rest
+    → length m ≡ length rs → IsCertificate (length rs) rs → All Fits rs → FirstOf m r rest
 first_of m r rs rest e t s f =
-    first_of_cons m r rest (subst (λ xs. IsTri (length xs) m) e t) (subst (λ xs. IsCertificate (length xs) xs) e s) (subst (λ xs. All Fits xs) e f)
+    first_of_cons m r rest (subst (λ xs. length m ≡ length xs) e t) (subst (λ xs. IsCertificate (length xs) xs) e s) (subst (λ xs. All Fits xs) e f)
 
 remainder_shape : (n : ℕ) (rs : List (List (List ℤ))) (k : ℕ) (d : List (List ℤ)) → IsCertificate n rs → k < n → IsTri (n - (k + 1)) (get_or rs k d)
 remainder_shape zero rs k d s lt = absurd (omega arith)

@@ -9,10 +9,6 @@ use Rattle.lent_parts.specs.Triangle.{IsTri}
 use Rattle.psd_cert.specs.LeftOver.{left_over, left_sizes}
 use Rattle.psd_cert.proofs.LeftOverLaws.{above_more, above_at_most, beside_more, beside_at_most, beside_whole}
 
--- what a loop knows of the size that it takes off
-pub size_read : (z z' size : ℤ) → z' ≡ z → size ≡ pos (unsigned_abs z') → size ≡ pos (unsigned_abs z)
-size_read z z' size e f = f ∙ ap (λ t. pos (unsigned_abs t)) e
-
 -- the sum up to here and the next size, taken off
 one_off : (room rest size sum more : ℤ) → rest ≡ room -ℤ sum → pos 0 ≤ℤ rest → pos 0 ≤ℤ size → more ≡ sum +ℤ size → int_lt rest size ≡ false
     → unsigned_abs rest ≤ 2 ^ 125 → (unsigned_abs (rest -ℤ size) ≤ 2 ^ 125) × (rest -ℤ size ≡ room -ℤ more) × (pos 0 ≤ℤ (rest -ℤ size))

@@ -4,7 +4,7 @@ ghost use Rattle.whole_algebra.specs.Rounding.{floor_over, gap_over};
 ghost use Rattle.whole_algebra.specs.Matrices.{at, diagonal};
 ghost use Rattle.whole_algebra.specs.Chains.{size_limit, step_of, is_stop};
 ghost use Rattle.whole_algebra.specs.Grid.{row_at};
-ghost use Rattle.lent_parts.specs.Triangle.{IsTri, tri_row};
+ghost use Rattle.lent_parts.specs.Triangle.{tri_row};
 ghost use Rattle.psd_cert.specs.Sizes.{RowFits, Fits};
 ghost use Rattle.psd_cert.specs.Lower.{divided, gaps_of, IsDivisor, IsDivision, StopsHere, Leaves};
 
@@ -17,7 +17,6 @@ use std::alloc::Global;
 
 // The matrix that the first step of the lower chain leaves: None where that step stops.
 pub(crate) fn lower_step(alloc: Global, current: &Tri) -> Result<Option<Tri>, NoMemory>
-    requires shape { IsTri (length current.now) current.now }
     requires some { 0 < length current.now }
     requires few { length current.now ≤ 64 }
     requires fits { Fits current.now }

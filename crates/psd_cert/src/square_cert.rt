@@ -37,8 +37,7 @@ impl SquareCert {
     /// The remainders of the lower chain from `first`, a certificate that holds; None exactly where
     /// that chain stops.
     pub fn make(alloc: Global, first: &Tri) -> Result<Option<SquareCert>, NoMemory>
-        requires shape { IsTri (length first.now) first.now }
-        requires fits { Fits first.now }
+        requires { Fits first.now }
         ensures remainders { IfOk result (λ answer. MatchOption answer (IsTrue (stops (lower_chain first.now)))
             (λ cert. IsFalse (stops (lower_chain first.now)) × (cert ≡ lower_remainders (length first.now) first.now))) }
         ensures holds { IfOk result (λ answer. ForSome answer (λ cert.
@@ -90,7 +89,6 @@ impl SquareCert {
 /// Whether each step of the certificate holds, from `first` on. If so, the form of `first` is
 /// negative on no list of whole numbers.
 pub fn holds(first: &Tri, cert: &SquareCert) -> bool
-    requires shape { IsTri (length first.now) first.now }
     requires size { length cert.now ≡ length first.now }
     requires fits { Fits first.now }
     ensures exact { IsTrue result ↔ CertificateHolds cert.now first.now }
@@ -101,7 +99,7 @@ pub fn holds(first: &Tri, cert: &SquareCert) -> bool
 
 // Whether each step to these remainders holds.
 fn holds_from(current: &Tri, remainders: &[Tri]) -> bool
-    requires shape { IsTri (length remainders.now) current.now }
+    requires size { length current.now ≡ length remainders.now }
     requires sizes { IsCertificate (length remainders.now) remainders.now }
     requires fits { Fits current.now }
     requires remainders_fit { All Fits remainders.now }

@@ -3,7 +3,7 @@ ghost use Rattle.whole_algebra.specs.Sums.{int_sum};
 ghost use Rattle.whole_algebra.specs.Matrices.{at};
 ghost use Rattle.whole_algebra.specs.Chains.{beside};
 ghost use Rattle.whole_algebra.specs.Grid.{row_at, above};
-ghost use Rattle.lent_parts.specs.Triangle.{IsTri, tri_row};
+ghost use Rattle.lent_parts.specs.Triangle.{tri_row};
 ghost use Rattle.psd_cert.specs.Certificate.{StepFrom};
 ghost use Rattle.psd_cert.specs.Sizes.{Fits};
 ghost use Rattle.psd_cert.specs.LeftOver.{left_over, left_sizes, IsRowDominant, IsScale, IsStep};
@@ -17,8 +17,7 @@ use lent_parts::Tri;
 /// number `a (C_ii - R_ii) - b_i^2` is at least the sum of the `|a (C_ij - R_ij) - b_i b_j|`; where
 /// `a` and `b` are 0, in each row `C_ii - R_ii` is at least the sum of the `|C_ij - R_ij|`.
 pub fn step_holds(current: &Tri, remainder: &Tri) -> bool
-    requires shape { IsTri (suc (length remainder.now)) current.now }
-    requires remainder_shape { IsTri (length remainder.now) remainder.now }
+    requires size { length current.now ≡ suc (length remainder.now) }
     requires fits { Fits current.now }
     requires remainder_fits { Fits remainder.now }
     ensures { IsTrue result ↔ StepFrom current.now remainder.now }

@@ -69,7 +69,7 @@ copy_row-requires c =
     let n = length c.args.matrix.now in
     let long = long_row n c.loop-k.matrix c.loop-k.k c.row_mut.result.now c.loop-k.invariant.matrix_shape (omega arith) c.row_mut.ensures.value in
     let kept = c.take_steps.auto.row in
-    let back = c.row.ensures ∙ row_written n c.loop-k.matrix c.take_steps.new.row c.loop-k.k c.loop-k.invariant.matrix_shape (omega arith) (omega arith) in
+    let back = c.row.ensures.value ∙ row_written n c.loop-k.matrix c.take_steps.new.row c.loop-k.k c.loop-k.invariant.matrix_shape (omega arith) (omega arith) in
     let same : length c.row.result.now ≡ length c.take_steps.new.row = ap length back in
     let place = long_row n c.loop-k.rows c.loop-k.k c.row_mut-in-loop-k.result.now c.loop-k.invariant.rows_shape (omega arith) c.row_mut-in-loop-k.ensures.value in
     omega arith
@@ -92,7 +92,7 @@ stop_of-requires-clause-some c =
     let place = long_row n c.loop-k.rows c.loop-k.k c.row_mut-in-loop-k.result.now c.loop-k.invariant.rows_shape (omega arith) c.row_mut-in-loop-k.ensures.value in
     let kept = c.copy_row.auto.to in
     let last : length c.row-in-loop-k.result.now ≡ length c.copy_row.new.to =
-    ap length (c.row-in-loop-k.ensures ∙ row_written n c.loop-k.rows c.copy_row.new.to c.loop-k.k c.loop-k.invariant.rows_shape (omega arith) (omega arith)) in
+    ap length (c.row-in-loop-k.ensures.value ∙ row_written n c.loop-k.rows c.copy_row.new.to c.loop-k.k c.loop-k.invariant.rows_shape (omega arith) (omega arith)) in
     omega arith
 
 pub returns-in-Some-clause-stop : goal.returns-in-Some-clause-stop
@@ -106,8 +106,8 @@ returns-in-Some-clause-stop c =
     let kept_too = c.copy_row.auto.to in
     let here = new_row c.args.side n c.args.matrix.now c.loop-k.rows c.loop-k.k c.row_mut.result.now c.take_steps.new.row c.requires.small.shape c.loop-k.invariant.rows_shape (omega arith) long
     (c.row_mut.ensures.value ∙ c.loop-k.invariant.ahead c.loop-k.k (omega arith)) c.loop-k.invariant.done c.take_steps.ensures.exact in
-    let back = c.row.ensures ∙ row_written n c.loop-k.matrix c.take_steps.new.row c.loop-k.k c.loop-k.invariant.matrix_shape (omega arith) (omega arith) in
-    let last = c.row-in-loop-k.ensures ∙ row_written n c.loop-k.rows c.copy_row.new.to c.loop-k.k c.loop-k.invariant.rows_shape (omega arith) (omega arith) in
+    let back = c.row.ensures.value ∙ row_written n c.loop-k.matrix c.take_steps.new.row c.loop-k.k c.loop-k.invariant.matrix_shape (omega arith) (omega arith) in
+    let last = c.row-in-loop-k.ensures.value ∙ row_written n c.loop-k.rows c.copy_row.new.to c.loop-k.k c.loop-k.invariant.rows_shape (omega arith) (omega arith) in
     let f : FitsSigned w128 c.in-Some.value = search rules in
     simp (to_z-of_z, f)
     (stops_here c.args.side c.args.matrix.now c.loop-k.rows c.loop-k.k c.row-in-loop-k.result.now c.in-Some.value c.requires.small.shape (omega arith) c.loop-k.invariant.done c.loop-k.invariant.pivots
@@ -124,7 +124,7 @@ returns-in-Some-clause-stopped c =
     let kept_too = c.copy_row.auto.to in
     let here = new_row c.args.side n c.args.matrix.now c.loop-k.rows c.loop-k.k c.row_mut.result.now c.take_steps.new.row c.requires.small.shape c.loop-k.invariant.rows_shape (omega arith) long
     (c.row_mut.ensures.value ∙ c.loop-k.invariant.ahead c.loop-k.k (omega arith)) c.loop-k.invariant.done c.take_steps.ensures.exact in
-    let back = c.row.ensures ∙ row_written n c.loop-k.matrix c.take_steps.new.row c.loop-k.k c.loop-k.invariant.matrix_shape (omega arith) (omega arith) in
+    let back = c.row.ensures.value ∙ row_written n c.loop-k.matrix c.take_steps.new.row c.loop-k.k c.loop-k.invariant.matrix_shape (omega arith) (omega arith) in
     row_put n c.loop-k.rows (λ j. row_at (matrix_after (over_of c.args.side) j c.args.matrix.now) 0) c.copy_row.new.to c.loop-k.k c.loop-k.invariant.rows_shape (omega arith) (omega arith) c.loop-k.invariant.done
     (c.copy_row.ensures ∙ back ∙ here)
 
@@ -158,8 +158,8 @@ loop-k-preserved c =
     let kept_too = c.copy_row.auto.to in
     let here = new_row c.args.side n c.args.matrix.now c.loop-k.rows c.loop-k.k c.row_mut.result.now c.take_steps.new.row c.requires.small.shape c.loop-k.invariant.rows_shape (omega arith) long
     (c.row_mut.ensures.value ∙ c.loop-k.invariant.ahead c.loop-k.k (omega arith)) c.loop-k.invariant.done c.take_steps.ensures.exact in
-    let back = c.row.ensures ∙ row_written n c.loop-k.matrix c.take_steps.new.row c.loop-k.k c.loop-k.invariant.matrix_shape (omega arith) (omega arith) in
-    let last = c.row-in-loop-k.ensures ∙ row_written n c.loop-k.rows c.copy_row.new.to c.loop-k.k c.loop-k.invariant.rows_shape (omega arith) (omega arith) in
+    let back = c.row.ensures.value ∙ row_written n c.loop-k.matrix c.take_steps.new.row c.loop-k.k c.loop-k.invariant.matrix_shape (omega arith) (omega arith) in
+    let last = c.row-in-loop-k.ensures.value ∙ row_written n c.loop-k.rows c.copy_row.new.to c.loop-k.k c.loop-k.invariant.rows_shape (omega arith) (omega arith) in
     let tall : length c.row-in-loop-k.result.now ≡ length c.copy_row.new.to = ap length last in
     let judged : IsPivotRow c.row-in-loop-k.result.now = record {
       goes_on = c.in_default.ensures;
@@ -172,7 +172,7 @@ loop-k-preserved c =
       ahead = λ j le. row_kept c.loop-k.matrix (refilled (tri_row c.loop-k.matrix c.loop-k.k) c.take_steps.new.row) c.loop-k.k j (λ e. absurd (omega arith)) ∙ c.loop-k.invariant.ahead j (omega arith);
       done = row_put n c.loop-k.rows (λ j. row_at (matrix_after (over_of c.args.side) j c.args.matrix.now) 0) c.copy_row.new.to c.loop-k.k c.loop-k.invariant.rows_shape (omega arith) (omega arith) c.loop-k.invariant.done
           (c.copy_row.ensures ∙ back ∙ here);
-      pivots = pivots_more c.loop-k.rows c.loop-k.k (refilled (tri_row c.loop-k.rows c.loop-k.k) c.copy_row.new.to) c.loop-k.invariant.pivots (subst IsPivotRow c.row-in-loop-k.ensures judged);
+      pivots = pivots_more c.loop-k.rows c.loop-k.k (refilled (tri_row c.loop-k.rows c.loop-k.k) c.copy_row.new.to) c.loop-k.invariant.pivots (subst IsPivotRow c.row-in-loop-k.ensures.value judged);
     }
 
 pub returns-clause-stop : goal.returns-clause-stop

@@ -12,7 +12,7 @@ take_step-requires-clause-shorter c =
     let count = c.size.ensures.rows in
     let kept = c.loop-t.auto.row in
     let tall : length c.row.result.now ≡ length c.args.rows.now - c.loop-t.t =
-    ap length c.row.ensures ∙ length-tri_row (length c.args.rows.now) c.args.rows.now c.loop-t.t c.requires.shape (omega arith) in
+    ap length c.row.ensures.value ∙ length-tri_row (length c.args.rows.now) c.args.rows.now c.loop-t.t c.requires.shape (omega arith) in
     omega arith
 
 pub loop-t-preserved : goal.loop-t-preserved
@@ -25,11 +25,11 @@ loop-t-preserved c =
     let n = length c.args.rows.now in
     let len = length c.args.row.now in
     let inside : c.loop-t.t < n - len = omega arith in
-    let tall : length c.row.result.now ≡ n - c.loop-t.t = ap length c.row.ensures ∙ length-tri_row n c.args.rows.now c.loop-t.t c.requires.shape (omega arith) in
+    let tall : length c.row.result.now ≡ n - c.loop-t.t = ap length c.row.ensures.value ∙ length-tri_row n c.args.rows.now c.loop-t.t c.requires.shape (omega arith) in
     record {
       size = λ m. size_more (at c.loop-t.row m) (at c.take_step.new.row m) c.loop-t.t (c.loop-t.invariant.size m) (c.take_step.ensures.size m);
       head = head_more (at c.loop-t.row 0) (at c.take_step.new.row 0) c.loop-t.t c.loop-t.invariant.head c.take_step.ensures.head;
       exact = λ matrix shape known start.
           one_step_more c.args.side n len c.loop-t.t c.args.rows.now matrix c.loop-t.row c.take_step.new.row c.row.result.now
-          shape room inside kept known c.requires.pivots c.row.ensures tall (c.loop-t.invariant.exact matrix shape known start) c.take_step.ensures.exact;
+          shape room inside kept known c.requires.pivots c.row.ensures.value tall (c.loop-t.invariant.exact matrix shape known start) c.take_step.ensures.exact;
     }

@@ -23,7 +23,7 @@ bounds-row-0 c =
     let low : 1 ≤ c.in-Some.low.step = range.0 in
     let high : c.in-Some.low.step ≤ length c.args.lower.now = range.1 in
     let long : length c.row.result.now ≡ length c.args.upper.now - (c.in-Some.low.step - 1) =
-    ap length c.row.ensures ∙ length-tri_row (length c.args.upper.now) c.run_chain-2.new.rows (c.in-Some.low.step - 1) c.in-None.ensures.rows_shape (omega arith) in
+    ap length c.row.ensures.value ∙ length-tri_row (length c.args.upper.now) c.run_chain-2.new.rows (c.in-Some.low.step - 1) c.in-None.ensures.rows_shape (omega arith) in
     omega arith
 
 pub returns-in-None-clause-exact : goal.returns-in-None-clause-exact
@@ -36,7 +36,7 @@ returns-in-None-clause-exact c =
     let f : FitsSigned w128 c.in-Some.low.value = search rules in
     let g : FitsSigned w128 (get_or c.row.result.now 0 (pos 0)) = search rules in
     let pivot = pivot_read Upper (length c.args.upper.now) c.in-Some.low.step c.args.upper.now c.row.result.now low high c.in-None.ensures.stop
-    (c.row.ensures ∙ c.in-None.ensures.rows refl (c.in-Some.low.step - 1) (omega arith)) in
+    (c.row.ensures.value ∙ c.in-None.ensures.rows refl (c.in-Some.low.step - 1) (omega arith)) in
     simp (to_z-of_z, f, g)
     (sym (ap verdict_from
     (outcome_open (lower_chain c.args.lower.now) (upper_chain c.args.upper.now) c.in-Some.low.step c.in-Some.low.value (get_or c.row.result.now 0 (pos 0)) stop.stops_here c.in-None.ensures.stop stop.place stop.number pivot)))

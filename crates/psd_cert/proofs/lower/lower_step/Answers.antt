@@ -10,20 +10,20 @@ use Rattle.psd_cert.proofs.lower.lower_step.Goals as goal
 
 pub divide-requires : goal.divide-requires
 divide-requires c =
-    let d = rw c.row.ensures at c.in-Some.ensures in
+    let d = rw c.row.ensures.value at c.in-Some.ensures in
     let h = divisor_fits (tri_row c.args.current.now 0) c.in-Some.s d (fits_at c.args.current.now 0 c.requires.fits) in
     let f : FitsSigned w128 c.in-Some.s = in_range c.in-Some.s (omega arith) in
     simp (to_z-of_z, f)
-    (record { shape = c.requires.shape; some = c.requires.some; few = c.requires.few; fits = c.requires.fits; above = divisor_above (tri_row c.args.current.now 0) c.in-Some.s d; size = h })
+    (record { shape = c.row.ensures.shape; some = c.requires.some; few = c.requires.few; fits = c.requires.fits; above = divisor_above (tri_row c.args.current.now 0) c.in-Some.s d; size = h })
 
 pub returns-in_ok-divide-in-Some : goal.returns-in_ok-divide-in-Some
 returns-in_ok-divide-in-Some c =
-    let d = rw c.row.ensures at c.in-Some.ensures in
+    let d = rw c.row.ensures.value at c.in-Some.ensures in
     let h = divisor_fits (tri_row c.args.current.now 0) c.in-Some.s d (fits_at c.args.current.now 0 c.requires.fits) in
     let f : FitsSigned w128 c.in-Some.s = in_range c.in-Some.s (omega arith) in
     let e = simp (to_z-of_z, f) at c.in_ok-divide-in-Some.ensures in
     let some = c.requires.some in
-    let shape : IsTri (suc (length c.args.current.now - 1)) c.args.current.now = below_first c.args.current.now c.requires.some c.requires.shape in
+    let shape : IsTri (suc (length c.args.current.now - 1)) c.args.current.now = below_first c.args.current.now c.requires.some c.row.ensures.shape in
     rw e (
       leaves_divided (length c.args.current.now - 1) c.args.current.now c.in-Some.s shape d,
       λ i. divided_diagonal_within c.in-Some.s c.args.current.now i (divisor_above (tri_row c.args.current.now 0) c.in-Some.s d) c.requires.fits,

@@ -15,14 +15,14 @@ pub bounds-row-k : goal.bounds-row-k
 bounds-row-k c =
     let h = c.requires.within in
     let e = length-tri_row (suc (length c.args.remainder.now)) c.args.current.now (c.args.i + 1) c.requires.step.shape (omega arith) in
-    let f : length c.row.result.now ≡ length (tri_row c.args.current.now (c.args.i + 1)) = ap length c.row.ensures in
+    let f : length c.row.result.now ≡ length (tri_row c.args.current.now (c.args.i + 1)) = ap length c.row.ensures.value in
     omega arith
 
 pub bounds-row-k-2 : goal.bounds-row-k-2
 bounds-row-k-2 c =
     let h = c.requires.within in
     let e = length-tri_row (length c.args.remainder.now) c.args.remainder.now c.args.i c.requires.step.remainder_shape (omega arith) in
-    let f : length c.row-2.result.now ≡ length (tri_row c.args.remainder.now c.args.i) = ap length c.row-2.ensures in
+    let f : length c.row-2.result.now ≡ length (tri_row c.args.remainder.now c.args.i) = ap length c.row-2.ensures.value in
     omega arith
 
 pub left_of_entry-requires-clause-s : goal.left_of_entry-requires-clause-s
@@ -38,4 +38,4 @@ returns-clause-value c =
     ∙ left_over_read c.args.scale (length c.args.remainder.now) c.args.current.now c.args.remainder.now c.args.i c.args.k
     c.row-first.result.now c.row.result.now c.row-2.result.now c.left_of_entry.result
     c.requires.step.shape c.requires.step.fits c.requires.step.remainder_fits h
-    c.row-first.ensures c.row.ensures c.row-2.ensures c.left_of_entry.ensures.value
+    c.row-first.ensures.value c.row.ensures.value c.row-2.ensures.value c.left_of_entry.ensures.value

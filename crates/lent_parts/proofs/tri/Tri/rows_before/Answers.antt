@@ -14,5 +14,5 @@ returns c =
     c.self.invariant c.self.view_is c.requires c.exchange.ensures.held c.exchange.ensures.rows c.exchange.ensures.len in
     let lent = c.entries_mut.ensures.value in (
       (refl, row_given out),
-      record { writes_back = tt; before = c.of-before.ensures ∙ (ap (take c.args.k) c.deref.ensures.value ∙ rows_kept out); value = lent ∙ out.row; places = ap length lent ∙ long_row out },
+      record { writes_back = tt; before = c.of-before.ensures ∙ (ap (take c.args.k) c.deref.ensures.value ∙ rows_kept out); value = lent ∙ out.row; places = ap length lent ∙ long_row out; shape = out.shape },
     )

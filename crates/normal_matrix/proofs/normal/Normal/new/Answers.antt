@@ -4,12 +4,6 @@ use Rattle.lent_parts.proofs.Triangles.{length-IsTri}
 use Rattle.normal_matrix.proofs.PlanSteps.{IsNormalOf-none}
 use Rattle.normal_matrix.proofs.normal.Normal.new.Goals as goal
 
-pub invariant_of-result : goal.invariant_of-result
-invariant_of-result c =
-    let made = c.in_ok-sums.ensures in
-    let tall = length-IsTri (length c.unknowns.result.now) c.in_ok-sums.sums made.shape in
-    subst (λ n. IsTri n c.in_ok-sums.sums) (sym tall) made.shape
-
 pub returns-clause-sum : goal.returns-clause-sum
 returns-clause-sum c =
     let made = c.in_ok-sums.ensures in

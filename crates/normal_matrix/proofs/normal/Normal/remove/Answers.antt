@@ -40,15 +40,10 @@ set-requires c =
     let plan : length c.self.inside.plan ≡ length c.args.self.now.plan = ap (λ (v : NormalOf). length v.plan) c.self.view_is in
     omega arith
 
-pub invariant_of-self : goal.invariant_of-self
-invariant_of-self c =
-    let tall = length-IsTri (length c.self.inside.sums) c.add_rows.new.sums c.add_rows.ensures.shape in
-    subst (λ n. IsTri n c.add_rows.new.sums) (sym tall) c.add_rows.ensures.shape
-
 pub returns-clause-sum : goal.returns-clause-sum
 returns-clause-sum c =
     let rows : c.self.inside.sums ≡ c.args.self.now.rows = ap (λ (v : NormalOf). v.rows) c.self.view_is in
     let listed = c.as_slice.ensures.value ∙ ap (λ (v : CandidateOf). v.rows) c.candidate.view_is in
     let plan : c.set.new.self ≡ slice_set c.args.self.now.plan c.args.i false = c.set.ensures ∙ ap (λ (v : NormalOf). slice_set v.plan c.args.i false) c.self.view_is in
     IsNormalOf-changed c.args.network.now c.args.self.now c.self.inside.sums c.add_rows.new.sums c.set.new.self c.candidates.result.now c.args.i c.index-candidates-i.result c.as_slice.result.now true false (negsuc 0)
-    c.requires.made rows plan c.requires.present c.add_rows.ensures.shape c.candidates.ensures.value c.index-candidates-i.is listed c.add_rows.ensures.sum (part_left_out c.index-candidates-i.result)
+    c.requires.made rows plan c.requires.present c.add_rows.ensures.size c.candidates.ensures.value c.index-candidates-i.is listed c.add_rows.ensures.sum (part_left_out c.index-candidates-i.result)

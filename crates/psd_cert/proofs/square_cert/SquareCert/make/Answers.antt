@@ -5,10 +5,11 @@ use Rattle.psd_cert.specs.Lower.{StopsHere, Leaves, last_matrix}
 use Rattle.psd_cert.proofs.ChainSoFar.{begun_shape, begun_more, begun_stops, begun_unfit, begun_whole}
 use Rattle.psd_cert.proofs.square_cert.SquareCert.make.Goals as goal
 
-pub lower_step-requires-clause-shape : goal.lower_step-requires-clause-shape
-lower_step-requires-clause-shape c =
-    (begun_shape (length c.args.first.now) c.args.first.now c.loop-step.remainders.items c.last_matrix.result.now c.loop-step.invariant.0
-    (c.last_matrix.ensures ∙ ap (last_matrix c.args.first.now) c.deref.ensures.value)).0
+pub lower_step-requires-clause-some : goal.lower_step-requires-clause-some
+lower_step-requires-clause-some c =
+    let e = (begun_shape (length c.args.first.now) c.args.first.now c.loop-step.remainders.items c.last_matrix.result.now c.loop-step.invariant.0
+    (c.last_matrix.ensures ∙ ap (last_matrix c.args.first.now) c.deref.ensures.value)).1 in
+    omega (arith, e, c.loop-step.invariant.1, c.loop-step-test.true, c.size-step-end.ensures.rows)
 
 pub lower_step-requires-clause-few : goal.lower_step-requires-clause-few
 lower_step-requires-clause-few c =
@@ -45,18 +46,18 @@ loop-step-preserved c =
 
 pub invariant_of-result : goal.invariant_of-result
 invariant_of-result c =
-    (begun_whole c.args.first.now c.loop-step.remainders.items c.requires.shape c.loop-step.invariant.0
+    (begun_whole c.args.first.now c.loop-step.remainders.items c.size-step-end.ensures.shape c.loop-step.invariant.0
     (omega (arith, c.loop-step.invariant.1, c.loop-step-test.false, c.loop-step.auto._step-end, c.size-step-end.ensures.rows))).kept
 
 pub returns-clause-holds : goal.returns-clause-holds
 returns-clause-holds c = λ x e.
-    let made = begun_whole c.args.first.now c.loop-step.remainders.items c.requires.shape c.loop-step.invariant.0
+    let made = begun_whole c.args.first.now c.loop-step.remainders.items c.size-step-end.ensures.shape c.loop-step.invariant.0
     (omega (arith, c.loop-step.invariant.1, c.loop-step-test.false, c.loop-step.auto._step-end, c.size-step-end.ensures.rows)) in
     let same : c.loop-step.remainders.items ≡ x = cc in
     subst (λ rs. (length rs ≡ length c.args.first.now) × CertificateHolds rs c.args.first.now) same (made.size, made.holds)
 
 pub returns-clause-remainders : goal.returns-clause-remainders
 returns-clause-remainders c =
-    let made = begun_whole c.args.first.now c.loop-step.remainders.items c.requires.shape c.loop-step.invariant.0
+    let made = begun_whole c.args.first.now c.loop-step.remainders.items c.size-step-end.ensures.shape c.loop-step.invariant.0
     (omega (arith, c.loop-step.invariant.1, c.loop-step-test.false, c.loop-step.auto._step-end, c.size-step-end.ensures.rows)) in
     (made.no_stop, made.remainders)
