@@ -29,7 +29,7 @@ use Rattle.geoplan.proofs.InputLemmas.{long_points, long_candidates, long_log, n
 -- ---- reading
 
 -- no fault is counted in two steps where none is in each
-keeps : (before middle now : ShelfState) → KeepsFaults middle.faults now.faults middle.last_fault now.last_fault → KeepsFaults before.faults middle.faults before.last_fault middle.last_fault → KeepsFaults before.faults now.faults before.last_fault now.last_fault
+keeps : (before middle now : ShelfState) → KeepsFaults middle now → KeepsFaults before middle → KeepsFaults before now
 keeps before middle now two one = record { same_count = two.same_count ∙ one.same_count; same_last = two.same_last ∙ one.same_last }
 
 -- a file was not read after others were

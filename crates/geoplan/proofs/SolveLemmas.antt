@@ -18,7 +18,7 @@ use Rattle.geoplan.specs.Solving.{Solves, HoldsBeginning, FailsSolve}
 -- Laws of a log that is started and then written.
 
 -- a log started and written whole
-Solves-after : (tables : TablesOf) (log : List ℕ) (done : SearchDone) (before middle now : ShelfState) → middle.held ≡ with_bytes before.held log [] → KeepsFaults before.faults middle.faults before.last_fault middle.last_fault → Searches tables.network log done middle now → Solves tables log done before now
+Solves-after : (tables : TablesOf) (log : List ℕ) (done : SearchDone) (before middle now : ShelfState) → middle.held ≡ with_bytes before.held log [] → KeepsFaults before middle → Searches tables.network log done middle now → Solves tables log done before now
 Solves-after tables log done before middle now started quiet found = record {
   tree = found.tree;
   searched = found.searched;
@@ -27,7 +27,7 @@ Solves-after tables log done before middle now started quiet found = record {
 }
 
 -- a log started and begun
-FailsSolve-after : (tables : TablesOf) (log : List ℕ) (why : SearchFault) (before middle now : ShelfState) → middle.held ≡ with_bytes before.held log [] → KeepsFaults before.faults middle.faults before.last_fault middle.last_fault → BreaksLog tables.network log why middle now → FailsSolve tables log why before now
+FailsSolve-after : (tables : TablesOf) (log : List ℕ) (why : SearchFault) (before middle now : ShelfState) → middle.held ≡ with_bytes before.held log [] → KeepsFaults before middle → BreaksLog tables.network log why middle now → FailsSolve tables log why before now
 FailsSolve-after tables log why before middle now started quiet found = record {
   held = inr (record {
     tree = found.tree;
@@ -55,7 +55,7 @@ FailsSolve-start tables log why before now held later failed = record {
 
 -- ---- the answer of a search after a log is started
 
-module _ (tables : TablesOf) (log : List ℕ) (before middle now : ShelfState) (started : middle.held ≡ with_bytes before.held log []) (quiet : KeepsFaults before.faults middle.faults before.last_fault middle.last_fault) where
+module _ (tables : TablesOf) (log : List ℕ) (before middle now : ShelfState) (started : middle.held ≡ with_bytes before.held log []) (quiet : KeepsFaults before middle) where
   pub solved-answer : (answer : Result SearchDone SearchFault) → IfOk answer (λ done. Searches tables.network log done middle now) → IfOk answer (λ done. Solves tables log done before now)
   solved-answer (Ok done) found = Solves-after tables log done before middle now started quiet found
   solved-answer (Err why) found = tt

@@ -32,7 +32,7 @@ AreTables sources held tables = ForSome held (λ files. input_of sources files �
 
 -- the shelf counted no fault
 abbrev pub IsQuiet : ShelfState → ShelfState → Type 0
-IsQuiet before now = KeepsFaults before.faults now.faults before.last_fault now.last_fault
+IsQuiet before now = KeepsFaults before now
 
 -- ---- a plan, none, or one that is not decided
 

@@ -18,7 +18,7 @@ pub record Solves (tables : TablesOf) (log : List ℕ) (done : SearchDone) (befo
   pub tree : Tree
   pub searched : IsSearched tables.network tree done
   pub written : now.held ≡ with_bytes before.held log (log_text tree)
-  pub quiet : KeepsFaults before.faults now.faults before.last_fault now.last_fault
+  pub quiet : KeepsFaults before now
 
 -- the name holds the beginning of a log of the network
 pub record HoldsBeginning (tables : TablesOf) (log : List ℕ) (before now : Option Files) : Type 0 where

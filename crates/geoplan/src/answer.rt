@@ -1,6 +1,5 @@
 //! The answer of a command, before anything is printed.
 ghost use Rattle.std.specs.Prelude.{◌≡◌, ◌≤◌, length, IfOk, IfErr};
-ghost use Rattle.shelf_io.specs.States.{state_of};
 ghost use Rattle.geoplan.specs.CommandOf.{sources_of};
 ghost use Rattle.geoplan.specs.CommandView.{sources_view, job_view, command_view};
 ghost use Rattle.geoplan.specs.Loading.{IsGoodNetwork, HasTables};
@@ -102,11 +101,9 @@ fn tables_of<H: Shelf>(
 ) -> Result<Accepted, Outcome>
     requires { sources.now.redundancy ≤ 999 }
     ensures tables { IfOk result (λ accepted. HasTables (sources_view sources.now) accepted.tables accepted.log.items
-        (state_of H.held H.faults H.last_fault H.started shelf.old)
-        (state_of H.held H.faults H.last_fault H.started shelf.new)) }
-    ensures refused { IfErr result (λ refusal. NoTables (sources_view sources.now)
-        (state_of H.held H.faults H.last_fault H.started shelf.old)
-        (state_of H.held H.faults H.last_fault H.started shelf.new) refusal.status refusal.text.items) }
+        (H.state shelf.old) (H.state shelf.new)) }
+    ensures refused { IfErr result (λ refusal. NoTables (sources_view sources.now) (H.state shelf.old)
+        (H.state shelf.new) refusal.status refusal.text.items) }
 {
     match load(alloc, sources, shelf) {
         Ok(Loaded { input, log }) => match input {
@@ -131,9 +128,7 @@ fn tables_of<H: Shelf>(
 /// The answer of the command `plan`.
 fn answer_plan<H: Shelf>(alloc: Global, job: &Job<'_>, shelf: &mut H) -> Outcome
     requires { job.now.redundancy ≤ 999 }
-    ensures { PlanStands (job_view job.now)
-        (state_of H.held H.faults H.last_fault H.started shelf.old)
-        (state_of H.held H.faults H.last_fault H.started shelf.new) result.status result.text.items }
+    ensures { PlanStands (job_view job.now) (H.state shelf.old) (H.state shelf.new) result.status result.text.items }
 {
     let sources = job.planned_sources();
     let accepted = match tables_of(alloc, &sources, shelf) {
@@ -165,9 +160,8 @@ fn list(alloc: Global, tables: &Tables) -> Outcome
 /// The answer of the command `rows`.
 fn answer_rows<H: Shelf>(alloc: Global, sources: &Sources<'_>, shelf: &mut H) -> Outcome
     requires { sources.now.redundancy ≤ 999 }
-    ensures { RowsStand (sources_view sources.now)
-        (state_of H.held H.faults H.last_fault H.started shelf.old)
-        (state_of H.held H.faults H.last_fault H.started shelf.new) result.status result.text.items }
+    ensures { RowsStand (sources_view sources.now) (H.state shelf.old)
+        (H.state shelf.new) result.status result.text.items }
 {
     match tables_of(alloc, sources, shelf) {
         Ok(accepted) => list(alloc, &accepted.tables),
@@ -191,9 +185,7 @@ fn replayed(alloc: Global, tables: &Tables, log: &[u8]) -> Outcome
 /// The answer of the command `check`.
 fn answer_check<H: Shelf>(alloc: Global, job: &Job<'_>, shelf: &mut H) -> Outcome
     requires { job.now.redundancy ≤ 999 }
-    ensures { CheckStands (job_view job.now)
-        (state_of H.held H.faults H.last_fault H.started shelf.old)
-        (state_of H.held H.faults H.last_fault H.started shelf.new) result.status result.text.items }
+    ensures { CheckStands (job_view job.now) (H.state shelf.old) (H.state shelf.new) result.status result.text.items }
 {
     let sources = job.checked_sources();
     match tables_of(alloc, &sources, shelf) {
@@ -205,9 +197,8 @@ fn answer_check<H: Shelf>(alloc: Global, job: &Job<'_>, shelf: &mut H) -> Outcom
 /// The answer of a command. Its redundancy is at most 999.
 pub fn answer<H: Shelf>(alloc: Global, command: &Command<'_>, shelf: &mut H) -> Outcome
     requires { (sources_of (command_view command.now)).redundancy ≤ 999 }
-    ensures { Stands (command_view command.now)
-        (state_of H.held H.faults H.last_fault H.started shelf.old)
-        (state_of H.held H.faults H.last_fault H.started shelf.new) result.status result.text.items }
+    ensures { Stands (command_view command.now) (H.state shelf.old)
+        (H.state shelf.new) result.status result.text.items }
 {
     match command {
         Command::Plan(job) => answer_plan(alloc, job, shelf),

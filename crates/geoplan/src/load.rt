@@ -1,7 +1,6 @@
 //! Reading the files of a command.
 ghost use Rattle.std.specs.Prelude.{◌≡◌, ◌≤◌, ◌^◌, length, option_map, IfOk, IfErr};
 ghost use Rattle.candidate_tables.specs.Accepted.{AreCandidates};
-ghost use Rattle.shelf_io.specs.States.{state_of};
 ghost use Rattle.geoplan.specs.CommandView.{sources_view};
 ghost use Rattle.geoplan.specs.Input.{accepted_input, judged_input};
 ghost use Rattle.geoplan.specs.Loading.{input_view, ReadsFile, FailsRead, ReadsLog, FailsLog, IsGoodInput, Loads, FailsLoad};
@@ -47,12 +46,9 @@ fn read_file<'a, H: Shelf>(
     most: u64,
 ) -> Result<Vec<u8>, LoadFault<'a>>
     requires { most ≤ 2 ^ 28 }
-    ensures read { IfOk result (λ bytes. ReadsFile most name.entry.now bytes.items
-        (state_of H.held H.faults H.last_fault H.started shelf.old)
-        (state_of H.held H.faults H.last_fault H.started shelf.new)) }
-    ensures fault { IfErr result (λ why. FailsRead most name.entry.now why
-        (state_of H.held H.faults H.last_fault H.started shelf.old)
-        (state_of H.held H.faults H.last_fault H.started shelf.new)) }
+    ensures read { IfOk result (λ bytes. ReadsFile most name.entry.now bytes.items (H.state shelf.old)
+        (H.state shelf.new)) }
+    ensures fault { IfErr result (λ why. FailsRead most name.entry.now why (H.state shelf.old) (H.state shelf.new)) }
 {
     let mut bytes = Vec::new(alloc);
     match shelf.read_whole(name, most, &mut bytes) {
@@ -70,11 +66,9 @@ fn read_log<'a, H: Shelf>(
     log: Option<&'a str>,
 ) -> Result<Vec<u8>, LoadFault<'a>>
     ensures read { IfOk result (λ bytes. ReadsLog (option_map (λ name. name.now) log.entry) bytes.items
-        (state_of H.held H.faults H.last_fault H.started shelf.old)
-        (state_of H.held H.faults H.last_fault H.started shelf.new)) }
-    ensures fault { IfErr result (λ why. FailsLog (option_map (λ name. name.now) log.entry) why
-        (state_of H.held H.faults H.last_fault H.started shelf.old)
-        (state_of H.held H.faults H.last_fault H.started shelf.new)) }
+        (H.state shelf.old) (H.state shelf.new)) }
+    ensures fault { IfErr result (λ why. FailsLog (option_map (λ name. name.now) log.entry) why (H.state shelf.old)
+        (H.state shelf.new)) }
 {
     match log {
         None => Ok(Vec::new(alloc)),
@@ -136,11 +130,9 @@ pub fn load<'a, H: Shelf>(
 ) -> Result<Loaded, LoadFault<'a>>
     requires { sources.now.redundancy ≤ 999 }
     ensures loaded { IfOk result (λ loaded. Loads (sources_view sources.now) loaded.input loaded.log.items
-        (state_of H.held H.faults H.last_fault H.started shelf.old)
-        (state_of H.held H.faults H.last_fault H.started shelf.new)) }
-    ensures fault { IfErr result (λ why. FailsLoad (sources_view sources.now) why
-        (state_of H.held H.faults H.last_fault H.started shelf.old)
-        (state_of H.held H.faults H.last_fault H.started shelf.new)) }
+        (H.state shelf.old) (H.state shelf.new)) }
+    ensures fault { IfErr result (λ why. FailsLoad (sources_view sources.now) why (H.state shelf.old)
+        (H.state shelf.new)) }
 {
     let points = match read_file(alloc, shelf, sources.points, MOST_BYTES) {
         Ok(points) => points,

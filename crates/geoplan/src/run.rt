@@ -1,6 +1,5 @@
 //! A run of the program over any shelf and sink.
 ghost use Rattle.std.specs.Prelude.{◌≡◌};
-ghost use Rattle.shelf_io.specs.States.{sink_state_of, state_of};
 ghost use Rattle.geoplan.specs.Running.{Prints, SaysWords, Runs};
 
 use crate::answer::answer;
@@ -14,8 +13,7 @@ use std::alloc::Global;
 
 /// Prints the text of an outcome in one piece, if it has one, and answers the status to end with.
 fn print<O: Sink>(out: &mut O, outcome: Outcome) -> Status
-    ensures { Prints outcome.status outcome.text.items result
-        (sink_state_of O.written O.faults out.old) (sink_state_of O.written O.faults out.new) }
+    ensures { Prints outcome.status outcome.text.items result (O.state out.old) (O.state out.new) }
 {
     if outcome.text.as_slice().is_empty() {
         return outcome.status;
@@ -36,10 +34,7 @@ fn refuse_words(alloc: Global) -> Outcome
 
 /// Runs a command line, and answers the status to end with.
 pub fn run<H: Shelf, O: Sink>(alloc: Global, words: &Words, shelf: &mut H, out: &mut O) -> Status
-    ensures { Runs words.now result
-        (state_of H.held H.faults H.last_fault H.started shelf.old)
-        (state_of H.held H.faults H.last_fault H.started shelf.new)
-        (sink_state_of O.written O.faults out.old) (sink_state_of O.written O.faults out.new) }
+    ensures { Runs words.now result (H.state shelf.old) (H.state shelf.new) (O.state out.old) (O.state out.new) }
 {
     let outcome = match Command::of(words) {
         Some(command) => answer(alloc, &command, shelf),

@@ -1,6 +1,5 @@
 //! Searching the network of the tables, and writing its log.
 ghost use Rattle.std.specs.Prelude.{◌≡◌, IfOk, IfErr};
-ghost use Rattle.shelf_io.specs.States.{state_of};
 ghost use Rattle.geoplan.specs.Solving.{Solves, FailsSolve};
 
 use crate::tables::Tables;
@@ -15,12 +14,8 @@ pub fn solve<H: Shelf>(
     shelf: &mut H,
     log: &str,
 ) -> Result<SearchDone, SearchFault>
-    ensures solved { IfOk result (λ done. Solves tables.now log.now done
-        (state_of H.held H.faults H.last_fault H.started shelf.old)
-        (state_of H.held H.faults H.last_fault H.started shelf.new)) }
-    ensures fault { IfErr result (λ why. FailsSolve tables.now log.now why
-        (state_of H.held H.faults H.last_fault H.started shelf.old)
-        (state_of H.held H.faults H.last_fault H.started shelf.new)) }
+    ensures solved { IfOk result (λ done. Solves tables.now log.now done (H.state shelf.old) (H.state shelf.new)) }
+    ensures fault { IfErr result (λ why. FailsSolve tables.now log.now why (H.state shelf.old) (H.state shelf.new)) }
 {
     match shelf.start(log) {
         Ok(()) => {}

@@ -2,7 +2,6 @@
 ghost use Rattle.std.specs.Prelude.{◌≡◌, ◌⊎◌, Some, None, is_some};
 ghost use Rattle.std.specs.Option.{ForSome};
 ghost use Rattle.shelf_io.specs.Faults.{Rose};
-ghost use Rattle.shelf_io.specs.States.{sink_state_of, state_of};
 ghost use Rattle.geoplan.specs.CommandOf.{CommandOf, command_of, sources_of, written_by, OnCommand, OnPlan, IfPlan, IfRows, OnCheck, IfCheck};
 ghost use Rattle.geoplan.specs.Input.{input_of};
 ghost use Rattle.geoplan.specs.Outcomes.{FindsPlan, FindsNone, LeavesOpen, ListsRows, AcceptsLog, RefusesLog, RefusesWords, RefusesTable, RefusesLength, FailsToRead};
@@ -22,99 +21,75 @@ pub fn geoplan<H: Shelf, O: Sink>(alloc: Global, words: &Words, shelf: &mut H, o
 
     // 0 of `plan`: the printed plan meets every limit for all whole-number displacements, and every
     // plan that meets them costs at least as much, which the log proves.
-    ensures found { result ≡ 0 → IfPlan words.now (λ job. PrintsAll (FindsPlan job
-        (state_of H.held H.faults H.last_fault H.started shelf.old)
-        (state_of H.held H.faults H.last_fault H.started shelf.new))
-        (sink_state_of O.written O.faults out.old) (sink_state_of O.written O.faults out.new)) }
+    ensures found { result ≡ 0 → IfPlan words.now (λ job. PrintsAll (FindsPlan job (H.state shelf.old)
+        (H.state shelf.new)) (O.state out.old) (O.state out.new)) }
 
     // 0 of `rows`: the unknowns and rows of the network of the two tables were printed.
-    ensures rows { result ≡ 0 → IfRows words.now (λ sources. PrintsAll (ListsRows sources
-        (state_of H.held H.faults H.last_fault H.started shelf.old)
-        (state_of H.held H.faults H.last_fault H.started shelf.new))
-        (sink_state_of O.written O.faults out.old) (sink_state_of O.written O.faults out.new)) }
+    ensures rows { result ≡ 0 → IfRows words.now (λ sources. PrintsAll (ListsRows sources (H.state shelf.old)
+        (H.state shelf.new)) (O.state out.old) (O.state out.new)) }
 
     // 0 of `check`: the text under the log's name is a log of the network, its lines were counted and
     // its bound printed, and every plan that meets the limits costs at least the bound.
-    ensures checked { result ≡ 0 → IfCheck words.now (λ job. PrintsAll (AcceptsLog job
-        (state_of H.held H.faults H.last_fault H.started shelf.old)
-        (state_of H.held H.faults H.last_fault H.started shelf.new))
-        (sink_state_of O.written O.faults out.old) (sink_state_of O.written O.faults out.new)) }
+    ensures checked { result ≡ 0 → IfCheck words.now (λ job. PrintsAll (AcceptsLog job (H.state shelf.old)
+        (H.state shelf.new)) (O.state out.old) (O.state out.new)) }
 
     // 1: no plan meets the limits, which the log proves.
-    ensures none { result ≡ 1 → OnPlan words.now (λ job. PrintsAll (FindsNone job
-        (state_of H.held H.faults H.last_fault H.started shelf.old)
-        (state_of H.held H.faults H.last_fault H.started shelf.new))
-        (sink_state_of O.written O.faults out.old) (sink_state_of O.written O.faults out.new)) }
+    ensures none { result ≡ 1 → OnPlan words.now (λ job. PrintsAll (FindsNone job (H.state shelf.old)
+        (H.state shelf.new)) (O.state out.old) (O.state out.new)) }
 
     // 2: exactly where the words aren't accepted, but for want of memory.
-    ensures words { result ≡ 2 → Says (RefusesWords words.now
-        (state_of H.held H.faults H.last_fault H.started shelf.old)
-        (state_of H.held H.faults H.last_fault H.started shelf.new))
-        (sink_state_of O.written O.faults out.old) (sink_state_of O.written O.faults out.new) }
+    ensures words { result ≡ 2 → Says (RefusesWords words.now (H.state shelf.old) (H.state shelf.new))
+        (O.state out.old) (O.state out.new) }
     ensures refused { command_of words.now ≡ None → (result ≡ 2) ⊎ (result ≡ 7) }
 
     // 3: the shown fault is the first one of the points table, or of the candidates table where the
     // points table has none, or of their network where neither has one.
     ensures refused_table { result ≡ 3 → OnCommand words.now (λ command. Says (RefusesTable (sources_of command)
-        (state_of H.held H.faults H.last_fault H.started shelf.old)
-        (state_of H.held H.faults H.last_fault H.started shelf.new))
-        (sink_state_of O.written O.faults out.old) (sink_state_of O.written O.faults out.new)) }
+        (H.state shelf.old) (H.state shelf.new)) (O.state out.old) (O.state out.new)) }
 
     // 4: the printed plan costs no more than any that meets the limits, which the log proves. It is
     // not decided: the interval of the printed limit contains 0.
-    ensures undecided { result ≡ 4 → OnPlan words.now (λ job. PrintsAll (LeavesOpen job
-        (state_of H.held H.faults H.last_fault H.started shelf.old)
-        (state_of H.held H.faults H.last_fault H.started shelf.new))
-        (sink_state_of O.written O.faults out.old) (sink_state_of O.written O.faults out.new)) }
+    ensures undecided { result ≡ 4 → OnPlan words.now (λ job. PrintsAll (LeavesOpen job (H.state shelf.old)
+        (H.state shelf.new)) (O.state out.old) (O.state out.new)) }
 
     // 5: a read of a file of the command failed in this call.
     ensures unread { result ≡ 5 → OnCommand words.now (λ command. Says (FailsToRead (sources_of command)
-        (state_of H.held H.faults H.last_fault H.started shelf.old)
-        (state_of H.held H.faults H.last_fault H.started shelf.new))
-        (sink_state_of O.written O.faults out.old) (sink_state_of O.written O.faults out.new)) }
+        (H.state shelf.old) (H.state shelf.new)) (O.state out.old) (O.state out.new)) }
 
     // 6: a write of the log failed in this call, or the put of a report did.
-    ensures unwritten { result ≡ 6 → OnCommand words.now (λ command. IsUnwritten command
-        (state_of H.held H.faults H.last_fault H.started shelf.old)
-        (state_of H.held H.faults H.last_fault H.started shelf.new)
-        (sink_state_of O.written O.faults out.old) (sink_state_of O.written O.faults out.new)) }
+    ensures unwritten { result ≡ 6 → OnCommand words.now (λ command. IsUnwritten command (H.state shelf.old)
+        (H.state shelf.new) (O.state out.old) (O.state out.new)) }
 
     // 7: memory ran out, for which no cause is said.
-    ensures out_of_memory { result ≡ 7 → RanOut words.now
-        (state_of H.held H.faults H.last_fault H.started shelf.old)
-        (state_of H.held H.faults H.last_fault H.started shelf.new)
-        (sink_state_of O.written O.faults out.old) (sink_state_of O.written O.faults out.new) }
+    ensures out_of_memory { result ≡ 7 → RanOut words.now (H.state shelf.old) (H.state shelf.new)
+        (O.state out.old) (O.state out.new) }
 
     // 8 of `check`: the shown fault is the first one of the text under the log's name.
-    ensures log_refused { result ≡ 8 → OnCheck words.now (λ job. Says (RefusesLog job
-        (state_of H.held H.faults H.last_fault H.started shelf.old)
-        (state_of H.held H.faults H.last_fault H.started shelf.new))
-        (sink_state_of O.written O.faults out.old) (sink_state_of O.written O.faults out.new)) }
+    ensures log_refused { result ≡ 8 → OnCheck words.now (λ job. Says (RefusesLog job (H.state shelf.old)
+        (H.state shelf.new)) (O.state out.old) (O.state out.new)) }
 
     // 9: the shown file is the first one, in the order of reading, that is too long.
     ensures too_long { result ≡ 9 → OnCommand words.now (λ command. Says (RefusesLength (sources_of command)
-        (state_of H.held H.faults H.last_fault H.started shelf.old)
-        (state_of H.held H.faults H.last_fault H.started shelf.new))
-        (sink_state_of O.written O.faults out.old) (sink_state_of O.written O.faults out.new)) }
+        (H.state shelf.old) (H.state shelf.new)) (O.state out.old) (O.state out.new)) }
 
     // Accepted words and no fault counted: the status is what the files give, or want of memory.
     ensures complete { (command : CommandOf) → command_of words.now ≡ Some command →
-        (Rose (H.faults shelf.old) (H.faults shelf.new) → ⊥) → (Rose (O.faults out.old) (O.faults out.new) → ⊥) →
-        ForSome (H.held shelf.old) (λ files. IsComplete command files result) }
+        (Rose (H.state shelf.old).faults (H.state shelf.new).faults → ⊥) → (Rose (O.state out.old).faults (O.state out.new).faults → ⊥) →
+        ForSome (H.state shelf.old).held (λ files. IsComplete command files result) }
 
     // Whatever faults were counted: a file that is too long or a table with a fault is refused, but
     // for a failed read and want of memory.
     ensures refusals { (command : CommandOf) → command_of words.now ≡ Some command →
-        ForSome (H.held shelf.old) (λ files. IsRefusedBy (input_of (sources_of command) files) result) }
+        ForSome (H.state shelf.old).held (λ files. IsRefusedBy (input_of (sources_of command) files) result) }
 
     // Every name but the log's of `plan` holds what it held; `rows`, `check`, and words that aren't
     // accepted, change nothing.
-    ensures others { WhereHeld (H.held shelf.old) (H.held shelf.new) (OthersStay words.now) }
-    ensures untouched { written_by words.now ≡ None → H.held shelf.new ≡ H.held shelf.old }
+    ensures others { WhereHeld (H.state shelf.old).held (H.state shelf.new).held (OthersStay words.now) }
+    ensures untouched { written_by words.now ≡ None → (H.state shelf.new).held ≡ (H.state shelf.old).held }
 
     // Whether the bytes are told doesn't change.
-    ensures shelf_told { is_some (H.held shelf.new) ≡ is_some (H.held shelf.old) }
-    ensures out_told { is_some (O.written out.new) ≡ is_some (O.written out.old) }
+    ensures shelf_told { is_some (H.state shelf.new).held ≡ is_some (H.state shelf.old).held }
+    ensures out_told { is_some (O.state out.new).written ≡ is_some (O.state out.old).written }
 {
     run(alloc, words, shelf, out).code()
 }
