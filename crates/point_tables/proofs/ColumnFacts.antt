@@ -1,17 +1,19 @@
 -- What the columns of a record are read as, and which of their rules is broken first.
-use Rattle.std.proofs.Common.{◌≡◌, ◌≤◌, ◌^◌, ℕ, ℤ, pos, neg_ℤ, Bool, true, false, List, [], ◌∷◌, ◌++◌, Option, Some, None, refl, sym, ap, arith, not, ◌&&◌, ◌||◌, ◌∙◌, length, subst}
+use Rattle.std.proofs.Common.{◌≡◌, ◌≤◌, ◌^◌, ℕ, ℤ, pos, neg_ℤ, Bool, true, false, List, [], ◌∷◌, Option, Some, None, refl, sym, ap, arith, not, ◌&&◌, ◌||◌, length}
 use Rattle.std.specs.Prelude.{◌≤ℤ◌, is_none, unsigned_abs, slice_get}
 use Rattle.std.proofs.lemmas.Bool.{eqb-true}
 use Rattle.std.proofs.lemmas.Int.{ints}
 use Rattle.text_num.specs.Decimal.{decimal_of}
-use Rattle.table_rows.specs.Faults.{Rule, first_broken}
-use Rattle.table_rows.proofs.FaultFacts.{first_broken-left, first_broken-right}
+use Rattle.table_rows.specs.Faults.{first_broken}
+use Rattle.table_rows.proofs.FaultFacts.{first_broken-left}
 use Rattle.point_tables.specs.declared.columns.Columns.{Columns}
 use Rattle.point_tables.specs.declared.fault.FaultKind.{FaultKind}
 use Rattle.point_tables.specs.declared.fault.FaultKind.TheVariants as kind
 use Rattle.point_tables.specs.declared.part.Part.TheVariants as part
 use Rattle.point_tables.specs.Accepted.{is_absent}
-use Rattle.point_tables.specs.Columns.{IsNumber, is_empty, number_rules, text_at}
+use Rattle.table_columns.specs.Columns.{IsNumber, is_empty, number_rules, text_at}
+use Rattle.table_columns.proofs.RecordFacts.{at-field, past}
+use Rattle.point_tables.specs.Columns.{number_kinds}
 use Rattle.point_tables.specs.PointTable.{column_rules, coordinate_of, coordinate_rules, is_fixed, missing_rules, part_of, part_rules}
 use Rattle.point_tables.specs.Read.{IsCoordinateOf, IsPartOf, has_missing}
 
@@ -22,7 +24,7 @@ unfolding coordinate_rules first_broken coordinate_of decimal_of
 coordinate-none [] e = (refl, record { value = refl; bound = λ x f. cc f; empty = refl })
 coordinate-none (c ∷ text) e = absurd (omega (arith, eqb-true (length (c ∷ text)) 0 e))
 
-pub coordinate-given : (text : List ℕ) → is_empty text ≡ false → coordinate_rules text ≡ number_rules 3 (neg_ℤ (pos (10 ^ 11))) (pos (10 ^ 11)) text
+pub coordinate-given : (text : List ℕ) → is_empty text ≡ false → coordinate_rules text ≡ number_rules number_kinds 3 (neg_ℤ (pos (10 ^ 11))) (pos (10 ^ 11)) text
 unfolding coordinate_rules
 coordinate-given text e = rw e refl
 
@@ -48,7 +50,7 @@ pub part-fixed : (text : List ℕ) → is_empty text ≡ false → is_fixed text
 unfolding part_rules first_broken part_of
 part-fixed text e f = (rw (e, f) refl, record { value = rw (e, f) refl; bound = λ x g. cc g; empty = sym e })
 
-pub part-given : (text : List ℕ) → is_empty text ≡ false → is_fixed text ≡ false → part_rules text ≡ number_rules 1 (pos 1) (pos 1000) text
+pub part-given : (text : List ℕ) → is_empty text ≡ false → is_fixed text ≡ false → part_rules text ≡ number_rules number_kinds 1 (pos 1) (pos 1000) text
 unfolding part_rules
 part-given text e f = rw (e, f) refl
 
@@ -66,12 +68,6 @@ part-new text value limit e f is same = record {
 
 -- ---- the columns one after the other
 
--- a fact on the text of a field
-pub at-field : (P : List ℕ → Type 0) (row : List (List ℕ)) (place : ℕ) (text : List ℕ) → slice_get row place ≡ Some text → P text → P (text_at row place)
-at-field P row place text e p =
-    let same : text_at row place ≡ text = rw e refl in
-    subst P (sym same) p
-
 pub keeps-coordinate : (row : List (List ℕ)) (place : ℕ) (text : List ℕ) → slice_get row place ≡ Some text → first_broken (coordinate_rules text) ≡ None
     → first_broken (coordinate_rules (text_at row place)) ≡ None
 keeps-coordinate row place text e p = at-field (λ t. first_broken (coordinate_rules t) ≡ None) row place text e p
@@ -79,10 +75,6 @@ keeps-coordinate row place text e p = at-field (λ t. first_broken (coordinate_r
 pub keeps-part : (row : List (List ℕ)) (place : ℕ) (text : List ℕ) → slice_get row place ≡ Some text → first_broken (part_rules text) ≡ None
     → first_broken (part_rules (text_at row place)) ≡ None
 keeps-part row place text e p = at-field (λ t. first_broken (part_rules t) ≡ None) row place text e p
-
--- where no rule of a column is broken the first broken one is among those after it
-past : {K : Type 0} (front back : List (Rule K)) (found : Option K) → first_broken front ≡ None → first_broken back ≡ found → first_broken (front ++ back) ≡ found
-past front back found kept e = first_broken-right front back kept ∙ e
 
 module _ (row : List (List ℕ)) (broken : FaultKind) where
   pub broken-x : first_broken (coordinate_rules (text_at row 1)) ≡ Some broken → first_broken (column_rules row) ≡ Some broken

@@ -1,9 +1,3 @@
-pub mod NameFacts
-pub mod NumberFacts
 pub mod ColumnFacts
-pub mod Places
 pub mod PlaceFacts
-pub mod StoredFacts
-pub mod TableFacts
 pub mod RecordFacts
-pub mod AcceptedFacts

@@ -1,13 +1,11 @@
 -- What holds of the points of every accepted table. This project's own.
-use Rattle.std.specs.Prelude.{ℕ, ℤ, ◌≡◌, ◌≤◌, ◌^◌, Bool, true, false, List, All, length, IsSome, Option, unsigned_abs}
-use Rattle.std.specs.List.{IsDistinct}
+use Rattle.std.specs.Prelude.{ℕ, ℤ, ◌≡◌, ◌≤◌, ◌^◌, Bool, true, false, List, IsSome, Option, unsigned_abs}
 use Rattle.std.specs.Option.{ForSome}
-use Rattle.std.specs.Str.{bytes_eq}
 use Rattle.point_tables.specs.declared.part.Part.{Part}
 use Rattle.point_tables.specs.declared.part.Part.TheVariants as part
 use Rattle.point_tables.specs.declared.record.PointRecord.{PointRecord}
-use Rattle.point_tables.specs.Names.{is_name}
-use Rattle.point_tables.specs.PointTable.{names_of}
+use Rattle.table_columns.specs.Names.{is_name}
+use Rattle.table_columns.specs.Stored.{AreNamed}
 
 -- whether a point has no such part
 abbrev pub is_absent : Part → Bool
@@ -36,7 +34,5 @@ pub record IsAccepted (point : PointRecord) : Type 0 where
   pub has_z : is_absent point.height ≡ false → IsSome point.z
 
 -- at most 1000 points, each of which is one of an accepted table, with names that differ
-pub record ArePoints (points : List PointRecord) : Type 0 where
-  pub few : length points ≤ 1000
-  pub apart : IsDistinct bytes_eq (names_of points)
-  pub each : All IsAccepted points
+abbrev pub ArePoints : List PointRecord → Type 0
+ArePoints points = AreNamed (λ point. point.name) 1000 IsAccepted points

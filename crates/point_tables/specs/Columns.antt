@@ -1,66 +1,40 @@
--- The rules that the columns of every table share, and what a reading of them answers. This project's own.
-use Rattle.std.specs.Prelude.{ℕ, ℤ, ◌≡◌, ◌≤ℤ◌, ◌==◌, List, [], ◌∷◌, Bool, not, false, ◌&&◌, length, nat_lt, int_le, Option, Some, None, is_none, unwrap_or, slice_get, Result, Ok, Err}
-use Rattle.std.specs.List.{list_all}
-use Rattle.std.specs.Option.{option_map_or}
-use Rattle.std.specs.Str.{is_utf8}
-use Rattle.text_num.specs.Decimal.{decimal_of}
-use Rattle.table_rows.specs.Faults.{Rule, first_broken}
+-- The kinds of fault that the rules shared by every table have in the tables of points and of candidates, and what a
+-- reading of one of these tables answers. This project's own.
+use Rattle.std.specs.Prelude.{ℕ, ◌≡◌, Option, Some, None, Result, Ok, Err}
+use Rattle.table_columns.specs.declared.kinds.NameKinds.{NameKinds}
+use Rattle.table_columns.specs.declared.kinds.NumberKinds.{NumberKinds}
+use Rattle.table_columns.specs.declared.refusal.Refusal.{Refusal}
+use Rattle.table_columns.specs.declared.refusal.Refusal.TheVariants as refusal
+use Rattle.table_columns.specs.declared.shape.Shape.{Shape}
 use Rattle.point_tables.specs.declared.fault.FaultKind.{FaultKind}
 use Rattle.point_tables.specs.declared.fault.FaultKind.TheVariants as kind
 use Rattle.point_tables.specs.declared.fault.TableAnswer.{TableAnswer}
 use Rattle.point_tables.specs.declared.fault.TableAnswer.TheVariants as answer
 use Rattle.point_tables.specs.declared.fault.TableName.{TableName}
-use Rattle.point_tables.specs.Names.{is_among, is_name}
 
--- a rule: whether it is broken, and the kind of fault that this is
-abbrev pub rule : Bool → FaultKind → Rule FaultKind
-rule broken kind = record { broken = broken; kind = kind }
+-- the kinds of fault of a name
+abbrev pub name_kinds : NameKinds FaultKind
+name_kinds = record { name = kind.Name; twice = kind.Twice }
 
--- the text at a place of a record, counted from 0, and no text where the record ends before it
-abbrev pub text_at : List (List ℕ) → ℕ → List ℕ
-text_at row place = unwrap_or (slice_get row place) []
+-- the kinds of fault of a number
+abbrev pub number_kinds : NumberKinds FaultKind
+number_kinds = record { number = kind.Number; range = kind.Range }
 
--- the name that a record gives
-abbrev pub name_at : List (List ℕ) → List ℕ
-name_at row = text_at row 0
+-- a table whose largest record has this number, and whose records have so many fields
+abbrev pub shape_of : ℕ → ℕ → Shape FaultKind
+shape_of most fields = record {
+  most = most;
+  fields = fields;
+  header = kind.Header;
+  too_many = kind.TooMany;
+  other_fields = kind.Fields;
+  not_utf8 = kind.Utf8;
+}
 
--- whether a text is empty
-abbrev pub is_empty : List ℕ → Bool
-is_empty text = length text == 0
-
--- the rules of a record as a whole: its number is at most this, it has so many fields, and each text is UTF-8
-unfoldable pub record_rules : ℕ → ℕ → ℕ → List (List ℕ) → List (Rule FaultKind)
-record_rules most fields number row =
-    rule (nat_lt most number) kind.TooMany
-    ∷ rule (not (length row == fields)) kind.Fields
-    ∷ rule (not (list_all is_utf8 row)) kind.Utf8
-    ∷ []
-
--- the rules of a name: it is one, and no earlier record has it
-unfoldable pub name_rules : List ℕ → List (List ℕ) → List (Rule FaultKind)
-name_rules name earlier = rule (not (is_name name)) kind.Name ∷ rule (is_among name earlier) kind.Twice ∷ []
-
--- whether a number is outside these bounds
-abbrev pub is_outside : ℤ → ℤ → ℤ → Bool
-is_outside least most value = not (int_le least value && int_le value most)
-
--- the rules of a number: it is a decimal with so many places, and within these bounds, all in units of the last place
-unfoldable pub number_rules : ℕ → ℤ → ℤ → List ℕ → List (Rule FaultKind)
-number_rules places least most text =
-    rule (is_none (decimal_of places text)) kind.Number
-    ∷ rule (option_map_or (is_outside least most) (decimal_of places text) false) kind.Range
-    ∷ []
-
--- a value is the one that a text writes, within these bounds
-pub record IsNumber (places : ℕ) (least most : ℤ) (text : List ℕ) (value : ℤ) : Type 0 where
-  pub written : decimal_of places text ≡ Some value
-  pub low : least ≤ℤ value
-  pub high : value ≤ℤ most
-
--- no rule is broken and what was read is right, or the kind is that of the first broken rule
-abbrev pub Reads : {V : Type 0} → List (Rule FaultKind) → (V → Type 0) → Result V FaultKind → Type 0
-Reads rules IsRight (Ok value) = (first_broken rules ≡ None) × IsRight value
-Reads rules IsRight (Err broken) = first_broken rules ≡ Some broken
+-- the answer of a table that was refused
+abbrev pub answer_of : TableName → Refusal FaultKind → TableAnswer
+answer_of table (refusal.Broken number kind) = answer.Fault (record { table = table; number = number; kind = kind })
+answer_of table refusal.NoMemory = answer.NoMemory
 
 -- a table has no fault and stands for what was read, or the answer is its first fault, or memory ran out
 abbrev pub Answers : {V : Type 0} → TableName → Option (ℕ × FaultKind) → V → Result V TableAnswer → Type 0

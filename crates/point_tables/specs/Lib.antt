@@ -3,5 +3,4 @@ pub mod Columns
 pub mod Coordinates
 pub mod PointTable
 pub mod Accepted
-pub mod Stored
 pub mod Read

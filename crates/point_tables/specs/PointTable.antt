@@ -1,5 +1,5 @@
 -- The points table: its rules, its first fault and the points that it stands for. This project's own.
-use Rattle.std.specs.Prelude.{ℕ, ℤ, pos, neg_ℤ, ◌^◌, List, [], ◌∷◌, ◌++◌, Bool, not, ◌&&◌, ◌||◌, if◌then◌else◌, codes, drop, map, Option, unsigned_abs}
+use Rattle.std.specs.Prelude.{ℕ, ℤ, ◌≡◌, refl, pos, neg_ℤ, ◌^◌, List, [], ◌∷◌, ◌++◌, Bool, not, ◌&&◌, ◌||◌, if◌then◌else◌, codes, drop, map, Option, unsigned_abs}
 use Rattle.std.specs.Option.{option_map_or}
 use Rattle.std.specs.Str.{bytes_eq}
 use Rattle.text_num.specs.Decimal.{decimal_of}
@@ -10,7 +10,8 @@ use Rattle.point_tables.specs.declared.fault.FaultKind.TheVariants as kind
 use Rattle.point_tables.specs.declared.part.Part.{Part}
 use Rattle.point_tables.specs.declared.part.Part.TheVariants as part
 use Rattle.point_tables.specs.declared.record.PointRecord.{PointRecord}
-use Rattle.point_tables.specs.Columns.{is_empty, name_at, name_rules, number_rules, record_rules, rule, text_at}
+use Rattle.point_tables.specs.Columns.{name_kinds, number_kinds, shape_of}
+use Rattle.table_columns.specs.Columns.{NamedRules, is_empty, name_at, named_table, number_rules, rule, text_at}
 
 -- the header row
 abbrev pub point_header : List (List ℕ)
@@ -22,7 +23,7 @@ is_fixed text = bytes_eq text (codes "fixed")
 
 -- the rules of a coordinate: it is empty, or a number of metres with 3 places whose size is at most 10 ^ 11 mm
 unfoldable pub coordinate_rules : List ℕ → List (Rule FaultKind)
-coordinate_rules text = if is_empty text then [] else number_rules 3 (neg_ℤ (pos (10 ^ 11))) (pos (10 ^ 11)) text
+coordinate_rules text = if is_empty text then [] else number_rules number_kinds 3 (neg_ℤ (pos (10 ^ 11))) (pos (10 ^ 11)) text
 
 -- a coordinate in mm, and none where it is empty
 unfoldable pub coordinate_of : List ℕ → Option ℤ
@@ -30,7 +31,7 @@ coordinate_of text = decimal_of 3 text
 
 -- the rules of a part: it is empty, or `fixed`, or a limit with 1 place from 0.1 to 100.0 mm
 unfoldable pub part_rules : List ℕ → List (Rule FaultKind)
-part_rules text = if is_empty text || is_fixed text then [] else number_rules 1 (pos 1) (pos 1000) text
+part_rules text = if is_empty text || is_fixed text then [] else number_rules number_kinds 1 (pos 1) (pos 1000) text
 
 -- a part: absent where it is empty, fixed, or new with a limit in tenths of a mm
 unfoldable pub part_of : List ℕ → Part
@@ -55,17 +56,14 @@ column_rules row =
     ++ (part_rules (text_at row 5)
     ++ missing_rules row))))
 
--- the rules of a record by its number and the names of the earlier records
-unfoldable pub rules_after : ℕ → List (List ℕ) → List (List ℕ) → List (Rule FaultKind)
-rules_after number row names = record_rules 1001 6 number row ++ (name_rules (name_at row) names ++ column_rules row)
+-- what a points table asks of a record: it is one of at most 1000 under the header row, and has 6 fields, a name of its
+-- own and these columns
+abbrev pub point_rules : NamedRules FaultKind
+point_rules = record { header = point_header; shape = shape_of 1001 6; name = name_kinds; columns = column_rules }
 
--- what a points table asks: its header row, and in their order the rules of each further record
+-- the same as a table's
 abbrev pub points_table : TableRules FaultKind
-points_table = record {
-  header = point_header;
-  header_kind = kind.Header;
-  rules = λ number row earlier. rules_after number row (map name_at earlier);
-}
+points_table = named_table point_rules
 
 -- the first fault of a points table: the number of its record, counted from 1, and its kind
 unfoldable pub points_fault : List ℕ → Option (ℕ × FaultKind)
@@ -89,3 +87,8 @@ points_of bytes = map point_of (drop 1 (table_rows bytes))
 -- the names of points, in their order
 abbrev pub names_of : List PointRecord → List (List ℕ)
 names_of points = map (λ point. point.name) points
+
+-- a point's name is the text of its record's first field
+pub point_of-name : (row : List (List ℕ)) → (point_of row).name ≡ name_at row
+unfolding point_of
+point_of-name row = refl

@@ -1,15 +1,9 @@
--- What the columns of a record are read as, and what a record adds to those before it. This project's own.
-use Rattle.std.specs.Prelude.{ℕ, ℤ, ◌≡◌, List, [], ◌∷◌, ◌++◌, Bool, true, false, not, ◌&&◌, ◌||◌, Option, Some, None, is_none, Result, Ok, Err}
-use Rattle.table_rows.specs.Faults.{Rule, first_broken}
+-- What the columns of a record are read as. This project's own.
+use Rattle.std.specs.Prelude.{ℕ, ℤ, ◌≡◌, List, Bool, false, not, ◌&&◌, ◌||◌, Option, is_none}
 use Rattle.point_tables.specs.declared.columns.Columns.{Columns}
-use Rattle.point_tables.specs.declared.fault.FaultKind.{FaultKind}
-use Rattle.point_tables.specs.declared.fault.TableAnswer.{TableAnswer}
-use Rattle.point_tables.specs.declared.fault.TableAnswer.TheVariants as answer
-use Rattle.point_tables.specs.declared.fault.TableName.{TableName}
 use Rattle.point_tables.specs.declared.part.Part.{Part}
 use Rattle.point_tables.specs.Accepted.{IsCoordinate, IsPart, is_absent}
-use Rattle.point_tables.specs.Columns.{is_empty, text_at}
-use Rattle.point_tables.specs.Names.{is_among, is_name}
+use Rattle.table_columns.specs.Columns.{is_empty, text_at}
 use Rattle.point_tables.specs.PointTable.{coordinate_of, part_of}
 
 -- a coordinate is that of a text, within its bounds, and there is none only where the text is empty
@@ -37,17 +31,3 @@ pub record IsColumns (row : List (List ℕ)) (columns : Columns) : Type 0 where
   pub plane : IsPartOf (text_at row 4) columns.plane
   pub height : IsPartOf (text_at row 5) columns.height
   pub complete : has_missing columns ≡ false
-
--- a name is this text, and it is none of these names
-pub record IsNewName (text : List ℕ) (names : List (List ℕ)) (name : List ℕ) : Type 0 where
-  pub same : name ≡ text
-  pub is_one : is_name text ≡ true
-  pub other : is_among text names ≡ false
-
--- the record of this number breaks none of its rules and what it stands for is added, or the kind is that of the first
--- rule that it breaks, or memory ran out
-abbrev pub Adds : {V : Type 0} → TableName → ℕ → List (Rule FaultKind) → V → List V → List V → Result Unit TableAnswer → Type 0
-Adds table number rules value before after (Ok done) = (first_broken rules ≡ None) × (after ≡ before ++ value ∷ [])
-Adds table number rules value before after (Err (answer.Fault found)) =
-    (first_broken rules ≡ Some found.kind) × (found.number ≡ number) × (found.table ≡ table)
-Adds table number rules value before after (Err answer.NoMemory) = Unit {0}

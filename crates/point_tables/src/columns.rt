@@ -1,10 +1,10 @@
 ghost use Rattle.std.specs.Prelude.{◌≡◌, length};
-ghost use Rattle.point_tables.specs.Columns.{Reads};
+ghost use Rattle.table_columns.specs.Read.{Reads};
 ghost use Rattle.point_tables.specs.PointTable.{column_rules, coordinate_rules, part_rules};
 ghost use Rattle.point_tables.specs.Read.{IsColumns, IsCoordinateOf, IsPartOf, has_missing};
 
 use crate::fault::FaultKind;
-use crate::number::read_number;
+use crate::kinds::NUMBER_KINDS;
 use crate::part::Part;
 use table_rows::TableRow;
 
@@ -41,7 +41,7 @@ fn read_coordinate(text: &[u8]) -> Result<Option<i64>, FaultKind>
     if text.is_empty() {
         return Ok(None);
     }
-    match read_number(text, 3, -MOST_SIZE, MOST_SIZE) {
+    match NUMBER_KINDS.read(text, 3, -MOST_SIZE, MOST_SIZE) {
         Ok(value) => Ok(Some(value)),
         Err(kind) => Err(kind),
     }
@@ -57,7 +57,7 @@ fn read_part(text: &[u8]) -> Result<Part, FaultKind>
     if text == b"fixed".as_slice() {
         return Ok(Part::Fixed);
     }
-    match read_number(text, 1, 1, MOST_LIMIT) {
+    match NUMBER_KINDS.read(text, 1, 1, MOST_LIMIT) {
         Ok(limit) => Ok(Part::New(limit as u32)),
         Err(kind) => Err(kind),
     }

@@ -1,8 +1,10 @@
 ghost use Rattle.std.specs.Prelude.{◌≡◌};
 ghost use Rattle.point_tables.specs.declared.fault.TableAnswer.TheVariants as answer;
+ghost use Rattle.point_tables.specs.Columns.{answer_of};
 
 use geo_base::NoMemory as WantOfMemory;
 use std::alloc::{AllocError, AllocFailed};
+use table_columns::Refusal;
 
 /// The table that a fault is of.
 #[derive(Clone, Copy, Debug, PartialEq, Eq)]
@@ -84,15 +86,18 @@ pub enum TableAnswer {
 }
 
 impl TableAnswer {
-    /// The answer that a record of a table breaks a rule.
-    pub fn broken(table: TableName, number: u32, kind: FaultKind) -> TableAnswer
-        ensures { result ≡ TableAnswer.Fault (record { table = table; number = number; kind = kind }) }
+    /// The answer of a table that was refused.
+    pub fn of(table: TableName, refusal: Refusal<FaultKind>) -> TableAnswer
+        ensures { result ≡ answer_of table refusal }
     {
-        TableAnswer::Fault(TableFault {
-            table,
-            number,
-            kind,
-        })
+        match refusal {
+            Refusal::Broken(number, kind) => TableAnswer::Fault(TableFault {
+                table,
+                number,
+                kind,
+            }),
+            Refusal::NoMemory => TableAnswer::NoMemory,
+        }
     }
 }
 

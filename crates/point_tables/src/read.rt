@@ -1,50 +1,63 @@
-ghost use Rattle.std.specs.Prelude.{◌+◌, length, IfOk, OnOk};
+ghost use Rattle.std.specs.Prelude.{IfOk};
 ghost use Rattle.point_tables.specs.declared.fault.TableName.TheVariants as table;
 ghost use Rattle.point_tables.specs.Accepted.{ArePoints, IsAccepted};
 ghost use Rattle.point_tables.specs.Columns.{Answers};
-ghost use Rattle.point_tables.specs.PointTable.{names_of, point_of, points_fault, points_of, rules_after};
-ghost use Rattle.point_tables.specs.Read.{Adds};
+ghost use Rattle.point_tables.specs.PointTable.{point_of, point_of-name, point_rules, points_fault, points_of};
 
 use crate::columns::read_columns;
 use crate::fault::{FaultKind, TableAnswer, TableName};
-use crate::name::{Name, new_name};
+use crate::kinds::NAME_KINDS;
 use crate::points::Points;
 use crate::record::PointRecord;
-use crate::row::broken_record;
 use std::alloc::Global;
-use table_rows::{TableRow, TableRows};
+use table_columns::{Name, NameKinds, NamedTable, Shape, read_named_table};
+use table_rows::TableRow;
 
 // The largest number of a record, the header row among them.
-const MOST_RECORDS: u32 = 1001;
+const MOST_RECORDS: u16 = 1001;
 
-// Adds the point of a record, or says which of its rules it breaks first.
-fn add_record(alloc: Global, row: &TableRow, points: &mut Points) -> Result<(), TableAnswer>
-    ensures added { Adds table.Points (length points.old + 2) (rules_after (length points.old + 2) row.now (names_of points.old)) (point_of row.now) points.old points.new result }
-    ensures accepted { OnOk result (IsAccepted (point_of row.now)) }
-{
-    let number = points.len() + 2;
-    if let Some(kind) = broken_record(MOST_RECORDS, 6, number, row) {
-        return Err(TableAnswer::broken(TableName::Points, number, kind));
+// The points table.
+#[derive(Drop)]
+struct PointTable;
+
+impl NamedTable for PointTable {
+    type Kind = FaultKind;
+
+    type Record = PointRecord;
+
+    ghost asks = { λ _. point_rules };
+
+    ghost value_of = { λ _. point_of };
+
+    ghost IsRight = { λ _. IsAccepted };
+
+    fn header(&self) -> &'static [&'static str] {
+        &["name", "x", "y", "z", "plane", "height"]
     }
-    let text = row.field(0);
-    let name = match new_name(text, points.find(text)) {
-        Ok(name) => name,
-        Err(kind) => return Err(TableAnswer::broken(TableName::Points, number, kind)),
-    };
-    let columns = match read_columns(row) {
-        Ok(columns) => columns,
-        Err(kind) => return Err(TableAnswer::broken(TableName::Points, number, kind)),
-    };
-    let point = PointRecord {
-        name: Name::new(alloc, name)?,
-        x: columns.x,
-        y: columns.y,
-        z: columns.z,
-        plane: columns.plane,
-        height: columns.height,
-    };
-    points.push(alloc, point)?;
-    Ok(())
+
+    fn shape(&self) -> Shape<FaultKind> {
+        FaultKind::shape(MOST_RECORDS, 6)
+    }
+
+    fn name_kinds(&self) -> NameKinds<FaultKind> {
+        NAME_KINDS
+    }
+
+    fn read_columns(&self, row: &TableRow, name: Name) -> Result<PointRecord, FaultKind> {
+        match read_columns(row) {
+            Ok(columns) => Ok(PointRecord {
+                name,
+                x: columns.x,
+                y: columns.y,
+                z: columns.z,
+                plane: columns.plane,
+                height: columns.height,
+            }),
+            Err(kind) => Err(kind),
+        }
+    }
+
+    ghost named = { λ _. point_of-name };
 }
 
 /// Reads a points table: the points of its records in their order, or its first fault.
@@ -52,14 +65,8 @@ pub fn read_points(alloc: Global, bytes: &[u8]) -> Result<Points, TableAnswer>
     ensures answer { Answers table.Points (points_fault bytes.now) (points_of bytes.now) result }
     ensures accepted { IfOk result ArePoints }
 {
-    let header = &["name", "x", "y", "z", "plane", "height"];
-    let Some(mut rows) = TableRows::under_header(alloc, bytes, header)? else {
-        return Err(TableAnswer::broken(TableName::Points, 1, FaultKind::Header));
-    };
-    let mut row = TableRow::new(alloc);
-    let mut points = Points::new(alloc);
-    'rows: while rows.next(&mut row)? {
-        add_record(alloc, &row, &mut points)?;
+    match read_named_table(alloc, bytes, &PointTable) {
+        Ok(records) => Ok(Points::of(records)),
+        Err(refusal) => Err(TableAnswer::of(TableName::Points, refusal)),
     }
-    Ok(points)
 }

@@ -1,5 +1,5 @@
-use crate::name::Name;
 use crate::part::Part;
+use table_columns::{Name, NamedRecord};
 
 /// A point, as a record of the table gives it.
 #[derive(Debug, Drop)]
@@ -16,4 +16,12 @@ pub struct PointRecord {
     pub plane: Part,
     /// Its height part: a point that has one has z. A limit is in tenths of a millimetre.
     pub height: Part,
+}
+
+impl NamedRecord for PointRecord {
+    ghost name_of = { λ point. point.name };
+
+    fn name(&self) -> &[u8] {
+        self.name.bytes()
+    }
 }

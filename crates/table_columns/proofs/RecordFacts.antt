@@ -1,5 +1,5 @@
 -- Which rule of a record is broken first, and what holds of the records of a table of names.
-use Rattle.std.proofs.Common.{◌≡◌, ◌∙◌, ◌+◌, ◌≤◌, ℕ, Bool, true, false, List, [], ◌∷◌, ◌++◌, Option, Some, None, length, map, refl, sym, ap, arith, drop, subst, length-append}
+use Rattle.std.proofs.Common.{◌≡◌, ◌∙◌, ◌+◌, ◌-◌, ◌≤◌, ℕ, Bool, true, false, List, [], ◌∷◌, ◌++◌, Option, Some, None, length, map, refl, sym, ap, arith, drop, subst, length-append}
 use Rattle.std.specs.Prelude.{if◌then◌else◌, nat_lt, slice_get}
 use Rattle.std.specs.List.{IsDistinct}
 use Rattle.std.proofs.lemmas.Bool.Decides.{nat_tests}
@@ -72,7 +72,7 @@ unfolding IsDistinct
 none-named name most IsRight = record { few = omega arith; apart = tt; each = All-nil IsRight }
 
 pub named-push : {R : Type 0} (name : R → List ℕ) (most : ℕ) (IsRight : R → Type 0) (before after : List R) (added : R) → length before + 2 ≤ most
-    → is_among (name added) (map name before) ≡ false → IsRight added → after ≡ before ++ added ∷ [] → AreNamed name most IsRight before → AreNamed name most IsRight after
+    → is_among (name added) (map name before) ≡ false → IsRight added → after ≡ before ++ added ∷ [] → AreNamed name (most - 1) IsRight before → AreNamed name (most - 1) IsRight after
 named-push name most IsRight before after added few other right more are = rw more record {
   few = omega (arith, few, length-append before (added ∷ []));
   apart = apart-push name before added are.apart other;

@@ -1,4 +1,4 @@
-ghost use Rattle.std.specs.Prelude.{◌≡◌, ◌≤◌, ℕ, List, true, IfOk, drop, length, map};
+ghost use Rattle.std.specs.Prelude.{◌≡◌, ◌-◌, ◌≤◌, ℕ, List, true, IfOk, drop, length, map};
 ghost use Rattle.table_rows.specs.Faults.{first_fault};
 ghost use Rattle.table_rows.specs.Rows.{table_rows};
 ghost use Rattle.table_columns.specs.Columns.{NamedRules, name_at, named_table};
@@ -64,7 +64,9 @@ struct ByName<'a, T> {
 
 impl<'a, T: NamedTable> Table for ByName<'a, T> {
     type Kind = T::Kind;
+
     type Record = T::Record;
+
     type Records = NamedRecords<T::Record>;
 
     ghost asks = { λ by. named_table (T.asks by.table.now) };
@@ -73,7 +75,7 @@ impl<'a, T: NamedTable> Table for ByName<'a, T> {
 
     ghost seen = { λ records. records };
 
-    ghost AreRight = { λ by. AreNamed T.Record.name_of (T.asks by.table.now).shape.most (T.IsRight by.table.now) };
+    ghost AreRight = { λ by. AreNamed T.Record.name_of ((T.asks by.table.now).shape.most - 1) (T.IsRight by.table.now) };
 
     fn header(&self) -> &'static [&'static str] {
         self.table.header()
@@ -118,7 +120,7 @@ pub fn read_named_table<T: NamedTable>(
     table: &T,
 ) -> Result<NamedRecords<T::Record>, Refusal<T::Kind>>
     ensures answer { AnswersBy (λ records. records) (first_fault (named_table (T.asks table.now)) bytes.now) (map (T.value_of table.now) (drop 1 (table_rows bytes.now))) result }
-    ensures right { IfOk result (AreNamed T.Record.name_of (T.asks table.now).shape.most (T.IsRight table.now)) }
+    ensures right { IfOk result (AreNamed T.Record.name_of ((T.asks table.now).shape.most - 1) (T.IsRight table.now)) }
 {
     read_table(alloc, bytes, &ByName { table })
 }

@@ -43,7 +43,12 @@ pub trait Table {
 
     /// Adds what a record is read as to what the records `before` it were read as, or says which of
     /// its rules it breaks first.
-    fn add(&self, alloc: Global, row: &TableRow, records: &mut Self::Records) -> Result<(), Refusal<Self::Kind>>
+    fn add(
+        &self,
+        alloc: Global,
+        row: &TableRow,
+        records: &mut Self::Records,
+    ) -> Result<(), Refusal<Self::Kind>>
         ensures added { (before : List (List (List ℕ))) → seen records.old ≡ map (value_of self.now) before
             → Adds (length before + 2) ((asks self.now).rules (length before + 2) row.now before) (value_of self.now row.now) (seen records.old) (seen records.new) result }
         ensures right { OnOk result (AreRight self.now (seen records.old) → AreRight self.now (seen records.new)) };

@@ -3,7 +3,8 @@ use Rattle.std.proofs.lemmas.Result.{err_from_is_err_and}
 use Rattle.table_rows.specs.Faults.{first_broken}
 use Rattle.point_tables.specs.PointTable.{coordinate_rules, part_rules}
 use Rattle.point_tables.specs.Read.{IsCoordinateOf, IsPartOf}
-use Rattle.point_tables.proofs.ColumnFacts.{at-field, broken-height, broken-missing, broken-plane, broken-x, broken-y, broken-z, keeps-coordinate, keeps-part, missing-none, missing-some}
+use Rattle.table_columns.proofs.RecordFacts.{at-field}
+use Rattle.point_tables.proofs.ColumnFacts.{broken-height, broken-missing, broken-plane, broken-x, broken-y, broken-z, keeps-coordinate, keeps-part, missing-none, missing-some}
 use Rattle.point_tables.proofs.columns.read_columns.Goals as goal
 
 pub returns-in_err-x : goal.returns-in_err-x

@@ -1,7 +1,7 @@
 use Rattle.std.proofs.Common.{◌≡◌, ◌∙◌, Some, ap, sym, subst, rules, FitsSigned, w64, false}
 use Rattle.std.proofs.lemmas.Int.{to_z-of_z}
 use Rattle.table_rows.specs.Faults.{first_broken}
-use Rattle.point_tables.specs.Columns.{is_empty}
+use Rattle.table_columns.specs.Columns.{is_empty}
 use Rattle.point_tables.specs.Read.{IsCoordinateOf}
 use Rattle.point_tables.proofs.ColumnFacts.{coordinate-given, coordinate-none, coordinate-some}
 use Rattle.point_tables.proofs.columns.read_coordinate.Goals as goal

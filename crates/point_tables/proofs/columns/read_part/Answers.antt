@@ -3,7 +3,7 @@ use Rattle.std.specs.Prelude.{unsigned_abs}
 use Rattle.std.specs.Str.{bytes_eq}
 use Rattle.std.proofs.lemmas.Int.{to_z-of_z}
 use Rattle.table_rows.specs.Faults.{first_broken}
-use Rattle.point_tables.specs.Columns.{is_empty}
+use Rattle.table_columns.specs.Columns.{is_empty}
 use Rattle.point_tables.specs.PointTable.{is_fixed}
 use Rattle.point_tables.proofs.ColumnFacts.{part-absent, part-fixed, part-given, part-new}
 use Rattle.point_tables.proofs.columns.read_part.Goals as goal

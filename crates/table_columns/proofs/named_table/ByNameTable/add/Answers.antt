@@ -71,5 +71,5 @@ returns-clause-right g c =
     let other = at-field (λ t. is_among t (map g.T.Record.NamedRecord.name_of c.args.records.now) ≡ false) c.args.row.now 0 c.field-text.result.now c.field-text.ensures text in
     let name : g.T.Record.NamedRecord.name_of c.in-Ok-read_columns.added ≡ name_at c.args.row.now =
     ap g.T.Record.NamedRecord.name_of c.in-Ok-read_columns.ensures.value.1 ∙ g.met.T.NamedTable.named c.args.self.now.table.now c.args.row.now in
-    named-push g.T.Record.NamedRecord.name_of _ (g.T.NamedTable.IsRight c.args.self.now.table.now) c.args.records.now c.push.new.self c.in-Ok-read_columns.added size
+    named-push g.T.Record.NamedRecord.name_of (g.T.NamedTable.asks c.args.self.now.table.now).shape.most (g.T.NamedTable.IsRight c.args.self.now.table.now) c.args.records.now c.push.new.self c.in-Ok-read_columns.added size
     (rw name other) c.in-Ok-read_columns.ensures.right c.in_ok-push.ensures.ok
