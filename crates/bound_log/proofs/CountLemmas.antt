@@ -1,18 +1,18 @@
 -- Lines are counted one after another.
-use Rattle.std.proofs.Common.{◌≡◌, ℕ, ◌+◌, cond, Bool, List, ◌++◌, arith, ap, sym, ◌∙◌}
+use Rattle.std.proofs.Common.{◌≡◌, ℕ, ◌+◌, cond, Bool, List, ◌++◌, map, arith, ap, sym, ◌∙◌}
 use Rattle.std.specs.Prelude.{count_by}
+use Rattle.std.proofs.lemmas.List.{map-append}
 use Rattle.std.proofs.lemmas.List.Sums.{sum_by-append}
 use Rattle.geo_model.specs.declared.answer.Counts.{Counts}
-use Rattle.bound_log.specs.Counted.{counted, counted_on, counts_of, counts_with, is_split, is_cost, is_pivot}
-use Rattle.bound_log.specs.Tree.{LineOf}
+use Rattle.bound_log.specs.declared.line_kind.LineKind.{LineKind}
+use Rattle.bound_log.specs.declared.log_line.LogLine.{LogLine}
+use Rattle.bound_log.specs.Counted.{counted_on, counts_of, counts_with, is_split, is_cost, is_pivot, no_counts}
+use Rattle.bound_log.specs.Lines.{kind_of}
 
-counted_on-then : (before : ℕ) (test : LineOf → Bool) (xs ys : List LineOf) → counted_on (counted_on before test xs) test ys ≡ counted_on before test (xs ++ ys)
+counted_on-then : (before : ℕ) (test : LineKind → Bool) (xs ys : List LineKind) → counted_on (counted_on before test xs) test ys ≡ counted_on before test (xs ++ ys)
 counted_on-then before test xs ys =
     let all : count_by test (xs ++ ys) ≡ count_by test xs + count_by test ys = sum_by-append (λ l. cond (test l) 1 0) xs ys in
     omega arith
-
-counted_on-none : (test : LineOf → Bool) (lines : List LineOf) → counted_on 0 test lines ≡ counted test lines
-counted_on-none test lines = omega arith
 
 -- counts from their parts
 abbrev made : ℕ → ℕ → ℕ → ℕ → ℕ → Counts
@@ -23,15 +23,11 @@ same_parts a b c x y z cuts duals one two three =
     ap (λ n. made n b c cuts duals) one ∙ ap (λ n. made x n c cuts duals) two ∙ ap (λ n. made x y n cuts duals) three
 
 -- lines are counted one after another
-pub counts_with-then : (before : Counts) (xs ys : List LineOf) → counts_with (counts_with before xs) ys ≡ counts_with before (xs ++ ys)
+pub counts_with-then : (before : Counts) (xs ys : List LineKind) → counts_with (counts_with before xs) ys ≡ counts_with before (xs ++ ys)
 counts_with-then before xs ys =
     same_parts _ _ _ _ _ _ before.cuts before.duals
     (counted_on-then before.splits is_split xs ys) (counted_on-then before.costs is_cost xs ys) (counted_on-then before.pivots is_pivot xs ys)
 
--- counts of lines begin with none
-pub counts_with-none : (lines : List LineOf) → counts_with (made 0 0 0 0 0) lines ≡ counts_of lines
-counts_with-none lines =
-    same_parts _ _ _ _ _ _ 0 0 (counted_on-none is_split lines) (counted_on-none is_cost lines) (counted_on-none is_pivot lines)
-
-pub counts_of-then : (xs ys : List LineOf) → counts_with (counts_of xs) ys ≡ counts_of (xs ++ ys)
-counts_of-then xs ys = ap (λ before. counts_with before ys) (sym (counts_with-none xs)) ∙ counts_with-then (made 0 0 0 0 0) xs ys ∙ counts_with-none (xs ++ ys)
+pub counts_of-then : (xs ys : List LogLine) → counts_with (counts_of xs) (map kind_of ys) ≡ counts_of (xs ++ ys)
+counts_of-then xs ys =
+    counts_with-then no_counts (map kind_of xs) (map kind_of ys) ∙ ap (counts_with no_counts) (sym (map-append kind_of xs ys))

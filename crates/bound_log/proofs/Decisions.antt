@@ -11,7 +11,9 @@ use Rattle.lent_parts.specs.Pieces.{tokens_of}
 use Rattle.bound_log.specs.Grammar.{number_bound, HasNumbersBelow, IsLine, IsNumber, IsShortNumeral}
 use Rattle.bound_log.specs.LogLines.{words_of}
 use Rattle.bound_log.specs.LogText.{line_words}
-use Rattle.bound_log.specs.Tree.{LineOf, split, leaf, cost, pivot}
+use Rattle.bound_log.specs.declared.log_leaf.LogLeaf.TheVariants.{Cost, Pivot}
+use Rattle.bound_log.specs.declared.log_line.LogLine.{LogLine}
+use Rattle.bound_log.specs.declared.log_line.LogLine.TheVariants.{Split, Leaf}
 use Rattle.bound_log.proofs.GrammarLemmas.{words_of_line, line_of_words}
 use Rattle.bound_log.proofs.NumberLemmas.{numeral_of, number_of_numeral}
 
@@ -90,49 +92,49 @@ number text = elim (numeral text) [
 ]
 
 -- a line with these words
-record Spells (words : List (List ℕ)) : Type 0 where
-  line : LineOf
+record HasLine (words : List (List ℕ)) : Type 0 where
+  line : LogLine
   numbers : HasNumbersBelow number_bound line
   spelled : words ≡ line_words line
 
-no_words : (line : LineOf) → [] ≡ line_words line → ⊥
-no_words (split candidate) same = absurd (cc)
-no_words (leaf cost) same = absurd (cc)
-no_words (leaf (pivot limit)) same = absurd (cc)
+no_words : (line : LogLine) → [] ≡ line_words line → ⊥
+no_words (Split candidate) same = absurd (cc)
+no_words (Leaf Cost) same = absurd (cc)
+no_words (Leaf (Pivot limit)) same = absurd (cc)
 
-one_word : (a : List ℕ) (line : LineOf) → a ∷ [] ≡ line_words line → a ≡ codes "c"
-one_word a (split candidate) same = absurd (cc)
-one_word a (leaf cost) same = cc
-one_word a (leaf (pivot limit)) same = absurd (cc)
+one_word : (a : List ℕ) (line : LogLine) → a ∷ [] ≡ line_words line → a ≡ codes "c"
+one_word a (Split candidate) same = absurd (cc)
+one_word a (Leaf Cost) same = cc
+one_word a (Leaf (Pivot limit)) same = absurd (cc)
 
-second_word : (a b : List ℕ) (line : LineOf) → HasNumbersBelow number_bound line → a ∷ b ∷ [] ≡ line_words line → Writes b
-second_word a b (split candidate) small same = record { number = candidate; is = record { spelled = cc; size = small } }
-second_word a b (leaf cost) small same = absurd (cc)
-second_word a b (leaf (pivot limit)) small same = record { number = limit; is = record { spelled = cc; size = small } }
+second_word : (a b : List ℕ) (line : LogLine) → HasNumbersBelow number_bound line → a ∷ b ∷ [] ≡ line_words line → Writes b
+second_word a b (Split candidate) small same = record { number = candidate; is = record { spelled = cc; size = small.0 } }
+second_word a b (Leaf Cost) small same = absurd (cc)
+second_word a b (Leaf (Pivot limit)) small same = record { number = limit; is = record { spelled = cc; size = small.0 } }
 
-no_kind : (a b : List ℕ) (line : LineOf) → a ∷ b ∷ [] ≡ line_words line → (a ≡ codes "s" → ⊥) → (a ≡ codes "p" → ⊥) → ⊥
-no_kind a b (split candidate) same not_split not_pivot = not_split (cc)
-no_kind a b (leaf cost) same not_split not_pivot = absurd (cc)
-no_kind a b (leaf (pivot limit)) same not_split not_pivot = not_pivot (cc)
+no_kind : (a b : List ℕ) (line : LogLine) → a ∷ b ∷ [] ≡ line_words line → (a ≡ codes "s" → ⊥) → (a ≡ codes "p" → ⊥) → ⊥
+no_kind a b (Split candidate) same not_split not_pivot = not_split (cc)
+no_kind a b (Leaf Cost) same not_split not_pivot = absurd (cc)
+no_kind a b (Leaf (Pivot limit)) same not_split not_pivot = not_pivot (cc)
 
-many_words : (a b c : List ℕ) (more : List (List ℕ)) (line : LineOf) → a ∷ b ∷ c ∷ more ≡ line_words line → ⊥
-many_words a b c more (split candidate) same = absurd (cc)
-many_words a b c more (leaf cost) same = absurd (cc)
-many_words a b c more (leaf (pivot limit)) same = absurd (cc)
+many_words : (a b c : List ℕ) (more : List (List ℕ)) (line : LogLine) → a ∷ b ∷ c ∷ more ≡ line_words line → ⊥
+many_words a b c more (Split candidate) same = absurd (cc)
+many_words a b c more (Leaf Cost) same = absurd (cc)
+many_words a b c more (Leaf (Pivot limit)) same = absurd (cc)
 
-kind_and_number : (a b : List ℕ) → Writes b → Decided (Spells (a ∷ b ∷ []))
+kind_and_number : (a b : List ℕ) → Writes b → Decided (HasLine (a ∷ b ∷ []))
 kind_and_number a b found = elim (same_text a (codes "s")) [
-  | inl same ↦ inl (record { line = split found.number; numbers = found.is.size; spelled = ap₂ (λ x y. x ∷ y ∷ []) same found.is.spelled })
+  | inl same ↦ inl (record { line = Split found.number; numbers = (found.is.size, tt); spelled = ap₂ (λ x y. x ∷ y ∷ []) same found.is.spelled })
   | inr not_split ↦ elim (same_text a (codes "p")) [
-    | inl same ↦ inl (record { line = leaf (pivot found.number); numbers = found.is.size; spelled = ap₂ (λ x y. x ∷ y ∷ []) same found.is.spelled })
+    | inl same ↦ inl (record { line = Leaf (Pivot found.number); numbers = (found.is.size, tt); spelled = ap₂ (λ x y. x ∷ y ∷ []) same found.is.spelled })
     | inr not_pivot ↦ inr (λ is. no_kind a b is.line is.spelled not_split not_pivot)
   ]
 ]
 
-spelled : (words : List (List ℕ)) → Decided (Spells words)
+spelled : (words : List (List ℕ)) → Decided (HasLine words)
 spelled [] = inr (λ is. no_words is.line is.spelled)
 spelled (a ∷ []) = elim (same_text a (codes "c")) [
-  | inl same ↦ inl (record { line = leaf cost; numbers = tt; spelled = ap (λ w. w ∷ []) same })
+  | inl same ↦ inl (record { line = Leaf Cost; numbers = tt; spelled = ap (λ w. w ∷ []) same })
   | inr other ↦ inr (λ is. other (one_word a is.line is.spelled))
 ]
 spelled (a ∷ b ∷ []) = elim (number b) [
@@ -143,7 +145,7 @@ spelled (a ∷ b ∷ c ∷ more) = inr (λ is. many_words a b c more is.line is.
 
 -- a line that a text, without its LF, is
 pub record Reads (text : List ℕ) : Type 0 where
-  pub line : LineOf
+  pub line : LogLine
   pub is : IsLine text line
 
 pub line_or_none : (text : List ℕ) → Decided (Reads text)

@@ -6,4 +6,5 @@ pub mod GrammarLemmas
 pub mod NumberLemmas
 pub mod OpenLemmas
 pub mod SoundLemmas
+pub mod SpellLemmas
 pub mod TreeLemmas

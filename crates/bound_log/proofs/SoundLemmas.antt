@@ -13,8 +13,9 @@ use Rattle.bound_log.specs.declared.bound.Bound.TheVariants.{NoPlan, AtLeast}
 use Rattle.bound_log.specs.Bound.{lesser, IsAtMost}
 use Rattle.bound_log.specs.LogTree.{root_of, with_chosen, without_chosen, IsAllowed, leaf_bound, bound_at, HasBound}
 use Rattle.bound_log.specs.Sound.{IsLowerBound}
-use Rattle.bound_log.specs.Tree.{cost, pivot, Tree, fork, tip}
-use Rattle.bound_log.proofs.AllowedLemmas.{pivot_refuted}
+use Rattle.bound_log.specs.declared.log_leaf.LogLeaf.TheVariants.{Cost, Pivot}
+use Rattle.bound_log.specs.Tree.{Tree, fork, tip}
+use Rattle.bound_log.proofs.AllowedLemmas.{pivot_refuted, split_open}
 
 -- Why the bound of a log is a lower bound.
 
@@ -66,8 +67,8 @@ each_named_meets network number limit plan all named =
 -- each plan between the inner and the upper plan of a node that meets the limits costs at least the bound
 pub bound_at-below : (network : NetworkOf) (node : Node) (tree : Tree) → IsNetwork network → IsAllowed network node tree → (plan : List Bool) → IsWithin node.inside plan → IsWithin plan node.upper → MeetsLimits network plan → IsAtMost (bound_at network node tree) (cost_of network.candidates plan)
 unfolding leaf_bound
-bound_at-below network node (tip cost) bounds allowed plan above below meets = cost_of-grows network.candidates node.inside plan above
-bound_at-below network node (tip (pivot number)) bounds allowed plan above below meets =
+bound_at-below network node (tip Cost) bounds allowed plan above below meets = cost_of-grows network.candidates node.inside plan above
+bound_at-below network node (tip (Pivot number)) bounds allowed plan above below meets =
     let by = pivot_refuted network node number allowed in
     let limit : LimitOf = by.limit in
     let kept : IsLimit network limit = each_named network number limit bounds.each_limit by.named in
@@ -75,7 +76,7 @@ bound_at-below network node (tip (pivot number)) bounds allowed plan above below
     each_named_meets network number limit plan meets by.named (IsInForce-grows limit node.inside plan above by.owned) in
     absurd (refuted_fails network plan node.upper limit bounds kept below by.refuted met)
 bound_at-below network node (fork candidate with_it without_it) bounds allowed plan above below meets =
-    let inside : candidate < length plan = omega (arith, IsWithin-length plan node.upper below, slice_get_within node.upper candidate true allowed.0.is_open.0) in
+    let inside : candidate < length plan = omega (arith, IsWithin-length plan node.upper below, slice_get_within node.upper candidate true (split_open network node candidate allowed.0).in_upper) in
     elim (entry_at plan candidate inside) [
       | inl has ↦ IsAtMost-lesser_left (bound_at network (with_chosen node candidate) with_it) (bound_at network (without_chosen node candidate) without_it) (cost_of network.candidates plan)
           (bound_at-below network (with_chosen node candidate) with_it bounds allowed.1 plan (IsWithin-with node.inside plan candidate above has) below meets)

@@ -8,11 +8,17 @@ use Rattle.lent_parts.specs.Pieces.{TextLineOf, lines_of}
 use Rattle.bound_log.specs.declared.bound.Bound.{Bound}
 use Rattle.bound_log.specs.Grammar.{number_bound, HasNumbersBelow, IsLine}
 use Rattle.bound_log.specs.LogText.{head_text, line_body, line_text, lines_text, log_text}
-use Rattle.bound_log.specs.LogTree.{root_of, with_chosen, without_chosen, IsAllowed, IsAllowedLine, bound_at, HasBound}
+use Rattle.bound_log.specs.Rules.{IsAllowedLine}
+use Rattle.bound_log.specs.Spells.{Spells}
+use Rattle.bound_log.specs.LogTree.{root_of, with_chosen, without_chosen, IsAllowed, bound_at, HasBound}
 use Rattle.bound_log.specs.Placed.{placed}
-use Rattle.bound_log.specs.Tree.{LineOf, split, leaf, cost, pivot, Tree, fork, tip, tree_lines}
+use Rattle.bound_log.specs.declared.log_leaf.LogLeaf.TheVariants.{Cost, Pivot}
+use Rattle.bound_log.specs.declared.log_line.LogLine.{LogLine}
+use Rattle.bound_log.specs.declared.log_line.LogLine.TheVariants.{Split, Leaf}
+use Rattle.bound_log.specs.Tree.{Tree, fork, tip, tree_lines}
 use Rattle.bound_log.proofs.AllowedLemmas.{line_numbers}
 use Rattle.bound_log.proofs.GrammarLemmas.{IsLine-body, a_text_is_one, lines_of-line_text}
+use Rattle.bound_log.proofs.SpellLemmas.{spelled_text}
 
 -- ---- a text has one list of lines
 
@@ -21,23 +27,23 @@ first_text [] = []
 first_text (line ∷ rest) = line.text
 
 -- what begins with a line begins with no other, and goes on with one text
-pub record SameStart (a b : LineOf) (x y : List ℕ) : Type 0 where
+pub record SameStart (a b : LogLine) (x y : List ℕ) : Type 0 where
   pub line : a ≡ b
   pub rest : x ≡ y
 
-pub same_start : (a b : LineOf) (x y : List ℕ) → HasNumbersBelow number_bound a → HasNumbersBelow number_bound b → line_text a ++ x ≡ line_text b ++ y → SameStart a b x y
+pub same_start : (a b : LogLine) (x y : List ℕ) → HasNumbersBelow number_bound a → HasNumbersBelow number_bound b → line_text a ++ x ≡ line_text b ++ y → SameStart a b x y
 same_start a b x y small also same =
     let body : line_body a ≡ line_body b = ap first_text (sym (lines_of-line_text a x small) ∙ ap lines_of same ∙ lines_of-line_text b y also) in
     let line : a ≡ b = a_text_is_one (line_body a) a b (IsLine-body a small) (subst (λ text. IsLine text b) (sym body) (IsLine-body b also)) in
     record { line = line; rest = append_cancel_left (line_text a) x y (same ∙ ap (λ l. line_text l ++ y) (sym line)) }
 
 -- a line has at least its LF
-pub some_text : (line : LineOf) (rest : List ℕ) → [] ≡ line_text line ++ rest → ⊥
-some_text (split candidate) rest same = absurd (cc)
-some_text (leaf cost) rest same = absurd (cc)
-some_text (leaf (pivot limit)) rest same = absurd (cc)
+pub some_text : (line : LogLine) (rest : List ℕ) → [] ≡ line_text line ++ rest → ⊥
+some_text (Split candidate) rest same = absurd (cc)
+some_text (Leaf Cost) rest same = absurd (cc)
+some_text (Leaf (Pivot limit)) rest same = absurd (cc)
 
-pub lines_text-apart : (xs ys : List LineOf) → All (HasNumbersBelow number_bound) xs → All (HasNumbersBelow number_bound) ys → lines_text xs ≡ lines_text ys → xs ≡ ys
+pub lines_text-apart : (xs ys : List LogLine) → All (HasNumbersBelow number_bound) xs → All (HasNumbersBelow number_bound) ys → lines_text xs ≡ lines_text ys → xs ≡ ys
 lines_text-apart [] [] small also same = refl
 lines_text-apart [] (y ∷ ys) small also same = absurd (some_text y (lines_text ys) same)
 lines_text-apart (x ∷ xs) [] small also same = absurd (some_text x (lines_text xs) (sym same))
@@ -48,11 +54,11 @@ lines_text-apart (x ∷ xs) (y ∷ ys) small also same =
 
 -- ---- lines have one tree
 
-record SameTree (a b : Tree) (x y : List LineOf) : Type 0 where
+record SameTree (a b : Tree) (x y : List LogLine) : Type 0 where
   tree : a ≡ b
   rest : x ≡ y
 
-same_tree : (a b : Tree) (x y : List LineOf) → tree_lines a ++ x ≡ tree_lines b ++ y → SameTree a b x y
+same_tree : (a b : Tree) (x y : List LogLine) → tree_lines a ++ x ≡ tree_lines b ++ y → SameTree a b x y
 same_tree (tip e) (tip f) x y same =
     let ends : e ≡ f = cc in
     record { tree = ap tip ends; rest = cc }
@@ -68,8 +74,9 @@ same_tree (fork c a1 a2) (fork d b1 b2) x y same =
     let two : a2 ≡ b2 = second.tree in
     record { tree = cc; rest = second.rest }
 
-pub one_tree : (a b : Tree) → All (HasNumbersBelow number_bound) (tree_lines a) → All (HasNumbersBelow number_bound) (tree_lines b) → log_text a ≡ log_text b → a ≡ b
-one_tree a b small also same =
+pub one_tree : (text : List ℕ) (a b : Tree) → All (HasNumbersBelow number_bound) (tree_lines a) → All (HasNumbersBelow number_bound) (tree_lines b) → Spells text a → Spells text b → a ≡ b
+one_tree text a b small also first second =
+    let same : log_text a ≡ log_text b = sym (spelled_text text a first) ∙ spelled_text text b second in
     let lines : tree_lines a ≡ tree_lines b =
     lines_text-apart (tree_lines a) (tree_lines b) small also (append_cancel_left head_text (lines_text (tree_lines a)) (lines_text (tree_lines b)) same) in
     (same_tree a b [] [] (ap (λ l. l ++ []) lines)).tree
@@ -79,9 +86,9 @@ one_tree a b small also same =
 -- the numbers of an allowed tree have at most 19 digits
 allowed_numbers : (network : NetworkOf) (node : Node) (tree : Tree) → IsNetwork network → IsAllowed network node tree → All (HasNumbersBelow number_bound) (tree_lines tree)
 allowed_numbers network node (tip end) bounds allowed =
-    All-cons (HasNumbersBelow number_bound) (leaf end) [] (line_numbers network node (leaf end) bounds allowed) (All-nil (HasNumbersBelow number_bound))
+    All-cons (HasNumbersBelow number_bound) (Leaf end) [] (line_numbers network node (Leaf end) bounds allowed) (All-nil (HasNumbersBelow number_bound))
 allowed_numbers network node (fork candidate with_it without_it) bounds allowed =
-    All-cons (HasNumbersBelow number_bound) (split candidate) (tree_lines with_it ++ tree_lines without_it) (line_numbers network node (split candidate) bounds allowed.0)
+    All-cons (HasNumbersBelow number_bound) (Split candidate) (tree_lines with_it ++ tree_lines without_it) (line_numbers network node (Split candidate) bounds allowed.0)
     (All-append (HasNumbersBelow number_bound) (tree_lines with_it) (tree_lines without_it)
     (allowed_numbers network (with_chosen node candidate) with_it bounds allowed.1)
     (allowed_numbers network (without_chosen node candidate) without_it bounds allowed.2))
@@ -89,21 +96,21 @@ allowed_numbers network node (fork candidate with_it without_it) bounds allowed 
 pub one_bound : (network : NetworkOf) (text : List ℕ) (a b : Bound) → IsNetwork network → HasBound network text a → HasBound network text b → a ≡ b
 one_bound network text a b bounds one other =
     let tree : one.tree ≡ other.tree =
-    one_tree one.tree other.tree
+    one_tree text one.tree other.tree
     (allowed_numbers network (root_of network) one.tree bounds one.log.allowed)
     (allowed_numbers network (root_of network) other.tree bounds other.log.allowed)
-    (sym one.log.spelled ∙ other.log.spelled) in
+    one.log.spells other.log.spells in
     one.least ∙ ap (bound_at network (root_of network)) tree ∙ sym other.least
 
 -- ---- a tree is allowed line by line
 
-abbrev Allowed : NetworkOf → Node × LineOf → Type 0
+abbrev Allowed : NetworkOf → Node × LogLine → Type 0
 Allowed network at = IsAllowedLine network at.0 at.1
 
 pub each_allowed : (network : NetworkOf) (node : Node) (tree : Tree) → IsAllowed network node tree → All (Allowed network) (placed node tree)
-each_allowed network node (tip end) allowed = All-cons (Allowed network) (node, leaf end) [] allowed (All-nil (Allowed network))
+each_allowed network node (tip end) allowed = All-cons (Allowed network) (node, Leaf end) [] allowed (All-nil (Allowed network))
 each_allowed network node (fork candidate with_it without_it) allowed =
-    All-cons (Allowed network) (node, split candidate) (placed (with_chosen node candidate) with_it ++ placed (without_chosen node candidate) without_it) allowed.0
+    All-cons (Allowed network) (node, Split candidate) (placed (with_chosen node candidate) with_it ++ placed (without_chosen node candidate) without_it) allowed.0
     (All-append (Allowed network) (placed (with_chosen node candidate) with_it) (placed (without_chosen node candidate) without_it)
     (each_allowed network (with_chosen node candidate) with_it allowed.1)
     (each_allowed network (without_chosen node candidate) without_it allowed.2))
@@ -120,19 +127,19 @@ both_parts P (x ∷ xs) ys each =
     record { left = All-cons P x xs (All-head P x (xs ++ ys) each) more.left; right = more.right }
 
 pub allowed_by_each : (network : NetworkOf) (node : Node) (tree : Tree) → All (Allowed network) (placed node tree) → IsAllowed network node tree
-allowed_by_each network node (tip end) each = All-head (Allowed network) (node, leaf end) [] each
+allowed_by_each network node (tip end) each = All-head (Allowed network) (node, Leaf end) [] each
 allowed_by_each network node (fork candidate with_it without_it) each =
     let first = placed (with_chosen node candidate) with_it in
     let second = placed (without_chosen node candidate) without_it in
-    let below = both_parts (Allowed network) first second (All-tail (Allowed network) (node, split candidate) (first ++ second) each) in (
-      All-head (Allowed network) (node, split candidate) (first ++ second) each,
+    let below = both_parts (Allowed network) first second (All-tail (Allowed network) (node, Split candidate) (first ++ second) each) in (
+      All-head (Allowed network) (node, Split candidate) (first ++ second) each,
       allowed_by_each network (with_chosen node candidate) with_it below.left,
       allowed_by_each network (without_chosen node candidate) without_it below.right,
     )
 
-pub placed_lines : (node : Node) (tree : Tree) → map {A = Node × LineOf} {B = LineOf} (λ at. at.1) (placed node tree) ≡ tree_lines tree
+pub placed_lines : (node : Node) (tree : Tree) → map {A = Node × LogLine} {B = LogLine} (λ at. at.1) (placed node tree) ≡ tree_lines tree
 placed_lines node (tip end) = refl
 placed_lines node (fork candidate with_it without_it) =
-    ap (λ rest. split candidate ∷ rest)
+    ap (λ rest. Split candidate ∷ rest)
     (map-append (λ at. at.1) (placed (with_chosen node candidate) with_it) (placed (without_chosen node candidate) without_it)
     ∙ ap₂ (λ xs ys. xs ++ ys) (placed_lines (with_chosen node candidate) with_it) (placed_lines (without_chosen node candidate) without_it))

@@ -1,41 +1,45 @@
-use Rattle.std.specs.Prelude.{ℕ, ◌+◌, ◌-◌, ◌^◌, min, Bool, true, false, List, count_by}
+use Rattle.std.specs.Prelude.{ℕ, ◌+◌, ◌-◌, ◌^◌, min, Bool, true, false, List, map, count_by}
 use Rattle.geo_model.specs.declared.answer.Counts.{Counts}
-use Rattle.bound_log.specs.Tree.{LineOf, split, leaf, cost, pivot}
+use Rattle.bound_log.specs.declared.line_kind.LineKind.{LineKind}
+use Rattle.bound_log.specs.declared.line_kind.LineKind.TheVariants.{Split, Cost, Pivot}
+use Rattle.bound_log.specs.declared.log_line.LogLine.{LogLine}
+use Rattle.bound_log.specs.Lines.{kind_of}
 
 -- How many lines of each kind a log has. A count that has reached 2^64 - 1 stays there. This project's own.
 
-abbrev pub is_split : LineOf → Bool
-is_split (split candidate) = true
-is_split (leaf end) = false
+abbrev pub is_split : LineKind → Bool
+is_split Split = true
+is_split Cost = false
+is_split Pivot = false
 
-abbrev pub is_cost : LineOf → Bool
-is_cost (split candidate) = false
-is_cost (leaf cost) = true
-is_cost (leaf (pivot limit)) = false
+abbrev pub is_cost : LineKind → Bool
+is_cost Split = false
+is_cost Cost = true
+is_cost Pivot = false
 
-abbrev pub is_pivot : LineOf → Bool
-is_pivot (split candidate) = false
-is_pivot (leaf cost) = false
-is_pivot (leaf (pivot limit)) = true
+abbrev pub is_pivot : LineKind → Bool
+is_pivot Split = false
+is_pivot Cost = false
+is_pivot Pivot = true
 
--- how many lines pass, up to the last value of a counter
-abbrev pub counted : (LineOf → Bool) → List LineOf → ℕ
-counted test lines = min (count_by test lines) (2 ^ 64 - 1)
+-- a count with the kinds that pass besides
+abbrev pub counted_on : ℕ → (LineKind → Bool) → List LineKind → ℕ
+counted_on before test kinds = min (before + count_by test kinds) (2 ^ 64 - 1)
 
--- the counts of lines
-abbrev pub counts_of : List LineOf → Counts
-counts_of lines = record { splits = counted is_split lines; costs = counted is_cost lines; pivots = counted is_pivot lines; cuts = 0; duals = 0 }
-
--- a count with the lines that pass besides
-abbrev pub counted_on : ℕ → (LineOf → Bool) → List LineOf → ℕ
-counted_on before test lines = min (before + count_by test lines) (2 ^ 64 - 1)
-
--- counts with the lines besides
-abbrev pub counts_with : Counts → List LineOf → Counts
-counts_with before lines = record {
-  splits = counted_on before.splits is_split lines;
-  costs = counted_on before.costs is_cost lines;
-  pivots = counted_on before.pivots is_pivot lines;
+-- counts with lines of these kinds besides
+abbrev pub counts_with : Counts → List LineKind → Counts
+counts_with before kinds = record {
+  splits = counted_on before.splits is_split kinds;
+  costs = counted_on before.costs is_cost kinds;
+  pivots = counted_on before.pivots is_pivot kinds;
   cuts = before.cuts;
   duals = before.duals;
 }
+
+-- no line is counted
+abbrev pub no_counts : Counts
+no_counts = record { splits = 0; costs = 0; pivots = 0; cuts = 0; duals = 0 }
+
+-- the counts of lines
+abbrev pub counts_of : List LogLine → Counts
+counts_of lines = counts_with no_counts (map kind_of lines)

@@ -2,10 +2,12 @@
 use Rattle.std.specs.Prelude.{◌≡◌, true, ℕ, ◌<◌, ◌≤◌, ◌^◌, ◌⊎◌, List, [], ◌∷◌, ◌++◌, length}
 use Rattle.std.specs.Fmt.{decimal}
 use Rattle.std.specs.Int.{IsInRange}
+use Rattle.std.specs.List.{AllByRecursion}
 use Rattle.std.specs.Str.Parse.{AllDigits}
 use Rattle.lent_parts.specs.Pieces.{TextLineOf}
+use Rattle.bound_log.specs.declared.log_line.LogLine.{LogLine}
+use Rattle.bound_log.specs.Lines.{numbers_of}
 use Rattle.bound_log.specs.LogText.{line_body, line_text, line_end}
-use Rattle.bound_log.specs.Tree.{LineOf, split, leaf, cost, pivot}
 
 -- ---- numbers
 
@@ -26,16 +28,14 @@ IsShortNumeral (c ∷ rest) = ((c ≡ 48) × (rest ≡ [])) ⊎ (IsInRange 49 57
 -- ---- lines
 
 -- each number of the line is below the bound
-abbrev pub HasNumbersBelow : ℕ → LineOf → Type 0
-HasNumbersBelow bound (split candidate) = candidate < bound
-HasNumbersBelow bound (leaf cost) = Unit {0}
-HasNumbersBelow bound (leaf (pivot limit)) = limit < bound
+abbrev pub HasNumbersBelow : ℕ → LogLine → Type 0
+HasNumbersBelow bound line = AllByRecursion (λ number. number < bound) (numbers_of line)
 
 -- the text, without LF, is that of the line, and the line's numbers have at most 19 digits
-pub record IsLine (text : List ℕ) (line : LineOf) : Type 0 where
+pub record IsLine (text : List ℕ) (line : LogLine) : Type 0 where
   pub spelled : text ++ line_end ≡ line_text line
   pub numbers : HasNumbersBelow number_bound line
 
 -- a line as it is cut from a text
-abbrev pub text_line : LineOf → TextLineOf
+abbrev pub text_line : LogLine → TextLineOf
 text_line line = record { text = line_body line; ended = true }

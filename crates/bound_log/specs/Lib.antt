@@ -1,10 +1,13 @@
 pub mod Bound
 pub mod Counted
 pub mod Grammar
+pub mod Lines
 pub mod LogLines
 pub mod LogText
 pub mod LogTree
 pub mod OpenCount
 pub mod Placed
+pub mod Rules
 pub mod Sound
+pub mod Spells
 pub mod Tree

@@ -2,7 +2,10 @@ use Rattle.std.specs.Prelude.{ℕ, List, [], ◌∷◌, ◌++◌, codes, flat_ma
 use Rattle.std.specs.Fmt.{decimal}
 use Rattle.std.specs.List.{join_with_byte}
 use Rattle.lent_parts.specs.Pieces.{space}
-use Rattle.bound_log.specs.Tree.{LineOf, split, leaf, cost, pivot, Tree, tree_lines}
+use Rattle.bound_log.specs.declared.log_leaf.LogLeaf.TheVariants.{Cost, Pivot}
+use Rattle.bound_log.specs.declared.log_line.LogLine.{LogLine}
+use Rattle.bound_log.specs.declared.log_line.LogLine.TheVariants.{Split, Leaf}
+use Rattle.bound_log.specs.Tree.{Tree, tree_lines}
 
 -- The bytes of a log. This project's own.
 
@@ -19,21 +22,21 @@ abbrev pub head_text : List ℕ
 head_text = head_body ++ line_end
 
 -- the words of a line: `s C`, `c` or `p L`
-abbrev pub line_words : LineOf → List (List ℕ)
-line_words (split candidate) = codes "s" ∷ decimal candidate ∷ []
-line_words (leaf cost) = codes "c" ∷ []
-line_words (leaf (pivot limit)) = codes "p" ∷ decimal limit ∷ []
+abbrev pub line_words : LogLine → List (List ℕ)
+line_words (Split candidate) = codes "s" ∷ decimal candidate ∷ []
+line_words (Leaf Cost) = codes "c" ∷ []
+line_words (Leaf (Pivot limit)) = codes "p" ∷ decimal limit ∷ []
 
 -- a line without its LF: its words, with one space between two
-abbrev pub line_body : LineOf → List ℕ
+abbrev pub line_body : LogLine → List ℕ
 line_body line = join_with_byte space (line_words line)
 
 -- a line with its LF
-abbrev pub line_text : LineOf → List ℕ
+abbrev pub line_text : LogLine → List ℕ
 line_text line = line_body line ++ line_end
 
 -- lines, one after another
-abbrev pub lines_text : List LineOf → List ℕ
+abbrev pub lines_text : List LogLine → List ℕ
 lines_text lines = flat_map line_text lines
 
 -- a log with this tree: the first line, and the lines of the tree

@@ -9,8 +9,12 @@ use Rattle.pivot_chain.specs.Verdict.{verdict_of}
 use Rattle.bound_log.specs.declared.bound.Bound.{Bound}
 use Rattle.bound_log.specs.declared.bound.Bound.TheVariants.{NoPlan, AtLeast}
 use Rattle.bound_log.specs.Bound.{lesser}
-use Rattle.bound_log.specs.LogText.{log_text}
-use Rattle.bound_log.specs.Tree.{LineOf, split, leaf, Leaf, cost, pivot, Tree, fork, tip}
+use Rattle.bound_log.specs.declared.log_leaf.LogLeaf.{LogLeaf}
+use Rattle.bound_log.specs.declared.log_leaf.LogLeaf.TheVariants.{Cost, Pivot}
+use Rattle.bound_log.specs.declared.log_line.LogLine.TheVariants.{Split, Leaf}
+use Rattle.bound_log.specs.Rules.{IsAllowedLine}
+use Rattle.bound_log.specs.Spells.{Spells}
+use Rattle.bound_log.specs.Tree.{Tree, fork, tip}
 
 -- Logs of a network, and their bounds. A node stands for all plans that contain its inner plan and lie in its
 -- upper one. This project's own.
@@ -27,37 +31,7 @@ with_chosen node candidate = record { inside = slice_set node.inside candidate t
 abbrev pub without_chosen : Node → ℕ → Node
 without_chosen node candidate = record { inside = node.inside; upper = slice_set node.upper candidate false }
 
--- ---- the tests of a line at its node
-
--- each number of the line is in its range
-abbrev pub IsInRange : NetworkOf → LineOf → Type 0
-IsInRange network (split candidate) = candidate < length network.candidates
-IsInRange network (leaf cost) = Unit {0}
-IsInRange network (leaf (pivot number)) = number < length network.limits
-
--- a split is on a candidate that the node leaves open: in its upper plan and not in its inner one
-abbrev pub IsOpenFor : Node → LineOf → Type 0
-IsOpenFor node (split candidate) = (slice_get node.upper candidate ≡ Some true) × (slice_get node.inside candidate ≡ Some false)
-IsOpenFor node (leaf end) = Unit {0}
-
--- a limit that the line names is in force for the inner plan: it has no owner, or the plan chooses its owner
-abbrev pub IsOwned : NetworkOf → Node → LineOf → Type 0
-IsOwned network node (split candidate) = Unit {0}
-IsOwned network node (leaf cost) = Unit {0}
-IsOwned network node (leaf (pivot number)) = (limit : LimitOf) → slice_get network.limits number ≡ Some limit → IsInForce limit node.inside
-
--- the verdict of the upper plan on the limit of a pivot line is Refuted
-abbrev pub IsRefuted : NetworkOf → Node → LineOf → Type 0
-IsRefuted network node (split candidate) = Unit {0}
-IsRefuted network node (leaf cost) = Unit {0}
-IsRefuted network node (leaf (pivot number)) = (limit : LimitOf) → slice_get network.limits number ≡ Some limit → verdict_of network node.upper limit ≡ Refuted
-
--- a line is allowed at a node: it passes each test
-pub record IsAllowedLine (network : NetworkOf) (node : Node) (line : LineOf) : Type 0 where
-  pub in_range : IsInRange network line
-  pub is_open : IsOpenFor node line
-  pub owned : IsOwned network node line
-  pub refuted : IsRefuted network node line
+-- ---- what a line wants of its node
 
 -- what a split wants of its candidate, in one record
 pub record IsOpenAt (network : NetworkOf) (node : Node) (candidate : ℕ) : Type 0 where
@@ -76,16 +50,16 @@ pub record IsRefutedBy (network : NetworkOf) (node : Node) (number : ℕ) : Type
 
 -- a tree is allowed at a node: each of its lines is allowed at its own node
 abbrev pub IsAllowed : NetworkOf → Node → Tree → Type 0
-IsAllowed network node (tip end) = IsAllowedLine network node (leaf end)
+IsAllowed network node (tip end) = IsAllowedLine network node (Leaf end)
 IsAllowed network node (fork candidate with_it without_it) =
-    IsAllowedLine network node (split candidate) ×
+    IsAllowedLine network node (Split candidate) ×
     IsAllowed network (with_chosen node candidate) with_it ×
     IsAllowed network (without_chosen node candidate) without_it
 
 -- the bound of a leaf at a node: the price of the inner plan, or that no plan is left
-unfoldable pub leaf_bound : NetworkOf → Node → Leaf → Bound
-leaf_bound network node cost = AtLeast (cost_of network.candidates node.inside)
-leaf_bound network node (pivot limit) = NoPlan
+unfoldable pub leaf_bound : NetworkOf → Node → LogLeaf → Bound
+leaf_bound network node Cost = AtLeast (cost_of network.candidates node.inside)
+leaf_bound network node (Pivot limit) = NoPlan
 
 -- the bound of a tree at a node: the least bound of its leaves
 abbrev pub bound_at : NetworkOf → Node → Tree → Bound
@@ -96,7 +70,7 @@ bound_at network node (fork candidate with_it without_it) =
 
 -- a text is a log of the network, with this tree
 pub record IsLog (network : NetworkOf) (text : List ℕ) (tree : Tree) : Type 0 where
-  pub spelled : text ≡ log_text tree
+  pub spells : Spells text tree
   pub allowed : IsAllowed network (root_of network) tree
 
 -- a text is a log of the network, and this is its bound

@@ -4,7 +4,7 @@ ghost use Rattle.std.specs.Str.Parse.{digits_value};
 ghost use Rattle.lent_parts.specs.Pieces.{lines_of};
 ghost use Rattle.bound_log.specs.Grammar.{HasNumbersBelow, IsLine, IsNumber, IsShortNumeral, number_bound, text_line};
 ghost use Rattle.bound_log.specs.LogText.{line_body, line_end, line_text, lines_text};
-ghost use Rattle.bound_log.specs.Tree.{LineOf};
+ghost use Rattle.bound_log.specs.declared.log_line.LogLine.{LogLine as LineOf};
 
 /// The texts of numbers are `0`, and a digit from 1 to 9 followed by at most 18 digits.
 pub fn numbers_are_numerals()

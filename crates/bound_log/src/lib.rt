@@ -17,6 +17,9 @@ mod count;
 mod grammar_laws;
 mod laws;
 mod line;
+mod line_kind;
+mod log_kind;
+mod log_leaf;
 mod log_line;
 mod number;
 mod read;
@@ -26,12 +29,15 @@ pub use bound::Bound;
 pub use count::{count_line, lines_are_counted_on};
 pub use grammar_laws::{a_text_is_one_line, numbers_are_numerals, written_lines_are_read};
 pub use laws::checker_is_sound;
-pub use line::{is_head, put_cost, put_head, put_pivot, put_split};
+pub use line::{is_head, put_cost, put_head, put_line, put_pivot, put_split};
+pub use line_kind::LineKind;
+pub use log_kind::LogKind;
+pub use log_leaf::LogLeaf;
 pub use log_line::LogLine;
 pub use read::read_line;
 pub use tree_laws::{
-    a_text_has_one_bound, a_text_has_one_tree, lines_are_allowed_by_their_kinds,
-    trees_are_allowed_line_by_line,
+    a_text_has_one_bound, a_text_has_one_tree, a_text_is_spelled, lines_are_allowed_by_their_kinds,
+    rules_say_what_is_allowed, trees_are_allowed_line_by_line,
 };
 
 #[cfg(test)]

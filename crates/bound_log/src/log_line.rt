@@ -1,12 +1,29 @@
-/// A line of a log, as it is read. Candidates and limits are told by their numbers, counted from 0,
-/// as they stand in the line, in their range or not.
+ghost use Rattle.std.specs.Prelude.{◌≡◌};
+ghost use Rattle.bound_log.specs.Lines.{kind_of};
+
+use crate::line_kind::LineKind;
+use crate::log_leaf::LogLeaf;
+
+/// A line of a log. Candidates and limits are told by their numbers, counted from 0, as they stand in
+/// the line, in their range or not.
 #[derive(Clone, Copy, Debug, PartialEq, Eq)]
 pub enum LogLine {
     /// A split on this candidate: the next lines are those of the child that chooses it, and then
     /// those of the child that leaves it out.
     Split(u64),
-    /// A leaf whose bound is the price of what its node chooses.
-    Cost,
-    /// A leaf that has no plan, since this limit refutes its node.
-    Pivot(u64),
+    /// A leaf, which ends its node.
+    Leaf(LogLeaf),
+}
+
+impl LogLine {
+    /// The kind of the line, as its first letter tells it.
+    pub fn kind(self) -> LineKind
+        ensures { result ≡ kind_of self }
+    {
+        match self {
+            LogLine::Split(_) => LineKind::Split,
+            LogLine::Leaf(LogLeaf::Cost) => LineKind::Cost,
+            LogLine::Leaf(LogLeaf::Pivot(_)) => LineKind::Pivot,
+        }
+    }
 }

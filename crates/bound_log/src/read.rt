@@ -1,9 +1,10 @@
 //! Reading the lines of a log, from lent tokens.
 ghost use Rattle.std.specs.Prelude.{◌≡◌, ℕ, List, ◌∷◌, IfSome, IfNone};
 ghost use Rattle.bound_log.specs.Grammar.{IsLine, IsNumber};
-ghost use Rattle.bound_log.specs.LogLines.{BeginsWith, log_line_of, words_of};
-ghost use Rattle.bound_log.specs.Tree.{LineOf};
+ghost use Rattle.bound_log.specs.LogLines.{WordsBeginWith, words_of};
+ghost use Rattle.bound_log.specs.declared.log_line.LogLine.{LogLine as LineOf};
 
+use crate::log_leaf::LogLeaf;
 use crate::log_line::LogLine;
 use crate::number::read_number;
 use lent_parts::{TokenWalk, tokens};
@@ -12,7 +13,7 @@ use lent_parts::{TokenWalk, tokens};
 /// or `p L`, with one space between two words, where a number is `0`, or a digit from 1 to 9 followed
 /// by at most 18 digits. It takes no memory.
 pub fn read_line(line: &[u8]) -> Option<LogLine>
-    ensures some { IfSome result (λ read. IsLine line.now (log_line_of read)) }
+    ensures some { IfSome result (λ read. IsLine line.now read) }
     ensures none { IfNone result ((other : LineOf) → IsLine line.now other → ⊥) }
 {
     let mut words = tokens(line);
@@ -27,14 +28,14 @@ pub fn read_line(line: &[u8]) -> Option<LogLine>
 
 // Reads the words of a line from the front. On None some may be taken.
 fn read_words(words: &mut TokenWalk<'_>) -> Option<LogLine>
-    ensures some { IfSome result (λ read. BeginsWith (words_of words.old) (log_line_of read) (words_of words.new)) }
-    ensures none { IfNone result ((other : LineOf) (after : List (List ℕ)) → BeginsWith (words_of words.old) other after → ⊥) }
+    ensures some { IfSome result (λ read. WordsBeginWith (words_of words.old) read (words_of words.new)) }
+    ensures none { IfNone result ((other : LineOf) (after : List (List ℕ)) → WordsBeginWith (words_of words.old) other after → ⊥) }
 {
     let Some(kind) = words.next() else {
         return None;
     };
     if kind.text == b"c".as_slice() {
-        Some(LogLine::Cost)
+        Some(LogLine::Leaf(LogLeaf::Cost))
     } else if kind.text == b"s".as_slice() {
         match next_number(words) {
             Some(candidate) => Some(LogLine::Split(candidate)),
@@ -42,7 +43,7 @@ fn read_words(words: &mut TokenWalk<'_>) -> Option<LogLine>
         }
     } else if kind.text == b"p".as_slice() {
         match next_number(words) {
-            Some(limit) => Some(LogLine::Pivot(limit)),
+            Some(limit) => Some(LogLine::Leaf(LogLeaf::Pivot(limit))),
             None => None,
         }
     } else {

@@ -21,10 +21,10 @@ fn lines_are_spelled(rt: HostRuntime) -> Result<(), Fail> {
 fn lines_are_read(rt: HostRuntime) {
     assert_eq!(rt; read_line(b"s 0"), Some(LogLine::Split(0)));
     assert_eq!(rt; read_line(b"s 255"), Some(LogLine::Split(255)));
-    assert_eq!(rt; read_line(b"c"), Some(LogLine::Cost));
+    assert_eq!(rt; read_line(b"c"), Some(LogLine::Leaf(LogLeaf::Cost)));
     assert_eq!(rt;
         read_line(b"p 9999999999999999999"),
-        Some(LogLine::Pivot(9999999999999999999))
+        Some(LogLine::Leaf(LogLeaf::Pivot(9999999999999999999)))
     );
     assert_eq!(rt; read_line(b"p 10000000000000000000"), None);
     assert_eq!(rt; read_line(b"s 00"), None);
@@ -51,7 +51,11 @@ fn put_lines_are_read(rt: HostRuntime) -> Result<(), Fail> {
     put_cost(&mut out)?;
     put_pivot(&mut out, 4294967295)?;
     let mut walk = lines(out.as_slice());
-    let wanted = [LogLine::Split(7), LogLine::Cost, LogLine::Pivot(4294967295)];
+    let wanted = [
+        LogLine::Split(7),
+        LogLine::Leaf(LogLeaf::Cost),
+        LogLine::Leaf(LogLeaf::Pivot(4294967295)),
+    ];
     for line in wanted {
         assert_eq!(rt;
             walk.next().and_then(|found| read_line(found.text)),
@@ -81,9 +85,9 @@ fn lines_are_counted(rt: HostRuntime) {
         cuts: 3,
         duals: 4,
     };
-    count_line(&mut counts, LogLine::Split(7));
-    count_line(&mut counts, LogLine::Cost);
-    count_line(&mut counts, LogLine::Pivot(0));
+    count_line(&mut counts, LogLine::Split(7).kind());
+    count_line(&mut counts, LogLine::Leaf(LogLeaf::Cost).kind());
+    count_line(&mut counts, LogLine::Leaf(LogLeaf::Pivot(0)).kind());
     assert_eq!(rt; (counts.splits, counts.costs), (1, u64::MAX));
     assert_eq!(rt;
         (counts.pivots, counts.cuts, counts.duals),

@@ -5,19 +5,23 @@ use Rattle.lent_parts.specs.Pieces.{TextLineOf, lines_of}
 use Rattle.geo_model.specs.Network.{NetworkOf}
 use Rattle.geo_model.specs.declared.plan.Node.{Node}
 use Rattle.bound_log.specs.Grammar.{IsLine}
-use Rattle.bound_log.specs.LogText.{head_body, head_text, lines_text}
-use Rattle.bound_log.specs.LogTree.{root_of, IsAllowedLine, IsLog}
-use Rattle.bound_log.specs.Tree.{LineOf, Tree}
+use Rattle.bound_log.specs.LogText.{head_body}
+use Rattle.bound_log.specs.declared.log_kind.LogKind.{LogKind}
+use Rattle.bound_log.specs.declared.log_kind.LogKind.TheVariants.{Extra, Form, Short}
+use Rattle.bound_log.specs.declared.log_line.LogLine.{LogLine}
+use Rattle.bound_log.specs.LogTree.{root_of, IsLog}
+use Rattle.bound_log.specs.Rules.{IsAllowedLine}
+use Rattle.bound_log.specs.Spells.{BeginsWith}
+use Rattle.bound_log.specs.Tree.{Tree}
+use Rattle.bound_log.proofs.SpellLemmas.{begins_line}
 use Rattle.bound_log.proofs.Decisions.{Decided, same_text, line_or_none}
 use Rattle.log_check.specs.declared.fault.LogFault.{LogFault}
-use Rattle.log_check.specs.declared.fault.LogKind.{LogKind}
-use Rattle.log_check.specs.declared.fault.LogKind.TheVariants.{Extra, Form, Short}
 use Rattle.log_check.specs.FirstFault.{IsFirstFault, later, short}
 use Rattle.log_check.specs.Reaching.{head_line}
 use Rattle.log_check.specs.Running.{opened, LeadsTo}
 use Rattle.log_check.specs.Taking.{Stops, no_node, no_line, no_rule}
-use Rattle.log_check.proofs.JudgeLemmas.{judged}
-use Rattle.log_check.proofs.ReachLemmas.{next_line, ended_bytes, fault_headless, one_more_line, left_none, not_whole, stopped_after}
+use Rattle.log_check.proofs.ReachLemmas.{next_line, ended_bytes, fault_headless, left_none, not_whole, stopped_after}
+use Rattle.log_check.proofs.RuleLemmas.{judged}
 use Rattle.log_check.proofs.RunLemmas.{LeadsTo-then, leads_begins, whole_tree}
 
 -- ---- one line
@@ -31,13 +35,13 @@ record Halts (network : NetworkOf) (nodes : List Node) (line : TextLineOf) : Typ
 record Goes (network : NetworkOf) (nodes : List Node) (line : TextLineOf) : Type 0 where
   node : Node
   rest : List Node
-  read : LineOf
+  read : LogLine
   top : nodes ≡ node ∷ rest
   with_end : line.ended ≡ true
   is : IsLine line.text read
   allowed : IsAllowedLine network node read
 
-read_goes : (network : NetworkOf) (node : Node) (rest : List Node) (line : TextLineOf) (read : LineOf) → line.ended ≡ true → IsLine line.text read → Halts network (node ∷ rest) line ⊎ Goes network (node ∷ rest) line
+read_goes : (network : NetworkOf) (node : Node) (rest : List Node) (line : TextLineOf) (read : LogLine) → line.ended ≡ true → IsLine line.text read → Halts network (node ∷ rest) line ⊎ Goes network (node ∷ rest) line
 read_goes network node rest line read ended is = elim (judged network node read) [
   | inl allowed ↦ inr (record { node = node; rest = rest; read = read; top = refl; with_end = ended; is = is; allowed = allowed })
   | inr broken ↦ inl (record { kind = broken.kind; stops = no_rule node rest read refl ended is broken.first })
@@ -62,16 +66,13 @@ goes_or_halts network (node ∷ rest) line = elim (cases_Bool line.ended) [
 abbrev pub HasVerdict : NetworkOf → List ℕ → Type 0
 HasVerdict network text = ((tree : Tree) × IsLog network text tree) ⊎ ((fault : LogFault) × IsFirstFault network text fault)
 
-at_end : (network : NetworkOf) (text : List ℕ) (lines : List LineOf) (left : List ℕ) (nodes : List Node) → left ≡ [] → LeadsTo network (root_of network ∷ []) lines nodes → text ≡ head_text ++ (lines_text lines ++ left) → HasVerdict network text
+at_end : (network : NetworkOf) (text : List ℕ) (lines : List LogLine) (left : List ℕ) (nodes : List Node) → left ≡ [] → LeadsTo network (root_of network ∷ []) lines nodes → BeginsWith text lines left → HasVerdict network text
 at_end network text lines left [] none leads spelled =
     let made = whole_tree network lines leads in
     inl (
       made.tree,
       record {
-        spelled = spelled
-            ∙ ap (λ (t : List ℕ). head_text ++ (lines_text lines ++ t)) none
-            ∙ ap (λ (t : List ℕ). head_text ++ t) (append-nil (lines_text lines))
-            ∙ ap (λ (l : List LineOf). head_text ++ lines_text l) (sym made.spelled);
+        spells = subst (λ (l : List LogLine). BeginsWith text l []) (sym made.spelled) (subst (λ (t : List ℕ). BeginsWith text lines t) none spelled);
         allowed = made.allowed;
       },
     )
@@ -82,7 +83,7 @@ at_end network text lines left (node ∷ rest) none leads spelled =
           (short refl (not_whole network lines (node ∷ rest) leads (some_node node rest)) none),
     )
 
-from_here : (network : NetworkOf) (text : List ℕ) (walk : List TextLineOf) (lines : List LineOf) (left : List ℕ) (nodes : List Node) → walk ≡ lines_of left → LeadsTo network (root_of network ∷ []) lines nodes → text ≡ head_text ++ (lines_text lines ++ left) → HasVerdict network text
+from_here : (network : NetworkOf) (text : List ℕ) (walk : List TextLineOf) (lines : List LogLine) (left : List ℕ) (nodes : List Node) → walk ≡ lines_of left → LeadsTo network (root_of network ∷ []) lines nodes → BeginsWith text lines left → HasVerdict network text
 from_here network text [] lines left nodes walked leads spelled = at_end network text lines left nodes (left_none left walked) leads spelled
 from_here network text (line ∷ more) lines left nodes walked leads spelled = elim (goes_or_halts network nodes line) [
   | inl halts ↦ inr (
@@ -96,7 +97,8 @@ from_here network text (line ∷ more) lines left nodes walked leads spelled = e
       let here : LeadsTo network (root_of network ∷ []) lines (goes.node ∷ goes.rest) = subst (λ (n : List Node). LeadsTo network (root_of network ∷ []) lines n) goes.top leads in
       from_here network text more (lines ++ goes.read ∷ []) next.left after next.walked
       (LeadsTo-then network (root_of network ∷ []) (goes.node ∷ goes.rest) after lines (goes.read ∷ []) here (goes.allowed, refl))
-      (one_more_line text lines left next.left goes.read spelled (next.spelled ∙ ap (λ (b : List ℕ). b ++ next.left) (ended_bytes line goes.with_end ∙ goes.is.spelled)))
+      (begins_line text lines left next.left goes.read spelled
+      (record { spelled = next.spelled ∙ ap (λ (b : List ℕ). b ++ next.left) (ended_bytes line goes.with_end ∙ goes.is.spelled); numbers = goes.is.numbers }))
 ]
 
 -- ---- the first line
@@ -128,6 +130,6 @@ pub has_verdict : (network : NetworkOf) (text : List ℕ) → HasVerdict network
 has_verdict network text = elim (headed (lines_of text)) [
   | inl is ↦
       let next = next_line text head_line is.more is.is in
-      from_here network text is.more [] next.left (root_of network ∷ []) next.walked refl next.spelled
+      from_here network text is.more [] next.left (root_of network ∷ []) next.walked refl (record { spelled = next.spelled })
   | inr other ↦ inr (record { line = 1; kind = Form }, fault_headless network text (λ rest is. other (record { more = rest; is = is })))
 ]

@@ -1,6 +1,6 @@
 pub mod EveryText
 pub mod HeightNetworks
-pub mod JudgeLemmas
+pub mod LongerLemmas
 pub mod PlaceLemmas
 pub mod ReachLemmas
 pub mod RuleLemmas

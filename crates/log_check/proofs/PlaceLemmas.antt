@@ -10,9 +10,11 @@ use Rattle.std.proofs.Math.Seq.{take-length}
 use Rattle.geo_model.specs.declared.plan.Node.{Node}
 use Rattle.geo_model.specs.Network.{NetworkOf}
 use Rattle.geo_model.specs.Nodes.{all_plans}
-use Rattle.bound_log.specs.LogTree.{with_chosen, without_chosen, IsAllowedLine}
+use Rattle.bound_log.specs.LogTree.{with_chosen, without_chosen}
+use Rattle.bound_log.specs.Rules.{IsAllowedLine}
 use Rattle.bound_log.specs.OpenCount.{open_count}
-use Rattle.bound_log.specs.Tree.{LineOf, split, leaf}
+use Rattle.bound_log.specs.declared.log_line.LogLine.{LogLine}
+use Rattle.bound_log.specs.declared.log_line.LogLine.TheVariants.{Split, Leaf}
 use Rattle.bound_log.proofs.AllowedLemmas.{split_open}
 use Rattle.bound_log.proofs.OpenLemmas.{open_count-root, open_count-with, open_count-without, open_below}
 use Rattle.bound_log.proofs.SoundLemmas.{at_place}
@@ -121,15 +123,16 @@ places_split count places now node spare spare_now free candidate are before her
 
 -- ---- room for the nodes of lines
 
-room_after : (network : NetworkOf) (count : ℕ) (node : Node) (rest : List Node) (line : LineOf) → HasRoom count (node ∷ rest) → IsAllowedLine network node line → HasRoom count (opened node line ++ rest)
-room_after network count node rest (split candidate) room allowed = (
-  with_long count node candidate room.0,
-  omega (arith, room.1, open_count-with node.inside node.upper candidate allowed.is_open.0 allowed.is_open.1),
-  (without_long count node candidate room.0, omega (arith, room.1, open_count-without node.inside node.upper candidate allowed.is_open.0 allowed.is_open.1), room.2),
-)
-room_after network count node rest (leaf end) room allowed = room.2
+room_after : (network : NetworkOf) (count : ℕ) (node : Node) (rest : List Node) (line : LogLine) → HasRoom count (node ∷ rest) → IsAllowedLine network node line → HasRoom count (opened node line ++ rest)
+room_after network count node rest (Split candidate) room allowed =
+    let here = split_open network node candidate allowed in (
+      with_long count node candidate room.0,
+      omega (arith, room.1, open_count-with node.inside node.upper candidate here.in_upper here.not_inside),
+      (without_long count node candidate room.0, omega (arith, room.1, open_count-without node.inside node.upper candidate here.in_upper here.not_inside), room.2),
+    )
+room_after network count node rest (Leaf end) room allowed = room.2
 
-pub room_along : (network : NetworkOf) (count : ℕ) (nodes final : List Node) (lines : List LineOf) → HasRoom count nodes → LeadsTo network nodes lines final → HasRoom count final
+pub room_along : (network : NetworkOf) (count : ℕ) (nodes final : List Node) (lines : List LogLine) → HasRoom count nodes → LeadsTo network nodes lines final → HasRoom count final
 room_along network count nodes final [] room leads = subst (HasRoom count) leads room
 room_along network count [] final (x ∷ lines) room leads = absurd leads
 room_along network count (node ∷ nodes) final (x ∷ lines) room leads =
@@ -148,7 +151,7 @@ pub record SplitFits (network : NetworkOf) (stack : OpenOf) (candidate : ℕ) : 
   pub within : candidate < stack.candidates
   pub small : candidate < 256
 
-pub split_fits : (network : NetworkOf) (stack : OpenOf) (candidate : ℕ) → IsReady network stack → 0 < length stack.nodes → ((node : Node) (rest : List Node) → stack.nodes ≡ node ∷ rest → IsAllowedLine network node (split candidate)) → SplitFits network stack candidate
+pub split_fits : (network : NetworkOf) (stack : OpenOf) (candidate : ℕ) → IsReady network stack → 0 < length stack.nodes → ((node : Node) (rest : List Node) → stack.nodes ≡ node ∷ rest → IsAllowedLine network node (Split candidate)) → SplitFits network stack candidate
 split_fits network stack candidate ready some allowed =
     let top = head_tail stack.nodes some in
     let here = split_open network top.first candidate (allowed top.first top.rest top.is) in

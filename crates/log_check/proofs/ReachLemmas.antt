@@ -12,20 +12,26 @@ use Rattle.bound_log.specs.Bound.{lesser}
 use Rattle.bound_log.specs.Counted.{counts_of, counts_with}
 use Rattle.bound_log.specs.Grammar.{IsLine, text_line}
 use Rattle.bound_log.specs.LogText.{head_body, head_text, line_end, line_text, lines_text}
-use Rattle.bound_log.specs.LogTree.{root_of, IsAllowedLine}
-use Rattle.bound_log.specs.Tree.{LineOf, split, leaf, cost, pivot}
+use Rattle.bound_log.specs.declared.log_kind.LogKind.{LogKind}
+use Rattle.bound_log.specs.declared.log_kind.LogKind.TheVariants.{Form, Short}
+use Rattle.bound_log.specs.declared.log_leaf.LogLeaf.TheVariants.{Cost, Pivot}
+use Rattle.bound_log.specs.declared.log_line.LogLine.{LogLine}
+use Rattle.bound_log.specs.declared.log_line.LogLine.TheVariants.{Split, Leaf}
+use Rattle.bound_log.specs.Lines.{kind_of}
+use Rattle.bound_log.specs.LogTree.{root_of}
+use Rattle.bound_log.specs.Rules.{IsAllowedLine}
+use Rattle.bound_log.specs.Spells.{BeginsWith, NextIs}
 use Rattle.bound_log.proofs.BoundLemmas.{lesser_none}
 use Rattle.bound_log.proofs.CountLemmas.{counts_of-then}
 use Rattle.bound_log.proofs.GrammarLemmas.{IsLine-body, lines_of-line_text}
-use Rattle.log_check.specs.declared.fault.LogKind.{LogKind}
-use Rattle.log_check.specs.declared.fault.LogKind.TheVariants.{Form, Short}
+use Rattle.bound_log.proofs.SpellLemmas.{begins_line, begins_more}
 use Rattle.log_check.specs.declared.progress.Progress.{Progress}
-use Rattle.log_check.specs.FirstFault.{IsWhole, BeginsWithLine, IsFaultAfter, extra, short, form, rule, IsFirstFault, headless, later}
+use Rattle.log_check.specs.FirstFault.{IsWhole, IsFaultAfter, extra, short, form, rule, IsFirstFault, headless, later}
 use Rattle.log_check.specs.Places.{IsReady}
-use Rattle.log_check.specs.Reaching.{head_line, Reaches, EndsWhole}
+use Rattle.log_check.specs.Reaching.{head_line, IsFront, nothing, begun, HasTaken, Reaches, EndsWhole}
 use Rattle.log_check.specs.Replayed.{IsReplayed}
 use Rattle.log_check.specs.Running.{line_bound, LeadsTo, bound_along, StandsAt}
-use Rattle.log_check.specs.Taking.{Takes, TakesText, Stops, no_node, no_line, no_rule}
+use Rattle.log_check.specs.Taking.{Takes, TakesText, Stops, no_node, no_line, no_rule, TakesHead, TakesLine, at_head, at_node, StopsLine, no_head, past_head}
 use Rattle.log_check.proofs.PlaceLemmas.{room_along, room_at_root}
 use Rattle.log_check.proofs.RunLemmas.{LeadsTo-then, bound_along-then, one_final, leads_begins, whole_leads, leads_whole, leads_stands, whole_tree}
 
@@ -64,35 +70,26 @@ ended_bytes line is = ap (λ (e : Bool). if e then line.text ++ line_feed ∷ []
 
 -- ---- the first line
 
-head_lacks : All (λ c. is_line_feed c ≡ false) head_body
+pub head_lacks : All (λ c. is_line_feed c ≡ false) head_body
 head_lacks = All-from_recursion (λ c. is_line_feed c ≡ false) head_body (refl, (refl, (refl, (refl, (refl, (refl, (refl, (refl, (refl, (refl, (refl, (refl, (refl, tt)))))))))))))
 
-not_headed : (text : List ℕ) → ((rest : List TextLineOf) → lines_of text ≡ head_line ∷ rest → ⊥) → (left : List ℕ) → text ≡ head_text ++ left → ⊥
-not_headed text other left spelled =
-    other (lines_of left) (ap lines_of (spelled ∙ append_assoc head_body line_end left) ∙ lines_of-more head_body left head_lacks)
+not_headed : (text : List ℕ) → ((rest : List TextLineOf) → lines_of text ≡ head_line ∷ rest → ⊥) → (left : List ℕ) → BeginsWith text [] left → ⊥
+not_headed text other left begins =
+    other (lines_of left) (ap lines_of (begins.spelled ∙ append_assoc head_body line_end left) ∙ lines_of-more head_body left head_lacks)
 
 pub fault_headless : (network : NetworkOf) (text : List ℕ) → ((rest : List TextLineOf) → lines_of text ≡ head_line ∷ rest → ⊥) → IsFirstFault network text (record { line = 1; kind = Form })
 fault_headless network text other = headless refl refl (not_headed text other)
 
-pub reaches_start : (network : NetworkOf) (text : List ℕ) (walk : List TextLineOf) (progress : Progress) → lines_of text ≡ head_line ∷ walk → progress.stack.candidates ≡ length network.candidates → StandsAt network [] progress.stack.nodes progress.bound progress.counts → Reaches network text walk progress 2
-reaches_start network text walk progress are count stands =
-    let next = next_line text head_line walk are in
-    record { lines = []; left = next.left; spelled = next.spelled; walked = next.walked; stands = stands; count = count; numbered = refl }
+pub reaches_start : (network : NetworkOf) (text : List ℕ) (progress : Progress) → HasTaken network [] progress → Reaches network text (lines_of text) progress
+reaches_start network text progress taken = record { front = []; left = text; whole = refl; walked = refl; taken = taken }
+
+-- nothing was taken before the first line
+pub taken_nothing : (network : NetworkOf) (progress : Progress) → progress.lines ≡ 0 → progress.stack.candidates ≡ length network.candidates → StandsAt network [] progress.stack.nodes progress.bound progress.counts → HasTaken network [] progress
+taken_nothing network progress none count stands = record { lines = []; front = nothing refl refl none; stands = stands; count = count }
 
 -- ---- one more line
 
--- the next line of what is left is one more of the lines before it
-pub one_more_line : (text : List ℕ) (lines : List LineOf) (left rest : List ℕ) (line : LineOf) → text ≡ head_text ++ (lines_text lines ++ left) → left ≡ line_text line ++ rest → text ≡ head_text ++ (lines_text (lines ++ line ∷ []) ++ rest)
-one_more_line text lines left rest line spelled begins =
-    let all : lines_text (lines ++ line ∷ []) ≡ lines_text lines ++ line_text line =
-    flat_map-append line_text lines (line ∷ []) ∙ ap (λ (t : List ℕ). lines_text lines ++ t) (append-nil (line_text line)) in
-    spelled
-    ∙ ap (λ (t : List ℕ). head_text ++ t)
-    (ap (λ (t : List ℕ). lines_text lines ++ t) begins
-    ∙ sym (append_assoc (lines_text lines) (line_text line) rest)
-    ∙ ap (λ (t : List ℕ). t ++ rest) (sym all))
-
-stands_next : (network : NetworkOf) (lines : List LineOf) (node : Node) (rest : List Node) (line : LineOf) (before now : Progress) → StandsAt network lines before.stack.nodes before.bound before.counts → before.stack.nodes ≡ node ∷ rest → IsAllowedLine network node line → Takes node rest line (line_bound network node line) before now → StandsAt network (lines ++ line ∷ []) now.stack.nodes now.bound now.counts
+stands_next : (network : NetworkOf) (lines : List LogLine) (node : Node) (rest : List Node) (line : LogLine) (before now : Progress) → StandsAt network lines before.stack.nodes before.bound before.counts → before.stack.nodes ≡ node ∷ rest → IsAllowedLine network node line → Takes node rest line (line_bound network node line) before now → StandsAt network (lines ++ line ∷ []) now.stack.nodes now.bound now.counts
 stands_next network lines node rest line before now stands top allowed takes =
     let root : List Node = root_of network ∷ [] in
     let first : LeadsTo network root lines (node ∷ rest) = subst (λ (n : List Node). LeadsTo network root lines n) top stands.leads in
@@ -101,24 +98,74 @@ stands_next network lines node rest line before now stands top allowed takes =
       least = takes.least
           ∙ ap (λ b. lesser b (line_bound network node line)) stands.least
           ∙ sym (bound_along-then network root (node ∷ rest) lines (line ∷ []) first ∙ ap (lesser (bound_along network root lines)) (lesser_none (line_bound network node line)));
-      counted = takes.counted ∙ ap (λ (c : Counts). counts_with c (line ∷ [])) stands.counted ∙ counts_of-then lines (line ∷ []);
+      counted = takes.counted ∙ ap (λ (c : Counts). counts_with c (kind_of line ∷ [])) stands.counted ∙ counts_of-then lines (line ∷ []);
     }
 
-pub reaches_next : (network : NetworkOf) (text : List ℕ) (line : TextLineOf) (more : List TextLineOf) (before now : Progress) (number : ℕ) → Reaches network text (line ∷ more) before number → TakesText network line.text line.ended before now → Reaches network text more now (number + 1)
-reaches_next network text line more before now number reached taken =
-    let read : LineOf = taken.line in
-    let lines : List LineOf = reached.lines in
-    let next = next_line reached.left line more (sym reached.walked) in
-    let left : reached.left ≡ line_text read ++ next.left =
-    next.spelled ∙ ap (λ (b : List ℕ). b ++ next.left) (ended_bytes line taken.with_end ∙ taken.spelled.spelled) in
+-- before the first line nothing was taken
+pub record IsNothing (text : List ℕ) (lines : List LogLine) : Type 0 where
+  pub text_none : text ≡ []
+  pub lines_none : lines ≡ []
+
+front_nothing : (text : List ℕ) (lines : List LogLine) (count : ℕ) → IsFront text lines count → count ≡ 0 → IsNothing text lines
+front_nothing text lines count (nothing no_text no_lines none) is = record { text_none = no_text; lines_none = no_lines }
+front_nothing text lines count (begun begins number) is = absurd (omega arith)
+
+-- after it a log was begun
+pub record IsBegun (text : List ℕ) (lines : List LogLine) (count : ℕ) : Type 0 where
+  pub begins : BeginsWith text lines []
+  pub numbered : count ≡ length lines + 1
+
+front_begun : (text : List ℕ) (lines : List LogLine) (count : ℕ) → IsFront text lines count → 0 < count → IsBegun text lines count
+front_begun text lines count (nothing no_text no_lines none) some = absurd (omega arith)
+front_begun text lines count (begun begins number) some = record { begins = begins; numbered = number }
+
+-- the first line is taken
+taken_head : (network : NetworkOf) (front : List ℕ) (line : TextLineOf) (before now : Progress) → HasTaken network front before → TakesHead line.text line.ended before now → HasTaken network (front ++ line_bytes line) now
+taken_head network front line before now taken head =
+    let none = front_nothing front taken.lines before.lines taken.front head.first in
+    let bytes : line_bytes line ≡ head_text = ended_bytes line head.with_end ∙ ap (λ (t : List ℕ). t ++ line_end) head.spelled in
+    let stands : StandsAt network [] before.stack.nodes before.bound before.counts = subst (λ (l : List LogLine). StandsAt network l before.stack.nodes before.bound before.counts) none.lines_none taken.stands in
+    record {
+      lines = [];
+      front = begun (record { spelled = ap (λ (t : List ℕ). t ++ line_bytes line) none.text_none ∙ bytes ∙ sym (append-nil head_text) }) head.numbered;
+      stands = record {
+        leads = stands.leads ∙ sym (ap (λ s. s.nodes) head.stack);
+        least = head.bound ∙ stands.least;
+        counted = head.counts ∙ stands.counted;
+      };
+      count = ap (λ s. s.candidates) head.stack ∙ taken.count;
+    }
+
+-- a later line is taken
+taken_line : (network : NetworkOf) (front : List ℕ) (line : TextLineOf) (before now : Progress) → HasTaken network front before → 0 < before.lines → TakesText network line.text line.ended before now → HasTaken network (front ++ line_bytes line) (record now { lines = now.lines + 1 })
+taken_line network front line before now taken some takes =
+    let read : LogLine = takes.line in
+    let lines : List LogLine = taken.lines in
+    let log = front_begun front lines before.lines taken.front some in
+    let bytes : line_bytes line ≡ line_text read ++ [] = ended_bytes line takes.with_end ∙ takes.spelled.spelled ∙ sym (append-nil (line_text read)) in
     record {
       lines = lines ++ read ∷ [];
+      front = begun (begins_line (front ++ line_bytes line) lines (line_bytes line) [] read (begins_more front lines [] (line_bytes line) log.begins) (record { spelled = bytes; numbers = takes.spelled.numbers }))
+          (omega (arith, log.numbered, takes.takes.numbered, length-append lines (read ∷ [])));
+      stands = stands_next network lines takes.node takes.rest read before now taken.stands takes.top takes.allowed takes.takes;
+      count = ap (λ o. o.candidates) takes.takes.stack ∙ taken.count;
+    }
+
+-- what was taken goes on with a line that is taken
+pub taken_next : (network : NetworkOf) (front : List ℕ) (line : TextLineOf) (before now : Progress) → HasTaken network front before → TakesLine network line.text line.ended before now → HasTaken network (front ++ line_bytes line) now
+taken_next network front line before now taken (at_head head) = taken_head network front line before now taken head
+taken_next network front line before now taken (at_node middle some takes is) =
+    subst (λ (p : Progress). HasTaken network (front ++ line_bytes line) p) (sym is) (taken_line network front line before middle taken some takes)
+
+pub reaches_next : (network : NetworkOf) (text : List ℕ) (line : TextLineOf) (more : List TextLineOf) (before now : Progress) → Reaches network text (line ∷ more) before → TakesLine network line.text line.ended before now → Reaches network text more now
+reaches_next network text line more before now reached takes =
+    let next = next_line reached.left line more (sym reached.walked) in
+    record {
+      front = reached.front ++ line_bytes line;
       left = next.left;
-      spelled = one_more_line text lines reached.left next.left read reached.spelled left;
+      whole = reached.whole ∙ ap (λ (t : List ℕ). reached.front ++ t) next.spelled ∙ sym (append_assoc reached.front (line_bytes line) next.left);
       walked = next.walked;
-      stands = stands_next network lines taken.node taken.rest read before now reached.stands taken.top taken.allowed taken.takes;
-      count = ap (λ o. o.candidates) taken.takes.stack ∙ reached.count;
-      numbered = omega (arith, reached.numbered, length-append lines (read ∷ []));
+      taken = taken_next network reached.front line before now reached.taken takes;
     }
 
 -- ---- where it stops
@@ -129,16 +176,16 @@ left_some left line more walked none = let same : line ∷ more ≡ [] = walked 
 pub left_none : (left : List ℕ) → [] ≡ lines_of left → left ≡ []
 left_none left walked = sym (lines_of-joined left) ∙ ap (flat_map line_bytes) (sym walked)
 
-pub not_whole : (network : NetworkOf) (lines : List LineOf) (nodes : List Node) → LeadsTo network (root_of network ∷ []) lines nodes → (nodes ≡ [] → ⊥) → IsWhole network lines → ⊥
+pub not_whole : (network : NetworkOf) (lines : List LogLine) (nodes : List Node) → LeadsTo network (root_of network ∷ []) lines nodes → (nodes ≡ [] → ⊥) → IsWhole network lines → ⊥
 not_whole network lines nodes leads some whole = some (one_final network (root_of network ∷ []) nodes [] lines leads (whole_leads network lines whole))
 
-no_grammar : (left : List ℕ) (line : TextLineOf) (more : List TextLineOf) → line ∷ more ≡ lines_of left → (line.ended ≡ true → (l : LineOf) → IsLine line.text l → ⊥) → (l : LineOf) (rest : List ℕ) → BeginsWithLine left l rest → ⊥
+no_grammar : (left : List ℕ) (line : TextLineOf) (more : List TextLineOf) → line ∷ more ≡ lines_of left → (line.ended ≡ true → (l : LogLine) → IsLine line.text l → ⊥) → (l : LogLine) (rest : List ℕ) → NextIs left l rest → ⊥
 no_grammar left line more walked lacks l rest begins =
     let both : line ∷ more ≡ text_line l ∷ lines_of rest = walked ∙ ap lines_of begins.spelled ∙ lines_of-line_text l rest begins.numbers in
     let first : line ≡ text_line l = cc in
     lacks (ap (λ t. t.ended) first) l (subst (λ (t : List ℕ). IsLine t l) (sym (ap (λ t. t.text) first)) (IsLine-body l begins.numbers))
 
-pub stopped_after : (network : NetworkOf) (lines : List LineOf) (nodes : List Node) (left : List ℕ) (line : TextLineOf) (more : List TextLineOf) (kind : LogKind) → LeadsTo network (root_of network ∷ []) lines nodes → line ∷ more ≡ lines_of left → Stops network nodes line.text line.ended kind → IsFaultAfter network lines left kind
+pub stopped_after : (network : NetworkOf) (lines : List LogLine) (nodes : List Node) (left : List ℕ) (line : TextLineOf) (more : List TextLineOf) (kind : LogKind) → LeadsTo network (root_of network ∷ []) lines nodes → line ∷ more ≡ lines_of left → Stops network nodes line.text line.ended kind → IsFaultAfter network lines left kind
 stopped_after network lines nodes left line more kind leads walked (no_node is none) =
     extra is (leads_whole network lines (subst (λ (n : List Node). LeadsTo network (root_of network ∷ []) lines n) none leads)) (left_some left line more walked)
 stopped_after network lines nodes left line more kind leads walked (no_line is some lacks) =
@@ -149,57 +196,91 @@ stopped_after network lines nodes left line more kind leads walked (no_rule node
     (record { spelled = next.spelled ∙ ap (λ (b : List ℕ). b ++ next.left) (ended_bytes line ended ∙ is.spelled); numbers = is.numbers })
     (leads_stands network lines node rest (subst (λ (n : List Node). LeadsTo network (root_of network ∷ []) lines n) top leads)) broken
 
-pub fault_stopped : (network : NetworkOf) (text : List ℕ) (line : TextLineOf) (more : List TextLineOf) (progress : Progress) (number : ℕ) (kind : LogKind) → Reaches network text (line ∷ more) progress number → Stops network progress.stack.nodes line.text line.ended kind → IsFirstFault network text (record { line = number; kind = kind })
-fault_stopped network text line more progress number kind reached stops =
-    later reached.lines reached.left reached.spelled (leads_begins network reached.lines progress.stack.nodes reached.stands.leads) reached.numbered
-    (stopped_after network reached.lines progress.stack.nodes reached.left line more kind reached.stands.leads reached.walked stops)
+-- the first line isn't that of a log
+first_stopped : (network : NetworkOf) (text : List ℕ) (line : TextLineOf) (more : List TextLineOf) → line ∷ more ≡ lines_of text → (line.ended ≡ true → line.text ≡ head_body → ⊥) → (left : List ℕ) → BeginsWith text [] left → ⊥
+first_stopped network text line more walked other =
+    not_headed text (λ rest are.
+    let both : line ∷ more ≡ head_line ∷ rest = walked ∙ are in
+    let first : line ≡ head_line = cc in
+    other (ap (λ l. l.ended) first) (ap (λ l. l.text) first))
 
-pub fault_short : (network : NetworkOf) (text : List ℕ) (progress : Progress) (number : ℕ) → Reaches network text [] progress number → (progress.stack.nodes ≡ [] → ⊥) → IsFirstFault network text (record { line = number; kind = Short })
-fault_short network text progress number reached some =
-    later reached.lines reached.left reached.spelled (leads_begins network reached.lines progress.stack.nodes reached.stands.leads) reached.numbered
-    (short refl (not_whole network reached.lines progress.stack.nodes reached.stands.leads some) (left_none reached.left reached.walked))
+-- a line stops the replay with the first fault of the text
+pub fault_stopped : (network : NetworkOf) (text : List ℕ) (line : TextLineOf) (more : List TextLineOf) (progress : Progress) (kind : LogKind) → Reaches network text (line ∷ more) progress → StopsLine network progress line.text line.ended kind → IsFirstFault network text (record { line = progress.lines + 1; kind = kind })
+fault_stopped network text line more progress kind reached (no_head none is other) =
+    let taken = reached.taken in
+    let empty = front_nothing reached.front taken.lines progress.lines taken.front none in
+    let whole : text ≡ reached.left = reached.whole ∙ ap (λ (t : List ℕ). t ++ reached.left) empty.text_none in
+    headless (omega (arith, none)) is (first_stopped network text line more (reached.walked ∙ ap lines_of (sym whole)) other)
+fault_stopped network text line more progress kind reached (past_head some stops) =
+    let taken = reached.taken in
+    let log = front_begun reached.front taken.lines progress.lines taken.front some in
+    let begins : BeginsWith text taken.lines reached.left = subst (λ (t : List ℕ). BeginsWith t taken.lines reached.left) (sym reached.whole) (begins_more reached.front taken.lines [] reached.left log.begins) in
+    later taken.lines reached.left begins (leads_begins network taken.lines progress.stack.nodes taken.stands.leads) (omega (arith, log.numbered))
+    (stopped_after network taken.lines progress.stack.nodes reached.left line more kind taken.stands.leads reached.walked stops)
 
-pub ends_whole : (network : NetworkOf) (text : List ℕ) (progress : Progress) (number : ℕ) → Reaches network text [] progress number → progress.stack.nodes ≡ [] → EndsWhole network text progress
-ends_whole network text progress number reached none = record {
-  lines = reached.lines;
-  spelled = reached.spelled
-      ∙ ap (λ (t : List ℕ). head_text ++ (lines_text reached.lines ++ t)) (left_none reached.left reached.walked)
-      ∙ ap (λ (t : List ℕ). head_text ++ t) (append-nil (lines_text reached.lines));
-  stands = subst (λ (n : List Node). StandsAt network reached.lines n progress.bound progress.counts) none reached.stands;
-}
+-- the whole text was taken
+pub taken_whole : (network : NetworkOf) (text : List ℕ) (progress : Progress) → Reaches network text [] progress → HasTaken network text progress
+taken_whole network text progress reached =
+    let whole : text ≡ reached.front = reached.whole ∙ ap (λ (t : List ℕ). reached.front ++ t) (left_none reached.left reached.walked) ∙ append-nil reached.front in
+    subst (λ (t : List ℕ). HasTaken network t progress) (sym whole) reached.taken
+
+no_head_text : (left : List ℕ) → BeginsWith [] [] left → ⊥
+no_head_text left begins = let same : [] ≡ head_text ++ left = begins.spelled in absurd (cc)
+
+-- a text of nothing lacks the first line
+pub fault_empty : (network : NetworkOf) (text : List ℕ) (progress : Progress) → HasTaken network text progress → progress.lines ≡ 0 → IsFirstFault network text (record { line = 1; kind = Form })
+fault_empty network text progress taken none =
+    let empty = front_nothing text taken.lines progress.lines taken.front none in
+    headless refl refl (λ left begins. no_head_text left (subst (λ (t : List ℕ). BeginsWith t [] left) empty.text_none begins))
+
+-- a text that ends while nodes are open
+pub fault_short : (network : NetworkOf) (text : List ℕ) (progress : Progress) → HasTaken network text progress → 0 < progress.lines → (progress.stack.nodes ≡ [] → ⊥) → IsFirstFault network text (record { line = progress.lines + 1; kind = Short })
+fault_short network text progress taken some open_nodes =
+    let log = front_begun text taken.lines progress.lines taken.front some in
+    later taken.lines [] log.begins (leads_begins network taken.lines progress.stack.nodes taken.stands.leads) (omega (arith, log.numbered))
+    (short refl (not_whole network taken.lines progress.stack.nodes taken.stands.leads open_nodes) refl)
 
 pub replayed_whole : (network : NetworkOf) (text : List ℕ) (progress : Progress) → EndsWhole network text progress → IsReplayed network text (record { bound = progress.bound; counts = progress.counts })
 replayed_whole network text progress ends =
-    let made = whole_tree network ends.lines ends.stands.leads in
+    let taken = ends.taken in
+    let log = front_begun text taken.lines progress.lines taken.front ends.some in
+    let leads : LeadsTo network (root_of network ∷ []) taken.lines [] = subst (λ (n : List Node). LeadsTo network (root_of network ∷ []) taken.lines n) ends.none_open taken.stands.leads in
+    let made = whole_tree network taken.lines leads in
     record {
       tree = made.tree;
-      log = record { spelled = ends.spelled ∙ ap (λ (l : List LineOf). head_text ++ lines_text l) (sym made.spelled); allowed = made.allowed };
-      least = ends.stands.least ∙ sym made.least;
-      counted = ends.stands.counted ∙ ap counts_of (sym made.spelled);
+      log = record { spells = subst (λ (l : List LogLine). BeginsWith text l []) (sym made.spelled) log.begins; allowed = made.allowed };
+      least = taken.stands.least ∙ sym made.least;
+      counted = taken.stands.counted ∙ ap counts_of (sym made.spelled);
     }
 
 -- ---- what the code needs
 
-pub ready_reached : (network : NetworkOf) (text : List ℕ) (walk : List TextLineOf) (progress : Progress) (number : ℕ) → length network.candidates ≤ 256 → Reaches network text walk progress number → IsReady network progress.stack
-ready_reached network text walk progress number few reached = record {
+pub ready_taken : (network : NetworkOf) (text : List ℕ) (progress : Progress) → length network.candidates ≤ 256 → HasTaken network text progress → IsReady network progress.stack
+ready_taken network text progress few taken = record {
   few = few;
-  count = reached.count;
-  room = room_along network (length network.candidates) (root_of network ∷ []) progress.stack.nodes reached.lines (room_at_root (length network.candidates)) reached.stands.leads;
+  count = taken.count;
+  room = room_along network (length network.candidates) (root_of network ∷ []) progress.stack.nodes taken.lines (room_at_root (length network.candidates)) taken.stands.leads;
 }
 
 -- each line has a byte
-line_some : (line : LineOf) → 0 < length (line_text line)
-line_some (split candidate) = omega (arith, length-append {A = ℕ})
-line_some (leaf cost) = omega (arith, length-append {A = ℕ})
-line_some (leaf (pivot limit)) = omega (arith, length-append {A = ℕ})
+line_some : (line : LogLine) → 0 < length (line_text line)
+line_some (Split candidate) = omega (arith, length-append {A = ℕ})
+line_some (Leaf Cost) = omega (arith, length-append {A = ℕ})
+line_some (Leaf (Pivot limit)) = omega (arith, length-append {A = ℕ})
 
-lines_short : (lines : List LineOf) → length lines ≤ length (lines_text lines)
+lines_short : (lines : List LogLine) → length lines ≤ length (lines_text lines)
 lines_short [] = omega arith
 lines_short (line ∷ lines) = omega (arith, lines_short lines, line_some line, length-append (line_text line) (lines_text lines))
 
-pub number_small : (network : NetworkOf) (text : List ℕ) (walk : List TextLineOf) (progress : Progress) (number : ℕ) → Reaches network text walk progress number → number ≤ length text + 2
-number_small network text walk progress number reached =
-    let long : length text ≡ length (head_text ++ (lines_text reached.lines ++ reached.left)) = ap length reached.spelled in
-    let all = length-append head_text (lines_text reached.lines ++ reached.left) in
-    let part = length-append (lines_text reached.lines) reached.left in
-    omega (arith, lines_short reached.lines, reached.numbered)
+front_small : (text : List ℕ) (lines : List LogLine) (count : ℕ) → IsFront text lines count → count ≤ length text + 1
+front_small text lines count (nothing no_text no_lines none) = omega arith
+front_small text lines count (begun begins number) =
+    let long : length text ≡ length (head_text ++ (lines_text lines ++ [])) = ap length begins.spelled in
+    let all = length-append head_text (lines_text lines ++ []) in
+    let part = length-append (lines_text lines) [] in
+    omega (arith, lines_short lines)
+
+pub count_small : (network : NetworkOf) (text : List ℕ) (walk : List TextLineOf) (progress : Progress) → Reaches network text walk progress → progress.lines ≤ length text + 1
+count_small network text walk progress reached =
+    let long : length text ≡ length reached.front + length reached.left = ap length reached.whole ∙ length-append reached.front reached.left in
+    omega (arith, front_small reached.front reached.taken.lines progress.lines reached.taken.front)

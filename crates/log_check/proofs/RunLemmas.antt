@@ -7,9 +7,13 @@ use Rattle.bound_log.specs.declared.bound.Bound.{Bound}
 use Rattle.bound_log.specs.declared.bound.Bound.TheVariants.{NoPlan}
 use Rattle.bound_log.specs.Bound.{lesser}
 use Rattle.bound_log.specs.Grammar.{HasNumbersBelow, number_bound}
-use Rattle.bound_log.specs.LogTree.{root_of, with_chosen, without_chosen, IsAllowed, IsAllowedLine, leaf_bound, bound_at}
+use Rattle.bound_log.specs.LogTree.{root_of, with_chosen, without_chosen, IsAllowed, leaf_bound, bound_at}
+use Rattle.bound_log.specs.Rules.{IsAllowedLine}
 use Rattle.bound_log.specs.Placed.{placed}
-use Rattle.bound_log.specs.Tree.{LineOf, split, leaf, cost, Tree, fork, tip, tree_lines}
+use Rattle.bound_log.specs.declared.log_leaf.LogLeaf.TheVariants.{Cost}
+use Rattle.bound_log.specs.declared.log_line.LogLine.{LogLine}
+use Rattle.bound_log.specs.declared.log_line.LogLine.TheVariants.{Split, Leaf}
+use Rattle.bound_log.specs.Tree.{Tree, fork, tip, tree_lines}
 use Rattle.bound_log.proofs.AllowedLemmas.{cost_allowed, line_numbers}
 use Rattle.bound_log.proofs.BoundLemmas.{lesser_none, lesser_assoc}
 use Rattle.log_check.specs.FirstFault.{LogBegins, IsWhole, StandsNext}
@@ -17,13 +21,13 @@ use Rattle.log_check.specs.Running.{opened, line_bound, LeadsTo, bound_along}
 
 -- ---- one after another
 
-pub LeadsTo-then : (network : NetworkOf) (nodes middle final : List Node) (xs ys : List LineOf) → LeadsTo network nodes xs middle → LeadsTo network middle ys final → LeadsTo network nodes (xs ++ ys) final
+pub LeadsTo-then : (network : NetworkOf) (nodes middle final : List Node) (xs ys : List LogLine) → LeadsTo network nodes xs middle → LeadsTo network middle ys final → LeadsTo network nodes (xs ++ ys) final
 LeadsTo-then network nodes middle final [] ys first second = subst (λ (n : List Node). LeadsTo network n ys final) (sym first) second
 LeadsTo-then network [] middle final (x ∷ xs) ys first second = absurd first
 LeadsTo-then network (node ∷ nodes) middle final (x ∷ xs) ys first second =
     (first.0, LeadsTo-then network (opened node x ++ nodes) middle final xs ys first.1 second)
 
-pub bound_along-then : (network : NetworkOf) (nodes middle : List Node) (xs ys : List LineOf) → LeadsTo network nodes xs middle → bound_along network nodes (xs ++ ys) ≡ lesser (bound_along network nodes xs) (bound_along network middle ys)
+pub bound_along-then : (network : NetworkOf) (nodes middle : List Node) (xs ys : List LogLine) → LeadsTo network nodes xs middle → bound_along network nodes (xs ++ ys) ≡ lesser (bound_along network nodes xs) (bound_along network middle ys)
 bound_along-then network nodes middle [] ys first = ap (λ (n : List Node). bound_along network n ys) first
 bound_along-then network [] middle (x ∷ xs) ys first = absurd first
 bound_along-then network (node ∷ nodes) middle (x ∷ xs) ys first =
@@ -31,12 +35,12 @@ bound_along-then network (node ∷ nodes) middle (x ∷ xs) ys first =
     ∙ sym (lesser_assoc (line_bound network node x) (bound_along network (opened node x ++ nodes) xs) (bound_along network middle ys))
 
 -- what lies between
-pub record Between (network : NetworkOf) (nodes : List Node) (xs ys : List LineOf) (final : List Node) : Type 0 where
+pub record Between (network : NetworkOf) (nodes : List Node) (xs ys : List LogLine) (final : List Node) : Type 0 where
   pub middle : List Node
   pub first : LeadsTo network nodes xs middle
   pub second : LeadsTo network middle ys final
 
-pub LeadsTo-parts : (network : NetworkOf) (nodes final : List Node) (xs ys : List LineOf) → LeadsTo network nodes (xs ++ ys) final → Between network nodes xs ys final
+pub LeadsTo-parts : (network : NetworkOf) (nodes final : List Node) (xs ys : List LogLine) → LeadsTo network nodes (xs ++ ys) final → Between network nodes xs ys final
 LeadsTo-parts network nodes final [] ys leads = record { middle = nodes; first = refl; second = leads }
 LeadsTo-parts network [] final (x ∷ xs) ys leads = absurd leads
 LeadsTo-parts network (node ∷ nodes) final (x ∷ xs) ys leads =
@@ -44,7 +48,7 @@ LeadsTo-parts network (node ∷ nodes) final (x ∷ xs) ys leads =
     record { middle = later.middle; first = (leads.0, later.first); second = later.second }
 
 -- lines lead to one list of open nodes
-pub one_final : (network : NetworkOf) (nodes a b : List Node) (lines : List LineOf) → LeadsTo network nodes lines a → LeadsTo network nodes lines b → a ≡ b
+pub one_final : (network : NetworkOf) (nodes a b : List Node) (lines : List LogLine) → LeadsTo network nodes lines a → LeadsTo network nodes lines b → a ≡ b
 one_final network nodes a b [] first second = sym first ∙ second
 one_final network [] a b (x ∷ xs) first second = absurd first
 one_final network (node ∷ nodes) a b (x ∷ xs) first second = one_final network (opened node x ++ nodes) a b xs first.1 second.1
@@ -61,12 +65,12 @@ tree_leads network node (fork candidate with_it without_it) nodes allowed = (
 )
 
 -- the same with each line's node
-abbrev PlacedAlong : NetworkOf → List Node → List (Node × LineOf) → List Node → Type 0
+abbrev PlacedAlong : NetworkOf → List Node → List (Node × LogLine) → List Node → Type 0
 PlacedAlong network nodes [] final = nodes ≡ final
 PlacedAlong network [] (at ∷ more) final = ⊥
 PlacedAlong network (node ∷ nodes) (at ∷ more) final = (node ≡ at.0) × IsAllowedLine network node at.1 × PlacedAlong network (opened node at.1 ++ nodes) more final
 
-PlacedAlong-then : (network : NetworkOf) (nodes middle final : List Node) (xs ys : List (Node × LineOf)) → PlacedAlong network nodes xs middle → PlacedAlong network middle ys final → PlacedAlong network nodes (xs ++ ys) final
+PlacedAlong-then : (network : NetworkOf) (nodes middle final : List Node) (xs ys : List (Node × LogLine)) → PlacedAlong network nodes xs middle → PlacedAlong network middle ys final → PlacedAlong network nodes (xs ++ ys) final
 PlacedAlong-then network nodes middle final [] ys first second = subst (λ (n : List Node). PlacedAlong network n ys final) (sym first) second
 PlacedAlong-then network [] middle final (x ∷ xs) ys first second = absurd first
 PlacedAlong-then network (node ∷ nodes) middle final (x ∷ xs) ys first second =
@@ -84,11 +88,11 @@ placed_along network node (fork candidate with_it without_it) nodes allowed = (
 )
 
 -- after the lines of some, the node of the next is the first open one
-record NodeNext (network : NetworkOf) (nodes : List Node) (before : List (Node × LineOf)) (node : Node) : Type 0 where
+record NodeNext (network : NetworkOf) (nodes : List Node) (before : List (Node × LogLine)) (node : Node) : Type 0 where
   rest : List Node
   leads : LeadsTo network nodes (map (λ at. at.1) before) (node ∷ rest)
 
-node_next : (network : NetworkOf) (nodes final : List Node) (before after : List (Node × LineOf)) (at : Node × LineOf) → PlacedAlong network nodes (before ++ at ∷ after) final → NodeNext network nodes before at.0
+node_next : (network : NetworkOf) (nodes final : List Node) (before after : List (Node × LogLine)) (at : Node × LogLine) → PlacedAlong network nodes (before ++ at ∷ after) final → NodeNext network nodes before at.0
 node_next network [] final [] after at along = absurd along
 node_next network (node ∷ nodes) final [] after at along = record { rest = nodes; leads = ap (λ (n : Node). n ∷ nodes) along.0 }
 node_next network [] final (x ∷ before) after at along = absurd along
@@ -105,11 +109,11 @@ IsForest network [] (tree ∷ trees) = ⊥
 IsForest network (node ∷ nodes) [] = ⊥
 IsForest network (node ∷ nodes) (tree ∷ trees) = IsAllowed network node tree × IsForest network nodes trees
 
-abbrev forest_lines : List Tree → List LineOf
+abbrev forest_lines : List Tree → List LogLine
 forest_lines [] = []
 forest_lines (tree ∷ trees) = tree_lines tree ++ forest_lines trees
 
-abbrev forest_placed : List Node → List Tree → List (Node × LineOf)
+abbrev forest_placed : List Node → List Tree → List (Node × LogLine)
 forest_placed [] trees = []
 forest_placed (node ∷ nodes) [] = []
 forest_placed (node ∷ nodes) (tree ∷ trees) = placed node tree ++ forest_placed nodes trees
@@ -120,53 +124,53 @@ forest_bound network (node ∷ nodes) [] = NoPlan
 forest_bound network (node ∷ nodes) (tree ∷ trees) = lesser (bound_at network node tree) (forest_bound network nodes trees)
 
 -- trees for the open nodes make up trees for those from which the lines lead to them
-record Completes (network : NetworkOf) (nodes : List Node) (lines : List LineOf) (final : List Node) (forest : List Tree) : Type 0 where
+record Completes (network : NetworkOf) (nodes : List Node) (lines : List LogLine) (final : List Node) (forest : List Tree) : Type 0 where
   whole : List Tree
   allowed : IsForest network nodes whole
   spelled : forest_lines whole ≡ lines ++ forest_lines forest
-  before : List (Node × LineOf)
+  before : List (Node × LogLine)
   parts : forest_placed nodes whole ≡ before ++ forest_placed final forest
   earlier : map (λ at. at.1) before ≡ lines
   least : forest_bound network nodes whole ≡ lesser (bound_along network nodes lines) (forest_bound network final forest)
 
 -- the two children of a split make its tree
-split_on : (network : NetworkOf) (node : Node) (nodes : List Node) (candidate : ℕ) (lines : List LineOf) (final : List Node) (forest whole : List Tree) (before : List (Node × LineOf)) → IsAllowedLine network node (split candidate) → IsForest network (with_chosen node candidate ∷ without_chosen node candidate ∷ nodes) whole → forest_lines whole ≡ lines ++ forest_lines forest → forest_placed (with_chosen node candidate ∷ without_chosen node candidate ∷ nodes) whole ≡ before ++ forest_placed final forest → map {A = Node × LineOf} {B = LineOf} (λ at. at.1) before ≡ lines → forest_bound network (with_chosen node candidate ∷ without_chosen node candidate ∷ nodes) whole ≡ lesser (bound_along network (with_chosen node candidate ∷ without_chosen node candidate ∷ nodes) lines) (forest_bound network final forest) → Completes network (node ∷ nodes) (split candidate ∷ lines) final forest
+split_on : (network : NetworkOf) (node : Node) (nodes : List Node) (candidate : ℕ) (lines : List LogLine) (final : List Node) (forest whole : List Tree) (before : List (Node × LogLine)) → IsAllowedLine network node (Split candidate) → IsForest network (with_chosen node candidate ∷ without_chosen node candidate ∷ nodes) whole → forest_lines whole ≡ lines ++ forest_lines forest → forest_placed (with_chosen node candidate ∷ without_chosen node candidate ∷ nodes) whole ≡ before ++ forest_placed final forest → map {A = Node × LogLine} {B = LogLine} (λ at. at.1) before ≡ lines → forest_bound network (with_chosen node candidate ∷ without_chosen node candidate ∷ nodes) whole ≡ lesser (bound_along network (with_chosen node candidate ∷ without_chosen node candidate ∷ nodes) lines) (forest_bound network final forest) → Completes network (node ∷ nodes) (Split candidate ∷ lines) final forest
 split_on network node nodes candidate lines final forest [] before here allowed spelled parts earlier least = absurd allowed
 split_on network node nodes candidate lines final forest (a ∷ []) before here allowed spelled parts earlier least = absurd allowed.1
 split_on network node nodes candidate lines final forest (a ∷ b ∷ trees) before here allowed spelled parts earlier least = record {
   whole = fork candidate a b ∷ trees;
   allowed = ((here, allowed.0, allowed.1.0), allowed.1.1);
-  spelled = ap (λ (rest : List LineOf). split candidate ∷ rest) (append_assoc (tree_lines a) (tree_lines b) (forest_lines trees) ∙ spelled);
-  before = (node, split candidate) ∷ before;
-  parts = ap (λ (rest : List (Node × LineOf)). (node, split candidate) ∷ rest) (append_assoc (placed (with_chosen node candidate) a) (placed (without_chosen node candidate) b) (forest_placed nodes trees) ∙ parts);
-  earlier = ap (λ (rest : List LineOf). split candidate ∷ rest) earlier;
+  spelled = ap (λ (rest : List LogLine). Split candidate ∷ rest) (append_assoc (tree_lines a) (tree_lines b) (forest_lines trees) ∙ spelled);
+  before = (node, Split candidate) ∷ before;
+  parts = ap (λ (rest : List (Node × LogLine)). (node, Split candidate) ∷ rest) (append_assoc (placed (with_chosen node candidate) a) (placed (without_chosen node candidate) b) (forest_placed nodes trees) ∙ parts);
+  earlier = ap (λ (rest : List LogLine). Split candidate ∷ rest) earlier;
   least = lesser_assoc (bound_at network (with_chosen node candidate) a) (bound_at network (without_chosen node candidate) b) (forest_bound network nodes trees) ∙ least;
 }
 
-complete : (network : NetworkOf) (nodes : List Node) (lines : List LineOf) (final : List Node) (forest : List Tree) → LeadsTo network nodes lines final → IsForest network final forest → Completes network nodes lines final forest
+complete : (network : NetworkOf) (nodes : List Node) (lines : List LogLine) (final : List Node) (forest : List Tree) → LeadsTo network nodes lines final → IsForest network final forest → Completes network nodes lines final forest
 complete network nodes [] final forest leads allowed =
     subst (λ (n : List Node). Completes network n [] final forest) (sym leads)
     (record { whole = forest; allowed = allowed; spelled = refl; before = []; parts = refl; earlier = refl; least = refl })
 complete network [] (x ∷ lines) final forest leads allowed = absurd leads
-complete network (node ∷ nodes) (split candidate ∷ lines) final forest leads allowed =
+complete network (node ∷ nodes) (Split candidate ∷ lines) final forest leads allowed =
     let later = complete network (with_chosen node candidate ∷ without_chosen node candidate ∷ nodes) lines final forest leads.1 allowed in
     split_on network node nodes candidate lines final forest later.whole later.before leads.0 later.allowed later.spelled later.parts later.earlier later.least
-complete network (node ∷ nodes) (leaf end ∷ lines) final forest leads allowed =
+complete network (node ∷ nodes) (Leaf end ∷ lines) final forest leads allowed =
     let later = complete network nodes lines final forest leads.1 allowed in
     record {
       whole = tip end ∷ later.whole;
       allowed = (leads.0, later.allowed);
-      spelled = ap (λ (rest : List LineOf). leaf end ∷ rest) later.spelled;
-      before = (node, leaf end) ∷ later.before;
-      parts = ap (λ (rest : List (Node × LineOf)). (node, leaf end) ∷ rest) later.parts;
-      earlier = ap (λ (rest : List LineOf). leaf end ∷ rest) later.earlier;
+      spelled = ap (λ (rest : List LogLine). Leaf end ∷ rest) later.spelled;
+      before = (node, Leaf end) ∷ later.before;
+      parts = ap (λ (rest : List (Node × LogLine)). (node, Leaf end) ∷ rest) later.parts;
+      earlier = ap (λ (rest : List LogLine). Leaf end ∷ rest) later.earlier;
       least = ap (lesser (leaf_bound network node end)) later.least ∙ sym (lesser_assoc (leaf_bound network node end) (bound_along network nodes lines) (forest_bound network final forest));
     }
 
 -- each node has a tree
 abbrev leaves : List Node → List Tree
 leaves [] = []
-leaves (node ∷ nodes) = tip cost ∷ leaves nodes
+leaves (node ∷ nodes) = tip Cost ∷ leaves nodes
 
 leaves_allowed : (network : NetworkOf) (nodes : List Node) → IsForest network nodes (leaves nodes)
 leaves_allowed network [] = tt
@@ -186,18 +190,18 @@ one_tree_of network node (a ∷ b ∷ trees) allowed = absurd allowed.1
 -- ---- right lines
 
 -- some nodes are open
-pub record Leads (network : NetworkOf) (lines : List LineOf) : Type 0 where
+pub record Leads (network : NetworkOf) (lines : List LogLine) : Type 0 where
   pub final : List Node
   pub leads : LeadsTo network (root_of network ∷ []) lines final
 
-pub begins_leads : (network : NetworkOf) (lines : List LineOf) → LogBegins network lines → Leads network lines
+pub begins_leads : (network : NetworkOf) (lines : List LogLine) → LogBegins network lines → Leads network lines
 begins_leads network lines begun =
     let along : LeadsTo network (root_of network ∷ []) (lines ++ begun.rest) [] =
-    subst (λ (l : List LineOf). LeadsTo network (root_of network ∷ []) l []) begun.begins (tree_leads network (root_of network) begun.tree [] begun.allowed) in
+    subst (λ (l : List LogLine). LeadsTo network (root_of network ∷ []) l []) begun.begins (tree_leads network (root_of network) begun.tree [] begun.allowed) in
     let parts = LeadsTo-parts network (root_of network ∷ []) [] lines begun.rest along in
     record { final = parts.middle; leads = parts.first }
 
-pub leads_begins : (network : NetworkOf) (lines : List LineOf) (final : List Node) → LeadsTo network (root_of network ∷ []) lines final → LogBegins network lines
+pub leads_begins : (network : NetworkOf) (lines : List LogLine) (final : List Node) → LeadsTo network (root_of network ∷ []) lines final → LogBegins network lines
 leads_begins network lines final leads =
     let made = complete network (root_of network ∷ []) lines final (leaves final) leads (leaves_allowed network final) in
     let one = one_tree_of network (root_of network) made.whole made.allowed in
@@ -208,17 +212,17 @@ leads_begins network lines final leads =
       begins = sym (append-nil (tree_lines one.tree)) ∙ ap forest_lines (sym one.alone) ∙ made.spelled;
     }
 
-pub whole_leads : (network : NetworkOf) (lines : List LineOf) → IsWhole network lines → LeadsTo network (root_of network ∷ []) lines []
-whole_leads network lines whole = subst (λ (l : List LineOf). LeadsTo network (root_of network ∷ []) l []) whole.spelled (tree_leads network (root_of network) whole.tree [] whole.allowed)
+pub whole_leads : (network : NetworkOf) (lines : List LogLine) → IsWhole network lines → LeadsTo network (root_of network ∷ []) lines []
+whole_leads network lines whole = subst (λ (l : List LogLine). LeadsTo network (root_of network ∷ []) l []) whole.spelled (tree_leads network (root_of network) whole.tree [] whole.allowed)
 
 -- the tree of all lines, with its bound
-pub record WholeTree (network : NetworkOf) (lines : List LineOf) : Type 0 where
+pub record WholeTree (network : NetworkOf) (lines : List LogLine) : Type 0 where
   pub tree : Tree
   pub allowed : IsAllowed network (root_of network) tree
   pub spelled : tree_lines tree ≡ lines
   pub least : bound_at network (root_of network) tree ≡ bound_along network (root_of network ∷ []) lines
 
-pub whole_tree : (network : NetworkOf) (lines : List LineOf) → LeadsTo network (root_of network ∷ []) lines [] → WholeTree network lines
+pub whole_tree : (network : NetworkOf) (lines : List LogLine) → LeadsTo network (root_of network ∷ []) lines [] → WholeTree network lines
 whole_tree network lines leads =
     let made = complete network (root_of network ∷ []) lines [] [] leads tt in
     let one = one_tree_of network (root_of network) made.whole made.allowed in
@@ -232,44 +236,44 @@ whole_tree network lines leads =
           ∙ lesser_none (bound_along network (root_of network ∷ []) lines);
     }
 
-pub leads_whole : (network : NetworkOf) (lines : List LineOf) → LeadsTo network (root_of network ∷ []) lines [] → IsWhole network lines
+pub leads_whole : (network : NetworkOf) (lines : List LogLine) → LeadsTo network (root_of network ∷ []) lines [] → IsWhole network lines
 leads_whole network lines leads =
     let made = whole_tree network lines leads in
     record { tree = made.tree; allowed = made.allowed; spelled = made.spelled }
 
 -- a node is the first open one
-pub record FirstOpen (network : NetworkOf) (lines : List LineOf) (node : Node) : Type 0 where
+pub record FirstOpen (network : NetworkOf) (lines : List LogLine) (node : Node) : Type 0 where
   pub rest : List Node
   pub leads : LeadsTo network (root_of network ∷ []) lines (node ∷ rest)
 
-pub stands_leads : (network : NetworkOf) (lines : List LineOf) (node : Node) → StandsNext network lines node → FirstOpen network lines node
+pub stands_leads : (network : NetworkOf) (lines : List LogLine) (node : Node) → StandsNext network lines node → FirstOpen network lines node
 stands_leads network lines node stands =
     let along : PlacedAlong network (root_of network ∷ []) (stands.before ++ (node, stands.next) ∷ stands.after) [] =
-    subst (λ (l : List (Node × LineOf)). PlacedAlong network (root_of network ∷ []) l []) stands.parts (placed_along network (root_of network) stands.tree [] stands.allowed) in
+    subst (λ (l : List (Node × LogLine)). PlacedAlong network (root_of network ∷ []) l []) stands.parts (placed_along network (root_of network) stands.tree [] stands.allowed) in
     let found = node_next network (root_of network ∷ []) [] stands.before stands.after (node, stands.next) along in
-    record { rest = found.rest; leads = subst (λ (l : List LineOf). LeadsTo network (root_of network ∷ []) l (node ∷ found.rest)) stands.earlier found.leads }
+    record { rest = found.rest; leads = subst (λ (l : List LogLine). LeadsTo network (root_of network ∷ []) l (node ∷ found.rest)) stands.earlier found.leads }
 
-pub leads_stands : (network : NetworkOf) (lines : List LineOf) (node : Node) (rest : List Node) → LeadsTo network (root_of network ∷ []) lines (node ∷ rest) → StandsNext network lines node
+pub leads_stands : (network : NetworkOf) (lines : List LogLine) (node : Node) (rest : List Node) → LeadsTo network (root_of network ∷ []) lines (node ∷ rest) → StandsNext network lines node
 leads_stands network lines node rest leads =
     let made = complete network (root_of network ∷ []) lines (node ∷ rest) (leaves (node ∷ rest)) leads (leaves_allowed network (node ∷ rest)) in
     let one = one_tree_of network (root_of network) made.whole made.allowed in
     record {
       tree = one.tree;
       before = made.before;
-      next = leaf cost;
+      next = Leaf Cost;
       after = forest_placed rest (leaves rest);
       allowed = one.allowed;
       parts = sym (append-nil (placed (root_of network) one.tree)) ∙ ap (forest_placed (root_of network ∷ [])) (sym one.alone) ∙ made.parts;
       earlier = made.earlier;
     }
 
-pub stands_not_whole : (network : NetworkOf) (lines : List LineOf) (node : Node) → StandsNext network lines node → IsWhole network lines → ⊥
+pub stands_not_whole : (network : NetworkOf) (lines : List LogLine) (node : Node) → StandsNext network lines node → IsWhole network lines → ⊥
 stands_not_whole network lines node stands whole =
     let found = stands_leads network lines node stands in
     let same : [] ≡ node ∷ found.rest = one_final network (root_of network ∷ []) [] (node ∷ found.rest) lines (whole_leads network lines whole) found.leads in
     absurd (cc)
 
-pub one_node : (network : NetworkOf) (lines : List LineOf) (a b : Node) → StandsNext network lines a → StandsNext network lines b → a ≡ b
+pub one_node : (network : NetworkOf) (lines : List LogLine) (a b : Node) → StandsNext network lines a → StandsNext network lines b → a ≡ b
 one_node network lines a b stands also =
     let first = stands_leads network lines a stands in
     let second = stands_leads network lines b also in
@@ -278,7 +282,7 @@ one_node network lines a b stands also =
 
 -- ---- numbers
 
-pub lines_numbers : (network : NetworkOf) (nodes final : List Node) (lines : List LineOf) → IsNetwork network → LeadsTo network nodes lines final → All (HasNumbersBelow number_bound) lines
+pub lines_numbers : (network : NetworkOf) (nodes final : List Node) (lines : List LogLine) → IsNetwork network → LeadsTo network nodes lines final → All (HasNumbersBelow number_bound) lines
 lines_numbers network nodes final [] bounds leads = All-nil (HasNumbersBelow number_bound)
 lines_numbers network [] final (x ∷ lines) bounds leads = absurd leads
 lines_numbers network (node ∷ nodes) final (x ∷ lines) bounds leads =

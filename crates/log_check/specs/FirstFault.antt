@@ -2,60 +2,55 @@
 use Rattle.std.specs.Prelude.{◌≡◌, ℕ, ◌+◌, List, [], ◌∷◌, ◌++◌, length, map}
 use Rattle.geo_model.specs.Network.{NetworkOf}
 use Rattle.geo_model.specs.declared.plan.Node.{Node}
-use Rattle.bound_log.specs.Grammar.{HasNumbersBelow, number_bound}
-use Rattle.bound_log.specs.LogText.{head_text, line_text, lines_text}
+use Rattle.bound_log.specs.declared.log_kind.LogKind.{LogKind}
+use Rattle.bound_log.specs.declared.log_kind.LogKind.TheVariants.{Extra, Form, Short}
+use Rattle.bound_log.specs.declared.log_line.LogLine.{LogLine}
 use Rattle.bound_log.specs.LogTree.{root_of, IsAllowed}
 use Rattle.bound_log.specs.Placed.{placed}
-use Rattle.bound_log.specs.Tree.{LineOf, Tree, tree_lines}
+use Rattle.bound_log.specs.Rules.{IsFirstBroken}
+use Rattle.bound_log.specs.Spells.{BeginsWith, NextIs}
+use Rattle.bound_log.specs.Tree.{Tree, tree_lines}
 use Rattle.log_check.specs.declared.fault.LogFault.{LogFault}
-use Rattle.log_check.specs.declared.fault.LogKind.{LogKind}
-use Rattle.log_check.specs.declared.fault.LogKind.TheVariants.{Extra, Form, Short}
-use Rattle.log_check.specs.Rules.{IsFirstBroken}
 
 -- ---- right lines
 
 -- a log of the network begins with these lines
-pub record LogBegins (network : NetworkOf) (lines : List LineOf) : Type 0 where
+pub record LogBegins (network : NetworkOf) (lines : List LogLine) : Type 0 where
   pub tree : Tree
-  pub rest : List LineOf
+  pub rest : List LogLine
   pub allowed : IsAllowed network (root_of network) tree
   pub begins : tree_lines tree ≡ lines ++ rest
 
 -- these are all the lines of a log of the network
-pub record IsWhole (network : NetworkOf) (lines : List LineOf) : Type 0 where
+pub record IsWhole (network : NetworkOf) (lines : List LogLine) : Type 0 where
   pub tree : Tree
   pub allowed : IsAllowed network (root_of network) tree
   pub spelled : tree_lines tree ≡ lines
 
 -- after these lines, the next line of some log of the network stands at this node
-pub record StandsNext (network : NetworkOf) (lines : List LineOf) (node : Node) : Type 0 where
+pub record StandsNext (network : NetworkOf) (lines : List LogLine) (node : Node) : Type 0 where
   pub tree : Tree
-  pub before : List (Node × LineOf)
-  pub next : LineOf
-  pub after : List (Node × LineOf)
+  pub before : List (Node × LogLine)
+  pub next : LogLine
+  pub after : List (Node × LogLine)
   pub allowed : IsAllowed network (root_of network) tree
   pub parts : placed (root_of network) tree ≡ before ++ (node, next) ∷ after
   pub earlier : map (λ at. at.1) before ≡ lines
 
 -- ---- the text after them
 
--- a text begins with a line of the grammar with its LF, and this is left
-pub record BeginsWithLine (text : List ℕ) (line : LineOf) (left : List ℕ) : Type 0 where
-  pub spelled : text ≡ line_text line ++ left
-  pub numbers : HasNumbersBelow number_bound line
-
 -- What is wrong where these right lines are followed by this text: the tree is whole and text is left; or it isn't
 -- whole, and no text is left, or no line of the grammar comes next, or one comes that breaks a rule at its node.
-pub data IsFaultAfter (network : NetworkOf) (lines : List LineOf) (text : List ℕ) (kind : LogKind) : Type 0 where
+pub data IsFaultAfter (network : NetworkOf) (lines : List LogLine) (text : List ℕ) (kind : LogKind) : Type 0 where
   extra : kind ≡ Extra → IsWhole network lines → (text ≡ [] → ⊥) → IsFaultAfter network lines text kind
   short : kind ≡ Short → (IsWhole network lines → ⊥) → text ≡ [] → IsFaultAfter network lines text kind
-  form : kind ≡ Form → (IsWhole network lines → ⊥) → (text ≡ [] → ⊥) → ((line : LineOf) (left : List ℕ) → BeginsWithLine text line left → ⊥) → IsFaultAfter network lines text kind
-  rule : (line : LineOf) (left : List ℕ) (node : Node) → BeginsWithLine text line left → StandsNext network lines node → IsFirstBroken network node line kind → IsFaultAfter network lines text kind
+  form : kind ≡ Form → (IsWhole network lines → ⊥) → (text ≡ [] → ⊥) → ((line : LogLine) (left : List ℕ) → NextIs text line left → ⊥) → IsFaultAfter network lines text kind
+  rule : (line : LogLine) (left : List ℕ) (node : Node) → NextIs text line left → StandsNext network lines node → IsFirstBroken network node line kind → IsFaultAfter network lines text kind
 
 -- ---- the first fault
 
 -- Lines are counted from 1. Either the text doesn't begin with the first line of a log. Or some right lines follow that
 -- one, and what comes after them is wrong.
 pub data IsFirstFault (network : NetworkOf) (text : List ℕ) (fault : LogFault) : Type 0 where
-  headless : fault.line ≡ 1 → fault.kind ≡ Form → ((left : List ℕ) → text ≡ head_text ++ left → ⊥) → IsFirstFault network text fault
-  later : (lines : List LineOf) (left : List ℕ) → text ≡ head_text ++ (lines_text lines ++ left) → LogBegins network lines → fault.line ≡ length lines + 2 → IsFaultAfter network lines left fault.kind → IsFirstFault network text fault
+  headless : fault.line ≡ 1 → fault.kind ≡ Form → ((left : List ℕ) → BeginsWith text [] left → ⊥) → IsFirstFault network text fault
+  later : (lines : List LogLine) (left : List ℕ) → BeginsWith text lines left → LogBegins network lines → fault.line ≡ length lines + 2 → IsFaultAfter network lines left fault.kind → IsFirstFault network text fault

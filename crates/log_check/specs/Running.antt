@@ -8,35 +8,37 @@ use Rattle.bound_log.specs.declared.bound.Bound.{Bound}
 use Rattle.bound_log.specs.declared.bound.Bound.TheVariants.{NoPlan}
 use Rattle.bound_log.specs.Bound.{lesser}
 use Rattle.bound_log.specs.Counted.{counts_of}
-use Rattle.bound_log.specs.LogTree.{root_of, with_chosen, without_chosen, IsAllowedLine, leaf_bound}
-use Rattle.bound_log.specs.Tree.{LineOf, split, leaf}
+use Rattle.bound_log.specs.declared.log_line.LogLine.{LogLine}
+use Rattle.bound_log.specs.declared.log_line.LogLine.TheVariants.{Split, Leaf}
+use Rattle.bound_log.specs.LogTree.{root_of, with_chosen, without_chosen, leaf_bound}
+use Rattle.bound_log.specs.Rules.{IsAllowedLine}
 
 -- the nodes that a line opens in place of its own
-abbrev pub opened : Node → LineOf → List Node
-opened node (split candidate) = with_chosen node candidate ∷ without_chosen node candidate ∷ []
-opened node (leaf end) = []
+abbrev pub opened : Node → LogLine → List Node
+opened node (Split candidate) = with_chosen node candidate ∷ without_chosen node candidate ∷ []
+opened node (Leaf end) = []
 
 -- the bound of a line: that of a leaf; a split has none
-abbrev pub line_bound : NetworkOf → Node → LineOf → Bound
-line_bound network node (split candidate) = NoPlan
-line_bound network node (leaf end) = leaf_bound network node end
+abbrev pub line_bound : NetworkOf → Node → LogLine → Bound
+line_bound network node (Split candidate) = NoPlan
+line_bound network node (Leaf end) = leaf_bound network node end
 
 -- from these open nodes the lines lead to those: each line is allowed at the first open node, and takes its place
-abbrev pub LeadsTo : NetworkOf → List Node → List LineOf → List Node → Type 0
+abbrev pub LeadsTo : NetworkOf → List Node → List LogLine → List Node → Type 0
 LeadsTo network nodes [] final = nodes ≡ final
 LeadsTo network [] (line ∷ lines) final = ⊥
 LeadsTo network (node ∷ nodes) (line ∷ lines) final =
     IsAllowedLine network node line × LeadsTo network (opened node line ++ nodes) lines final
 
 -- the least bound of the lines that are taken from these open nodes
-abbrev pub bound_along : NetworkOf → List Node → List LineOf → Bound
+abbrev pub bound_along : NetworkOf → List Node → List LogLine → Bound
 bound_along network nodes [] = NoPlan
 bound_along network [] (line ∷ lines) = NoPlan
 bound_along network (node ∷ nodes) (line ∷ lines) =
     lesser (line_bound network node line) (bound_along network (opened node line ++ nodes) lines)
 
 -- after these lines of a log these nodes are open, and this is the least bound so far, with the lines counted
-pub record StandsAt (network : NetworkOf) (lines : List LineOf) (nodes : List Node) (bound : Bound) (counts : Counts) : Type 0 where
+pub record StandsAt (network : NetworkOf) (lines : List LogLine) (nodes : List Node) (bound : Bound) (counts : Counts) : Type 0 where
   pub leads : LeadsTo network (root_of network ∷ []) lines nodes
   pub least : bound ≡ bound_along network (root_of network ∷ []) lines
   pub counted : counts ≡ counts_of lines

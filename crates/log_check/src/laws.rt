@@ -1,12 +1,11 @@
 //! What the first fault of a text is. Each function is its contract: it does nothing.
-ghost use Rattle.std.specs.Prelude.{◌≡◌, ◌↔◌, ◌⊎◌, ℕ, List, All};
+ghost use Rattle.std.specs.Prelude.{◌≡◌, ◌≤◌, ◌⊎◌, ◌++◌, ℕ, List, count_by};
+ghost use Rattle.lent_parts.specs.Pieces.{is_line_feed};
 ghost use Rattle.geo_model.specs.Network.{NetworkOf, IsNetwork};
-ghost use Rattle.geo_model.specs.declared.plan.Node.{Node};
-ghost use Rattle.bound_log.specs.LogTree.{IsAllowedLine, IsLog};
-ghost use Rattle.bound_log.specs.Tree.{LineOf, Tree};
+ghost use Rattle.bound_log.specs.LogTree.{IsLog};
+ghost use Rattle.bound_log.specs.Tree.{Tree};
 ghost use Rattle.log_check.specs.declared.fault.LogFault.{LogFault as FaultOf};
 ghost use Rattle.log_check.specs.FirstFault.{IsFirstFault};
-ghost use Rattle.log_check.specs.Rules.{KeepsRule, rule_order};
 
 /// Each text is a log or has a first fault, and never both; and it has at most one first fault, its
 /// line and its kind.
@@ -16,7 +15,8 @@ pub fn each_text_has_one_verdict()
     ensures one_fault { (network : NetworkOf) (text : List ℕ) (a b : FaultOf) → IsNetwork network → IsFirstFault network text a → IsFirstFault network text b → a ≡ b }
 {}
 
-/// A line keeps all rules at a node exactly where it is allowed there.
-pub fn rules_say_what_is_allowed()
-    ensures { (network : NetworkOf) (node : Node) (line : LineOf) → All (KeepsRule network node line) rule_order ↔ IsAllowedLine network node line }
+/// A fault of a line that has ended stays the fault of each longer text. A text has as many lines that
+/// have ended as it has LFs.
+pub fn a_fault_stays()
+    ensures { (network : NetworkOf) (text more : List ℕ) (fault : FaultOf) → IsNetwork network → IsFirstFault network text fault → fault.line ≤ count_by is_line_feed text → IsFirstFault network (text ++ more) fault }
 {}

@@ -17,9 +17,9 @@ mod progress;
 mod replaying;
 mod rules;
 
-pub use bound_log::Bound;
-pub use fault::{LogFault, LogKind, ReplayAnswer};
-pub use laws::{each_text_has_one_verdict, rules_say_what_is_allowed};
+pub use bound_log::{Bound, LogKind};
+pub use fault::{LogFault, ReplayAnswer};
+pub use laws::{a_fault_stays, each_text_has_one_verdict};
 pub use replaying::{Replayed, replay};
 
 #[cfg(test)]

@@ -6,22 +6,23 @@ ghost use Rattle.geo_model.specs.declared.plan.Node.{Node as NodeOf};
 ghost use Rattle.bound_log.specs.declared.bound.Bound.TheVariants.{NoPlan, AtLeast};
 ghost use Rattle.bound_log.specs.Bound.{lesser};
 ghost use Rattle.bound_log.specs.Counted.{counts_of};
-ghost use Rattle.bound_log.specs.LogLines.{log_line_of};
-ghost use Rattle.bound_log.specs.LogTree.{IsAllowedLine};
+ghost use Rattle.bound_log.specs.LogTree.{leaf_bound};
+ghost use Rattle.bound_log.specs.Rules.{IsAllowedLine};
 ghost use Rattle.log_check.specs.Places.{IsReady};
 ghost use Rattle.log_check.specs.Running.{line_bound};
 ghost use Rattle.log_check.specs.Taking.{EndsAt, Takes};
 
 use crate::open_nodes::OpenNodes;
-use bound_log::{Bound, LogLine, count_line};
+use bound_log::{Bound, LogLeaf, LogLine, count_line};
 use geo_base::NoMemory;
 use geo_model::{Counts, Network, cost};
 use std::alloc::Global;
 
-/// What the lines so far leave: the nodes that are open, the least bound of the leaves, and the lines
-/// counted.
+/// What the lines so far leave: how many there are, the first line of a log among them, the nodes that
+/// are open, the least bound of the leaves, and the lines counted by their kinds.
 #[derive(Drop)]
 pub struct Progress {
+    pub lines: u64,
     pub stack: OpenNodes,
     pub bound: Bound,
     pub counts: Counts,
@@ -30,6 +31,7 @@ pub struct Progress {
 impl Progress {
     /// Before the first line: the root is open. Refused for want of memory alone.
     pub fn new(alloc: Global, network: &Network) -> Result<Progress, NoMemory>
+        ensures lines { IfOk result (λ made. made.lines ≡ 0) }
         ensures stack { IfOk result (λ made. made.stack ≡ record { candidates = length network.now.candidates; nodes = all_plans (length network.now.candidates) ∷ [] }) }
         ensures bound { IfOk result (λ made. made.bound ≡ NoPlan) }
         ensures counts { IfOk result (λ made. made.counts ≡ counts_of []) }
@@ -37,30 +39,43 @@ impl Progress {
     {
         let stack = OpenNodes::new(alloc, network.candidates().len() as u32)?;
         Ok(Progress {
+            lines: 0,
             stack,
             bound: Bound::NoPlan,
             counts: Counts::none(),
         })
     }
 
-    /// Takes a line that is allowed at the next node. It takes no memory.
+    /// Takes a line that is allowed at the next node, which is to be numbered yet. It takes no memory.
     pub fn take(&mut self, network: &Network, line: LogLine)
         requires ready { IsReady network.now self.old.stack }
         requires some { 0 < length self.old.stack.nodes }
-        requires allowed { (node : NodeOf) (rest : List NodeOf) → self.old.stack.nodes ≡ node ∷ rest → IsAllowedLine network.now node (log_line_of line) }
+        requires allowed { (node : NodeOf) (rest : List NodeOf) → self.old.stack.nodes ≡ node ∷ rest → IsAllowedLine network.now node line }
         ensures { (node : NodeOf) (rest : List NodeOf) → self.old.stack.nodes ≡ node ∷ rest →
-            Takes node rest (log_line_of line) (line_bound network.now node (log_line_of line)) self.old self.new }
+            Takes node rest line (line_bound network.now node line) self.old self.new }
     {
-        count_line(&mut self.counts, line);
+        count_line(&mut self.counts, line.kind());
         match line {
             LogLine::Split(candidate) => self.stack.split(candidate as u32),
-            LogLine::Cost => self.end_at_price(network),
-            LogLine::Pivot(_) => self.stack.pop(),
+            LogLine::Leaf(leaf) => self.close(network, leaf),
+        }
+    }
+
+    // Closes the next node with the bound of a leaf.
+    fn close(&mut self, network: &Network, leaf: LogLeaf)
+        requires ready { IsReady network.now self.old.stack }
+        requires some { 0 < length self.old.stack.nodes }
+        ensures { (node : NodeOf) (rest : List NodeOf) → self.old.stack.nodes ≡ node ∷ rest →
+            EndsAt rest (leaf_bound network.now node leaf) self.old self.new }
+    {
+        match leaf {
+            LogLeaf::Cost => self.close_at_price(network),
+            LogLeaf::Pivot(_) => self.stack.pop(),
         }
     }
 
     // Closes the next node, with the price of what it chooses as its bound.
-    fn end_at_price(&mut self, network: &Network)
+    fn close_at_price(&mut self, network: &Network)
         requires ready { IsReady network.now self.old.stack }
         requires some { 0 < length self.old.stack.nodes }
         ensures { (node : NodeOf) (rest : List NodeOf) → self.old.stack.nodes ≡ node ∷ rest →

@@ -1,14 +1,12 @@
 //! Whether a line is allowed at a node.
-ghost use Rattle.std.specs.Prelude.{length, IfSome, IfNone};
+ghost use Rattle.std.specs.Prelude.{◌≡◌, length};
 ghost use Rattle.pivot_chain.specs.Room.{IsRoomOf};
-ghost use Rattle.bound_log.specs.LogLines.{log_line_of};
-ghost use Rattle.bound_log.specs.LogTree.{IsAllowedLine};
-ghost use Rattle.bound_log.specs.Tree.{split, leaf, pivot};
+ghost use Rattle.bound_log.specs.Rules.{first_broken, line_rules};
+ghost use Rattle.bound_log.specs.declared.log_leaf.LogLeaf.TheVariants as log_leaf;
+ghost use Rattle.bound_log.specs.declared.log_line.LogLine.TheVariants as log_line;
 ghost use Rattle.log_check.specs.Places.{HasEntries};
-ghost use Rattle.log_check.specs.Rules.{IsFirstBroken};
 
-use crate::fault::LogKind;
-use bound_log::LogLine;
+use bound_log::{LogKind, LogLeaf, LogLine};
 use geo_model::{Network, Node, Verdict};
 use pivot_chain::{ChainRoom, verdict};
 
@@ -21,22 +19,37 @@ pub fn broken_rule(
 ) -> Option<LogKind>
     requires room { IsRoomOf network.now room.old }
     requires node { HasEntries (length network.now.candidates) node.now }
-    ensures broken { IfSome result (λ kind. IsFirstBroken network.now node.now (log_line_of line) kind) }
-    ensures allowed { IfNone result (IsAllowedLine network.now node.now (log_line_of line)) }
+    ensures rule { result ≡ first_broken (line_rules network.now node.now line) }
     ensures kept { IsRoomOf network.now room.new }
 {
     match line {
         LogLine::Split(candidate) => broken_by_split(network, node, candidate),
-        LogLine::Cost => None,
-        LogLine::Pivot(limit) => broken_by_pivot(network, room, node, limit),
+        LogLine::Leaf(leaf) => broken_by_leaf(network, room, node, leaf),
+    }
+}
+
+// The first rule that a leaf breaks.
+fn broken_by_leaf(
+    network: &Network,
+    room: &mut ChainRoom,
+    node: &Node,
+    leaf: LogLeaf,
+) -> Option<LogKind>
+    requires room { IsRoomOf network.now room.old }
+    requires node { HasEntries (length network.now.candidates) node.now }
+    ensures rule { result ≡ first_broken (line_rules network.now node.now (log_line.Leaf leaf)) }
+    ensures kept { IsRoomOf network.now room.new }
+{
+    match leaf {
+        LogLeaf::Cost => None,
+        LogLeaf::Pivot(limit) => broken_by_pivot(network, room, node, limit),
     }
 }
 
 // The first rule that a split breaks.
 fn broken_by_split(network: &Network, node: &Node, candidate: u64) -> Option<LogKind>
     requires { HasEntries (length network.now.candidates) node.now }
-    ensures broken { IfSome result (λ kind. IsFirstBroken network.now node.now (split candidate) kind) }
-    ensures allowed { IfNone result (IsAllowedLine network.now node.now (split candidate)) }
+    ensures { result ≡ first_broken (line_rules network.now node.now (log_line.Split candidate)) }
 {
     let candidates = network.candidates();
     if candidate >= candidates.len() as u64 {
@@ -61,8 +74,7 @@ fn broken_by_pivot(
 ) -> Option<LogKind>
     requires room { IsRoomOf network.now room.old }
     requires node { HasEntries (length network.now.candidates) node.now }
-    ensures broken { IfSome result (λ kind. IsFirstBroken network.now node.now (leaf (pivot number)) kind) }
-    ensures allowed { IfNone result (IsAllowedLine network.now node.now (leaf (pivot number))) }
+    ensures rule { result ≡ first_broken (line_rules network.now node.now (log_line.Leaf (log_leaf.Pivot number))) }
     ensures kept { IsRoomOf network.now room.new }
 {
     let limits = network.limits();

@@ -1,24 +1,24 @@
 use Rattle.std.proofs.Common.{[], ◌++◌, ap, sym, ◌∙◌, subst}
 use Rattle.bound_log.specs.LogText.{line_words}
-use Rattle.bound_log.specs.LogLines.{BeginsWith, log_line_of, words_of}
+use Rattle.bound_log.specs.LogLines.{WordsBeginWith, words_of}
 use Rattle.bound_log.proofs.GrammarLemmas.{begins_of_line, line_of_words, more_words, words_of_line}
 use Rattle.bound_log.proofs.read.read_line.Goals as goal
 
 pub returns-in_default-clause-none : goal.returns-in_default-clause-none
 returns-in_default-clause-none c = λ other is.
     c.in_default.ensures.none other []
-    (subst (λ left. BeginsWith (words_of left) other []) (sym c.tokens-words.ensures) (begins_of_line c.args.line.now other is))
+    (subst (λ left. WordsBeginWith (words_of left) other []) (sym c.tokens-words.ensures) (begins_of_line c.args.line.now other is))
 
 pub returns-in-None-clause-some : goal.returns-in-None-clause-some
 returns-in-None-clause-some c =
     let after = words_of c.read_words.new.words in
-    line_of_words c.args.line.now (log_line_of c.in-Some.read) after
-    (subst (λ left. BeginsWith (words_of left) (log_line_of c.in-Some.read) after) c.tokens-words.ensures c.in-Some.ensures.some)
+    line_of_words c.args.line.now c.in-Some.read after
+    (subst (λ left. WordsBeginWith (words_of left) c.in-Some.read after) c.tokens-words.ensures c.in-Some.ensures.some)
     (ap words_of c.in-None.ensures.steps.0)
 
 pub returns-in-Some-next-clause-none : goal.returns-in-Some-next-clause-none
 returns-in-Some-next-clause-none c = λ other is.
-    let read = log_line_of c.in-Some.read in
+    let read = c.in-Some.read in
     let word = c.in-Some-next.field-0.text.now in
     more_words read other word (words_of c.next.new.self)
     (ap (λ after. line_words read ++ after) (sym (ap words_of c.in-Some-next.ensures.steps))

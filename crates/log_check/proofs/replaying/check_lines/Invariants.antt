@@ -6,7 +6,7 @@ use Rattle.log_check.proofs.replaying.check_lines.Given as goal
 -- the lines so far were taken
 abbrev pub invariant-loop-line : goal.invariant-loop-line
 invariant-loop-line l = record {
-  reached : Reaches l.fn.network l.fn.log l.walk l.progress l.number;
+  reached : Reaches l.fn.network l.fn.log l.walk l.progress;
   room_kept : IsRoomOf l.fn.network l.room;
 }
 

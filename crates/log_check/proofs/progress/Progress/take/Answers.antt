@@ -1,39 +1,37 @@
-use Rattle.std.proofs.Common.{◌≡◌, ◌∷◌, List, arith, refl, subst}
+use Rattle.std.proofs.Common.{◌≡◌, [], ◌∷◌, ◌∙◌, List, arith, refl, ap, subst}
 use Rattle.geo_model.specs.declared.plan.Node.{Node}
-use Rattle.bound_log.specs.LogLines.{log_line_of}
-use Rattle.bound_log.specs.LogTree.{IsAllowedLine}
+use Rattle.bound_log.specs.Lines.{kind_of}
+use Rattle.bound_log.specs.Counted.{counts_with}
+use Rattle.bound_log.specs.declared.line_kind.LineKind.{LineKind}
+use Rattle.bound_log.specs.Rules.{IsAllowedLine}
 use Rattle.bound_log.specs.declared.log_line.LogLine.{LogLine}
 use Rattle.log_check.proofs.PlaceLemmas.{split_fits}
-use Rattle.log_check.proofs.TakeLemmas.{split_taken, cost_taken, pivot_taken}
+use Rattle.log_check.proofs.TakeLemmas.{split_taken, leaf_taken}
 use Rattle.log_check.proofs.progress.Progress.take.Goals as goal
 
 pub overflow_cast-candidate : goal.overflow_cast-candidate
 overflow_cast-candidate c =
     let stack = c.args.self.now.stack in
-    let allowed = subst (λ (l : LogLine). (node : Node) (rest : List Node) → stack.nodes ≡ node ∷ rest → IsAllowedLine c.args.network.now node (log_line_of l)) c.in-Split.is c.requires.allowed in
+    let allowed = subst (λ (l : LogLine). (node : Node) (rest : List Node) → stack.nodes ≡ node ∷ rest → IsAllowedLine c.args.network.now node l) c.in-Split.is c.requires.allowed in
     let fits = split_fits c.args.network.now stack c.in-Split.candidate c.requires.ready c.requires.some allowed in
     omega (arith, fits.small)
 
 pub split-requires-clause-few : goal.split-requires-clause-few
 split-requires-clause-few c =
     let stack = c.args.self.now.stack in
-    let allowed = subst (λ (l : LogLine). (node : Node) (rest : List Node) → stack.nodes ≡ node ∷ rest → IsAllowedLine c.args.network.now node (log_line_of l)) c.in-Split.is c.requires.allowed in
+    let allowed = subst (λ (l : LogLine). (node : Node) (rest : List Node) → stack.nodes ≡ node ∷ rest → IsAllowedLine c.args.network.now node l) c.in-Split.is c.requires.allowed in
     (split_fits c.args.network.now stack c.in-Split.candidate c.requires.ready c.requires.some allowed).few
 
 pub split-requires-clause-candidate : goal.split-requires-clause-candidate
 split-requires-clause-candidate c =
     let stack = c.args.self.now.stack in
-    let allowed = subst (λ (l : LogLine). (node : Node) (rest : List Node) → stack.nodes ≡ node ∷ rest → IsAllowedLine c.args.network.now node (log_line_of l)) c.in-Split.is c.requires.allowed in
+    let allowed = subst (λ (l : LogLine). (node : Node) (rest : List Node) → stack.nodes ≡ node ∷ rest → IsAllowedLine c.args.network.now node l) c.in-Split.is c.requires.allowed in
     (split_fits c.args.network.now stack c.in-Split.candidate c.requires.ready c.requires.some allowed).within
 
 pub returns-in-Split : goal.returns-in-Split
 returns-in-Split c = λ node rest is.
-    split_taken c.args.network.now node rest c.args.line c.in-Split.candidate c.args.self.now _ c.in-Split.is (c.split.ensures node rest is) refl c.count_line.ensures
+    split_taken c.args.network.now node rest c.args.line c.in-Split.candidate c.args.self.now _ c.in-Split.is (c.split.ensures node rest is) refl (c.count_line.ensures ∙ ap (λ (k : LineKind). counts_with c.args.self.now.counts (k ∷ [])) c.kind.ensures) refl
 
-pub returns-in-Cost : goal.returns-in-Cost
-returns-in-Cost c = λ node rest is.
-    cost_taken c.args.network.now node rest c.args.line c.args.self.now _ _ c.in-Cost.is refl refl c.count_line.ensures (c.end_at_price.ensures node rest is)
-
-pub returns-in-Pivot : goal.returns-in-Pivot
-returns-in-Pivot c = λ node rest is.
-    pivot_taken c.args.network.now node rest c.args.line c.in-Pivot.field-0 c.args.self.now _ c.in-Pivot.is (c.pop.ensures node rest is) refl c.count_line.ensures
+pub returns-in-Leaf : goal.returns-in-Leaf
+returns-in-Leaf c = λ node rest is.
+    leaf_taken c.args.network.now node rest c.args.line c.in-Leaf.leaf c.args.self.now _ _ c.in-Leaf.is refl refl (c.count_line.ensures ∙ ap (λ (k : LineKind). counts_with c.args.self.now.counts (k ∷ [])) c.kind.ensures) refl (c.close.ensures node rest is)

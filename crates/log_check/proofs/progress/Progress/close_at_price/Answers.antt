@@ -1,7 +1,7 @@
 use Rattle.std.proofs.Common.{length, ap, ◌∙◌}
 use Rattle.geo_model.specs.declared.plan.Node.{Node}
 use Rattle.log_check.proofs.PlaceLemmas.{head_tail, next_long}
-use Rattle.log_check.proofs.progress.Progress.end_at_price.Goals as goal
+use Rattle.log_check.proofs.progress.Progress.close_at_price.Goals as goal
 
 pub cost-price-requires : goal.cost-price-requires
 cost-price-requires c =

@@ -1,0 +1,84 @@
+-- The rules of a line of a log at its node, in the order in which they are looked at. This project's own.
+use Rattle.std.specs.Prelude.{ℕ, ◌≡◌, ltb, not, ◌&&◌, List, [], ◌∷◌, Bool, true, false, length, get_or, Option, Some, None, slice_get, if◌then◌else◌}
+use Rattle.std.specs.List.{list_all}
+use Rattle.geo_model.specs.Limit.{LimitOf}
+use Rattle.geo_model.specs.Network.{NetworkOf}
+use Rattle.geo_model.specs.declared.plan.Node.{Node}
+use Rattle.geo_model.specs.declared.verdict.Verdict.{Verdict}
+use Rattle.geo_model.specs.declared.verdict.Verdict.TheVariants.{Met, Refuted, Open}
+use Rattle.pivot_chain.specs.Verdict.{verdict_of}
+use Rattle.bound_log.specs.declared.log_kind.LogKind.{LogKind}
+use Rattle.bound_log.specs.declared.log_kind.LogKind.TheVariants.{Range, NotOpen, Owner, NotRefuted}
+use Rattle.bound_log.specs.declared.log_line.LogLine.{LogLine}
+use Rattle.bound_log.specs.Lines.{candidates_split, limits_named, limits_refuting}
+
+-- ---- rules
+
+-- a rule of a line: whether the line keeps it, and the kind of fault where it doesn't
+pub record LineRule : Type 0 where
+  pub kept : Bool
+  pub kind : LogKind
+
+-- the kind of the first rule that isn't kept
+abbrev pub first_broken : List LineRule → Option LogKind
+first_broken [] = None
+first_broken (rule ∷ rules) = if rule.kept then first_broken rules else Some rule.kind
+
+-- ---- tests
+
+-- a node leaves a candidate open: it is in its upper plan and not in its inner one
+abbrev pub leaves_open : Node → ℕ → Bool
+leaves_open node candidate = get_or node.upper candidate false && not (get_or node.inside candidate true)
+
+-- a candidate that may be none is in the plan
+abbrev pub chooses : List Bool → Option ℕ → Bool
+chooses plan None = true
+chooses plan (Some candidate) = get_or plan candidate false
+
+abbrev pub is_refuted : Verdict → Bool
+is_refuted Met = false
+is_refuted Refuted = true
+is_refuted (Open step lo hi) = false
+
+-- the limit of a number passes a test
+abbrev pub limit_passes : (LimitOf → Bool) → Option LimitOf → Bool
+limit_passes test None = false
+limit_passes test (Some limit) = test limit
+
+-- ---- the rules of a line
+
+-- each number of the line is in its range
+abbrev pub is_in_range : NetworkOf → LogLine → Bool
+is_in_range network line =
+    list_all (λ candidate. ltb candidate (length network.candidates)) (candidates_split line) &&
+    list_all (λ number. ltb number (length network.limits)) (limits_named line)
+
+-- a split is on a candidate that the node leaves open
+abbrev pub is_open_for : Node → LogLine → Bool
+is_open_for node line = list_all (leaves_open node) (candidates_split line)
+
+-- each limit that the line names is in force for the inner plan: it has no owner, or the plan chooses its owner
+abbrev pub is_owned : NetworkOf → Node → LogLine → Bool
+is_owned network node line = list_all (λ number. limit_passes (λ limit. chooses node.inside limit.owner) (slice_get network.limits number)) (limits_named line)
+
+-- the verdict of the upper plan is Refuted on each limit on which the line says so
+abbrev pub is_refuting : NetworkOf → Node → LogLine → Bool
+is_refuting network node line =
+    list_all (λ number. limit_passes (λ limit. is_refuted (verdict_of network node.upper limit)) (slice_get network.limits number)) (limits_refuting line)
+
+-- the rules of a line at a node; no line names a cut as yet
+unfoldable pub line_rules : NetworkOf → Node → LogLine → List LineRule
+line_rules network node line =
+    record { kept = is_in_range network line; kind = Range }
+    ∷ record { kept = is_open_for node line; kind = NotOpen }
+    ∷ record { kept = is_owned network node line; kind = Owner }
+    ∷ record { kept = is_refuting network node line; kind = NotRefuted }
+    ∷ []
+
+-- a line is allowed at a node: it breaks no rule
+abbrev pub IsAllowedLine : NetworkOf → Node → LogLine → Type 0
+IsAllowedLine network node line = first_broken (line_rules network node line) ≡ None
+
+-- the first rule that a line breaks at a node is of this kind
+abbrev pub IsFirstBroken : NetworkOf → Node → LogLine → LogKind → Type 0
+IsFirstBroken network node line kind = first_broken (line_rules network node line) ≡ Some kind
