@@ -6,3 +6,4 @@ pub mod Network
 pub mod Meeting
 pub mod Verdicts
 pub mod Nodes
+pub mod Cover

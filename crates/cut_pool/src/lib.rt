@@ -1,0 +1,12 @@
+//! Cuts: displacements of limits as covering inequalities over the candidates, and a pool of them.
+#![tactic(auto)]
+
+mod cut;
+mod laws;
+mod pool;
+mod share;
+
+pub use cut::{Cut, cut_into, cut_of};
+pub use laws::{meeting_plans_satisfy_cuts, shifts_are_least};
+pub use pool::CutPool;
+pub use share::Share;
