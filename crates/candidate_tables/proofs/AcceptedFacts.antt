@@ -1,30 +1,26 @@
 -- What holds of a record that breaks no rule, and of the candidates of a table without a fault.
-use Rattle.std.proofs.Common.{◌≡◌, ◌≢◌, ◌∙◌, ◌+◌, ◌≤◌, ◌^◌, ℕ, ℤ, pos, Bool, true, false, List, [], ◌∷◌, ◌++◌, Option, Some, None, length, refl, sym, arith, not, ◌&&◌, ◌||◌, eqb, subst, length-append}
+use Rattle.std.proofs.Common.{◌≡◌, ◌≢◌, ◌∙◌, ◌≤◌, ◌^◌, ℕ, ℤ, pos, Bool, true, false, List, [], Option, Some, None, refl, sym, arith, not, ◌&&◌, ◌||◌, eqb, subst}
 use Rattle.std.specs.Prelude.{◌≤ℤ◌, if◌then◌else◌, int_le, is_none, is_some, option_map, slice_get, unsigned_abs}
-use Rattle.std.specs.List.{IsDistinct, list_any}
+use Rattle.std.specs.List.{list_any}
 use Rattle.std.specs.Option.{ForSome, option_map_or}
 use Rattle.std.proofs.lemmas.Bool.{and_parts, eqb-false}
 use Rattle.std.proofs.lemmas.Bool.Decides.{nat_tests}
 use Rattle.std.proofs.lemmas.Int.{ints}
-use Rattle.std.proofs.lemmas.List.Elements.{All-nil, All-push}
 use Rattle.std.proofs.lemmas.Option.{slice_get-map}
-use Rattle.point_tables.proofs.RecordFacts.{record-few}
 use Rattle.text_num.specs.Decimal.{decimal_of}
 use Rattle.table_rows.specs.Faults.{first_broken}
 use Rattle.table_rows.proofs.FaultFacts.{both-kept, each-kept}
 use Rattle.point_tables.specs.declared.record.PointRecord.{PointRecord}
 use Rattle.point_tables.specs.Accepted.{is_absent}
-use Rattle.point_tables.specs.Columns.{is_outside, name_at, name_rules, number_rules, text_at}
-use Rattle.point_tables.specs.Names.{is_among, is_name, place_of}
+use Rattle.point_tables.specs.Columns.{number_kinds}
+use Rattle.table_columns.specs.Columns.{is_outside, name_at, number_rules, text_at}
+use Rattle.table_columns.specs.Names.{is_among, is_name, place_of}
 use Rattle.point_tables.specs.PointTable as points_table
-use Rattle.point_tables.proofs.PlaceFacts.{among-is, place-at}
-use Rattle.point_tables.proofs.StoredFacts.{apart-push}
-use Rattle.candidate_tables.proofs.RecordFacts.{by_name}
+use Rattle.table_columns.proofs.PlaceFacts.{among-is, place-at}
 use Rattle.candidate_tables.specs.declared.kind.Kind.{Kind}
-use Rattle.candidate_tables.specs.declared.record.CandidateRecord.{CandidateRecord}
 use Rattle.candidate_tables.specs.declared.kind_rules.LineBounds.{LineBounds}
-use Rattle.candidate_tables.specs.Accepted.{AreCandidates, IsBetween, IsCandidateRecord, IsEnd, IsLine, IsWithin}
-use Rattle.candidate_tables.specs.CandidateTable.{bound_rules, candidate_of, deviation_of, deviation_rules, end_rules, figure_rules, foresight_in, foresight_rules, height_deviation_of, height_rules, kind_at, length_rules, line_rules, lines_rules, names_of, part_rules, place_rules, point_rules, price_of, price_rules, rules_after}
+use Rattle.candidate_tables.specs.Accepted.{IsBetween, IsCandidateRecord, IsEnd, IsLine, IsWithin}
+use Rattle.candidate_tables.specs.CandidateTable.{bound_rules, candidate_of, column_rules, deviation_of, deviation_rules, end_rules, figure_rules, foresight_in, foresight_rules, height_deviation_of, height_rules, kind_at, length_rules, line_rules, lines_rules, part_rules, place_rules, point_rules, price_of, price_rules}
 use Rattle.candidate_tables.specs.Kinds.{rules_of}
 use Rattle.candidate_tables.specs.Lines.{length_squared}
 use Rattle.candidate_tables.specs.Places.{has_repeat, lacks_height, lacks_plane, named, place_in}
@@ -178,7 +174,7 @@ le-of : (a b : ℤ) → int_le a b ≡ true → a ≤ℤ b
 le-of a b h = grind (arith, ints)
 
 -- a text that breaks no rule of a number
-number-kept : (places : ℕ) (least most : ℤ) (text : List ℕ) → first_broken (number_rules places least most text) ≡ None
+number-kept : (places : ℕ) (least most : ℤ) (text : List ℕ) → first_broken (number_rules number_kinds places least most text) ≡ None
     → (value : ℤ) × (decimal_of places text ≡ Some value) × (least ≤ℤ value) × (value ≤ℤ most)
 unfolding number_rules
 number-kept places least most text e =
@@ -224,9 +220,7 @@ height-of kind text e = by (rules_of kind).has_height_deviation e
 -- ---- a record that breaks no rule
 
 -- the parts of a record's rules
-record RecordKept (points : List PointRecord) (number : ℕ) (row names : List (List ℕ)) (kind : Kind) (from to : ℕ) (to2 : Option ℕ) : Type 0 where
-  few : number ≤ 257
-  name : (is_name (name_at row) ≡ true) × (is_among (name_at row) names ≡ false)
+record RecordKept (points : List PointRecord) (row : List (List ℕ)) (kind : Kind) (from to : ℕ) (to2 : Option ℕ) : Type 0 where
   first : first_broken (point_rules points (text_at row 2)) ≡ None
   second : first_broken (point_rules points (text_at row 3)) ≡ None
   third : first_broken (foresight_rules points kind (text_at row 4)) ≡ None
@@ -236,14 +230,11 @@ record RecordKept (points : List PointRecord) (number : ℕ) (row names : List (
   sdh : first_broken (height_rules kind (text_at row 6)) ≡ None
   price : first_broken (price_rules (text_at row 7)) ≡ None
 
-record-kept : (points : List PointRecord) (number : ℕ) (row names : List (List ℕ)) → first_broken (rules_after points number row names) ≡ None
-    → RecordKept points number row names (kind_at row) (place_in points (text_at row 2)) (place_in points (text_at row 3)) (foresight_in points (kind_at row) (text_at row 4))
-unfolding rules_after candidate_of name_rules end_rules place_rules figure_rules
-record-kept points number row names e =
-    let (whole, after_whole) = both-kept _ _ e in
-    let (name, columns) = both-kept _ _ after_whole in
-    let (is_one, other) = each-kept _ _ name in
-    let (ends, after_ends) = both-kept _ _ columns in
+record-kept : (points : List PointRecord) (row : List (List ℕ)) → first_broken (column_rules points row (candidate_of points row)) ≡ None
+    → RecordKept points row (kind_at row) (place_in points (text_at row 2)) (place_in points (text_at row 3)) (foresight_in points (kind_at row) (text_at row 4))
+unfolding candidate_of end_rules place_rules figure_rules
+record-kept points row e =
+    let (ends, after_ends) = both-kept _ _ e in
     let (kind, after_kind) = both-kept _ _ ends in
     let (first, after_first) = both-kept _ _ after_kind in
     let (second, third) = both-kept _ _ after_first in
@@ -253,8 +244,6 @@ record-kept points number row names e =
     let (sd, after_sd) = both-kept _ _ figures in
     let (sdh, price) = both-kept _ _ after_sd in
     record {
-      few = record-few 257 8 number row whole;
-      name = (not-false (is_name (name_at row)) is_one, (each-kept _ [] other).0);
       first = first;
       second = second;
       third = third;
@@ -266,13 +255,13 @@ record-kept points number row names e =
     }
 
 -- what an accepted record is
-pub record-accepted : (points : List PointRecord) (number : ℕ) (row names : List (List ℕ)) → first_broken (rules_after points number row names) ≡ None
+pub record-accepted : (points : List PointRecord) (row : List (List ℕ)) → is_name (name_at row) ≡ true → first_broken (column_rules points row (candidate_of points row)) ≡ None
     → IsCandidateRecord points (candidate_of points row)
 unfolding candidate_of
-record-accepted points number row names e =
-    let kept = record-kept points number row names e in
+record-accepted points row is_one e =
+    let kept = record-kept points row e in
     record {
-      name = kept.name.0;
+      name = is_one;
       from = end-of points (kind_at row) _ (point-named points (text_at row 2) kept.first) (λ needs. (kept.parts.plane needs).0) (λ needs. (kept.parts.height needs).0);
       to = end-of points (kind_at row) _ (point-named points (text_at row 3) kept.second) (λ needs. (kept.parts.plane needs).1) (λ needs. (kept.parts.height needs).1);
       other = kept.parts.apart.0;
@@ -289,22 +278,4 @@ record-accepted points number row names e =
       has_sdh = (height-of (kind_at row) (text_at row 6) kept.sdh).0;
       sdh = (height-of (kind_at row) (text_at row 6) kept.sdh).1;
       price = price-of (text_at row 7) kept.price;
-    }
-
--- ---- the candidates of a table
-
-pub none-accepted : (points : List PointRecord) → AreCandidates points []
-unfolding IsDistinct
-none-accepted points = record { few = omega arith; apart = tt; each = All-nil (IsCandidateRecord points) }
-
-pub accepted-push : (points : List PointRecord) (before after : List CandidateRecord) (row : List (List ℕ)) → AreCandidates points before
-    → first_broken (rules_after points (length before + 2) row (names_of before)) ≡ None → after ≡ before ++ candidate_of points row ∷ [] → AreCandidates points after
-unfolding candidate_of
-accepted-push points before after row are e more =
-    let kept = record-kept points (length before + 2) row (names_of before) e in
-    let accepted = record-accepted points (length before + 2) row (names_of before) e in
-    rw more record {
-      few = omega (arith, kept.few, length-append before (candidate_of points row ∷ []));
-      apart = apart-push by_name before (candidate_of points row) are.apart kept.name.1;
-      each = All-push (IsCandidateRecord points) before (candidate_of points row) are.each accepted;
     }

@@ -1,16 +1,14 @@
 -- Which rule of a record is broken first, and the candidate that a record gives.
-use Rattle.std.proofs.Common.{◌≡◌, ◌∙◌, ◌+◌, ℕ, List, [], ◌∷◌, Option, Some, None, length, map, refl, sym, ap, subst}
-use Rattle.std.proofs.lemmas.List.{length-map}
+use Rattle.std.proofs.Common.{◌≡◌, ◌∙◌, ℕ, List, Option, Some, None, refl, sym, ap, subst}
 use Rattle.table_rows.specs.Faults.{first_broken}
 use Rattle.table_rows.proofs.FaultFacts.{first_broken-left, first_broken-right}
 use Rattle.point_tables.specs.declared.fault.FaultKind.{FaultKind}
 use Rattle.point_tables.specs.declared.record.PointRecord.{PointRecord}
-use Rattle.point_tables.specs.Columns.{name_at, name_rules, record_rules}
+use Rattle.table_columns.specs.Columns.{name_at}
 use Rattle.candidate_tables.specs.declared.ends.Ends.{Ends}
 use Rattle.candidate_tables.specs.declared.figures.Figures.{Figures}
 use Rattle.candidate_tables.specs.declared.kind.Kind.{Kind}
-use Rattle.candidate_tables.specs.declared.record.CandidateRecord.{CandidateRecord}
-use Rattle.candidate_tables.specs.CandidateTable.{candidate_of, candidates_table, column_rules, end_rules, figure_rules, names_of, place_rules, rules_after}
+use Rattle.candidate_tables.specs.CandidateTable.{candidate_of, column_rules, end_rules, figure_rules, place_rules}
 use Rattle.candidate_tables.specs.Read.{AreColumns, AreFigures, IsEnds}
 
 -- ---- the columns after the name, one part after the other
@@ -49,38 +47,6 @@ columns-read points row ends figures is are = record {
   ends = is;
   figures = subst (λ kind. AreFigures kind row figures) is.kind are;
 }
-
--- ---- the rules of a record, one part after the other
-
-module _ (points : List PointRecord) (number : ℕ) (row names : List (List ℕ)) where
-  pub broken-record : (broken : FaultKind) → first_broken (record_rules 257 8 number row) ≡ Some broken → first_broken (rules_after points number row names) ≡ Some broken
-  unfolding rules_after
-  broken-record broken e = first_broken-left _ _ broken e
-
-  pub broken-name : (broken : FaultKind) → first_broken (record_rules 257 8 number row) ≡ None → first_broken (name_rules (name_at row) names) ≡ Some broken
-      → first_broken (rules_after points number row names) ≡ Some broken
-  unfolding rules_after
-  broken-name broken e f = first_broken-right _ _ e ∙ first_broken-left _ _ broken f
-
-  pub broken-columns : (found : Option FaultKind) → first_broken (record_rules 257 8 number row) ≡ None → first_broken (name_rules (name_at row) names) ≡ None
-      → first_broken (column_rules points row (candidate_of points row)) ≡ found → first_broken (rules_after points number row names) ≡ found
-  unfolding rules_after
-  broken-columns found e f g = first_broken-right _ _ e ∙ first_broken-right _ _ f ∙ g
-
--- a candidate by its name
-abbrev pub by_name : CandidateRecord → List ℕ
-by_name candidate = candidate.name
-
--- the names of candidates are those of their records
-pub names-read : (points : List PointRecord) (rows : List (List (List ℕ))) → names_of (map (candidate_of points) rows) ≡ map name_at rows
-unfolding candidate_of
-names-read points [] = refl
-names-read points (row ∷ rows) = ap (λ (names : List (List ℕ)). name_at row ∷ names) (names-read points rows)
-
--- the rules by the candidates that were read are those by the records that were seen
-pub rules-read : (points : List PointRecord) (candidates : List CandidateRecord) (seen : List (List (List ℕ))) (row : List (List ℕ)) → candidates ≡ map (candidate_of points) seen
-    → rules_after points (length candidates + 2) row (names_of candidates) ≡ (candidates_table points).rules (length seen + 2) row seen
-rules-read points candidates seen row e = rw (e, length-map seen (candidate_of points), names-read points seen) refl
 
 -- ---- the candidate
 

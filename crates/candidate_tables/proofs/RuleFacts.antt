@@ -1,26 +1,27 @@
 -- Which rule of a column is broken first, and what the column is read as.
-use Rattle.std.proofs.Common.{◌≡◌, ◌∙◌, ◌<◌, ◌^◌, ℕ, ℤ, pos, true, false, List, ◌++◌, Option, Some, None, length, refl, ap, arith}
+use Rattle.std.proofs.Common.{◌≡◌, ◌∙◌, ◌<◌, ◌^◌, ℕ, ℤ, pos, true, false, List, Option, Some, None, length, refl, ap, arith}
 use Rattle.std.specs.Prelude.{slice_get, unsigned_abs}
 use Rattle.std.specs.Option.{option_map_or}
 use Rattle.std.proofs.lemmas.List.{length-map}
 use Rattle.std.proofs.lemmas.Option.{slice_get_within}
 use Rattle.text_num.specs.Decimal.{decimal_of}
-use Rattle.table_rows.specs.Faults.{Rule, first_broken}
-use Rattle.table_rows.proofs.FaultFacts.{first_broken-left, first_broken-right}
+use Rattle.table_rows.specs.Faults.{first_broken}
+use Rattle.table_rows.proofs.FaultFacts.{first_broken-left}
 use Rattle.point_tables.specs.declared.fault.FaultKind.{FaultKind}
 use Rattle.point_tables.specs.declared.fault.FaultKind.TheVariants as fault
 use Rattle.point_tables.specs.declared.record.PointRecord.{PointRecord}
-use Rattle.point_tables.specs.Columns.{IsNumber, number_rules, text_at}
-use Rattle.point_tables.specs.Names.{place_of}
+use Rattle.point_tables.specs.Columns.{number_kinds}
+use Rattle.table_columns.specs.Columns.{IsNumber, number_rules, text_at}
+use Rattle.table_columns.specs.Names.{place_of}
 use Rattle.point_tables.specs.PointTable.{names_of}
-use Rattle.point_tables.proofs.PlaceFacts.{among-is, place-at}
+use Rattle.table_columns.proofs.PlaceFacts.{among-is, place-at}
 use Rattle.candidate_tables.specs.declared.kind.Kind.{Kind}
 use Rattle.candidate_tables.specs.CandidateTable.{deviation_of, deviation_rules, end_rules, figure_rules, foresight_in, foresight_rules, height_deviation_of, height_rules, kind_at, kind_rules, point_rules, price_of, price_rules}
 use Rattle.candidate_tables.specs.Kinds.{kind_of, rules_of}
 use Rattle.candidate_tables.specs.Places.{place_in}
 use Rattle.candidate_tables.specs.declared.ends.Ends.{Ends}
 use Rattle.candidate_tables.specs.Read.{IsEnds, IsForesight, IsPlaceOf}
-use Rattle.point_tables.proofs.ColumnFacts.{at-field}
+use Rattle.table_columns.proofs.RecordFacts.{at-field, past}
 
 -- ---- the points that are named
 
@@ -70,11 +71,11 @@ pub price-read : (text : List ℕ) (value : ℤ) (size : ℕ) → IsNumber 0 (po
 unfolding price_of
 price-read text value size is same = size-is text 0 value size is.written same
 
-pub deviation-is : (text : List ℕ) → deviation_rules text ≡ number_rules 2 (pos 10) (pos 10000) text
+pub deviation-is : (text : List ℕ) → deviation_rules text ≡ number_rules number_kinds 2 (pos 10) (pos 10000) text
 unfolding deviation_rules
 deviation-is text = refl
 
-pub price-is : (text : List ℕ) → price_rules text ≡ number_rules 0 (pos 0) (pos (10 ^ 9)) text
+pub price-is : (text : List ℕ) → price_rules text ≡ number_rules number_kinds 0 (pos 0) (pos (10 ^ 9)) text
 unfolding price_rules
 price-is text = refl
 
@@ -91,10 +92,6 @@ unfolding height_deviation_of
 height-found kind text value e same = rw e (ap Some same)
 
 -- ---- one column after the other
-
--- where no rule of a column is broken the first broken one is among those after it
-past : {K : Type 0} (front back : List (Rule K)) (found : Option K) → first_broken front ≡ None → first_broken back ≡ found → first_broken (front ++ back) ≡ found
-past front back found kept e = first_broken-right front back kept ∙ e
 
 -- the kind of a record whose text names one
 pub kind-at : (row : List (List ℕ)) (kind : Kind) → kind_of (text_at row 1) ≡ Some kind → kind ≡ kind_at row

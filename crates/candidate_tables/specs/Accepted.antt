@@ -1,14 +1,12 @@
 -- What holds of the candidates of every accepted table. This project's own.
-use Rattle.std.specs.Prelude.{ℕ, ◌≡◌, ◌≢◌, ◌≤◌, ◌^◌, List, length, All, true, false, Some, is_some, slice_get}
-use Rattle.std.specs.List.{IsDistinct}
+use Rattle.std.specs.Prelude.{ℕ, ◌≡◌, ◌≢◌, ◌≤◌, ◌^◌, List, true, false, Some, is_some, slice_get}
 use Rattle.std.specs.Option.{ForSome}
-use Rattle.std.specs.Str.{bytes_eq}
 use Rattle.point_tables.specs.declared.record.PointRecord.{PointRecord}
 use Rattle.point_tables.specs.Accepted.{is_absent}
-use Rattle.point_tables.specs.Names.{is_name}
+use Rattle.table_columns.specs.Names.{is_name}
+use Rattle.table_columns.specs.Stored.{AreNamed}
 use Rattle.candidate_tables.specs.declared.kind.Kind.{Kind}
 use Rattle.candidate_tables.specs.declared.record.CandidateRecord.{CandidateRecord}
-use Rattle.candidate_tables.specs.CandidateTable.{names_of}
 use Rattle.candidate_tables.specs.declared.kind_rules.LineBounds.{LineBounds}
 use Rattle.candidate_tables.specs.Kinds.{rules_of}
 use Rattle.candidate_tables.specs.Lines.{length_squared}
@@ -56,7 +54,5 @@ pub record IsCandidateRecord (points : List PointRecord) (candidate : CandidateR
   pub price : candidate.price ≤ 10 ^ 9
 
 -- at most 256 candidates, each of which is one against these points, with names that differ
-pub record AreCandidates (points : List PointRecord) (candidates : List CandidateRecord) : Type 0 where
-  pub few : length candidates ≤ 256
-  pub apart : IsDistinct bytes_eq (names_of candidates)
-  pub each : All (IsCandidateRecord points) candidates
+abbrev pub AreCandidates : List PointRecord → List CandidateRecord → Type 0
+AreCandidates points candidates = AreNamed (λ candidate. candidate.name) 256 (IsCandidateRecord points) candidates

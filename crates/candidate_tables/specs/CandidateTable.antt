@@ -1,5 +1,5 @@
 -- The candidates table against the points: its rules, its first fault and the candidates that it stands for. This project's own.
-use Rattle.std.specs.Prelude.{ℕ, pos, ◌^◌, List, [], ◌∷◌, ◌++◌, not, ◌&&◌, if◌then◌else◌, codes, drop, map, nat_lt, Option, Some, None, is_none, unsigned_abs, unwrap_or}
+use Rattle.std.specs.Prelude.{ℕ, ◌≡◌, refl, pos, ◌^◌, List, [], ◌∷◌, ◌++◌, not, ◌&&◌, if◌then◌else◌, codes, drop, map, nat_lt, Option, Some, None, is_none, unsigned_abs, unwrap_or}
 use Rattle.std.specs.List.{list_any}
 use Rattle.std.specs.Option.{option_map_or}
 use Rattle.text_num.specs.Decimal.{decimal_of}
@@ -8,8 +8,9 @@ use Rattle.table_rows.specs.Rows.{table_rows}
 use Rattle.point_tables.specs.declared.fault.FaultKind.{FaultKind}
 use Rattle.point_tables.specs.declared.fault.FaultKind.TheVariants as fault
 use Rattle.point_tables.specs.declared.record.PointRecord.{PointRecord}
-use Rattle.point_tables.specs.Columns.{is_empty, name_at, name_rules, number_rules, record_rules, rule, text_at}
-use Rattle.point_tables.specs.Names.{is_among}
+use Rattle.point_tables.specs.Columns.{name_kinds, number_kinds, shape_of}
+use Rattle.table_columns.specs.Columns.{NamedRules, is_empty, name_at, named_table, number_rules, rule, text_at}
+use Rattle.table_columns.specs.Names.{is_among}
 use Rattle.point_tables.specs.PointTable as points_table
 use Rattle.candidate_tables.specs.declared.kind.Kind.{Kind}
 use Rattle.candidate_tables.specs.declared.kind.Kind.TheVariants as kind
@@ -121,7 +122,7 @@ place_rules points row kind from to to2 =
 
 -- a standard deviation has 2 places and is from 0.10 to 100.00
 unfoldable pub deviation_rules : List ℕ → List (Rule FaultKind)
-deviation_rules text = number_rules 2 (pos 10) (pos 10000) text
+deviation_rules text = number_rules number_kinds 2 (pos 10) (pos 10000) text
 
 -- the standard deviation of the height is one, if the kind has it
 unfoldable pub height_rules : Kind → List ℕ → List (Rule FaultKind)
@@ -129,7 +130,7 @@ height_rules kind text = if (rules_of kind).has_height_deviation then deviation_
 
 -- a price is a whole number from 0 to 1000000000
 unfoldable pub price_rules : List ℕ → List (Rule FaultKind)
-price_rules text = number_rules 0 (pos 0) (pos (10 ^ 9)) text
+price_rules text = number_rules number_kinds 0 (pos 0) (pos (10 ^ 9)) text
 
 -- sd, then sdh if the kind has it, and price
 unfoldable pub figure_rules : Kind → List (List ℕ) → List (Rule FaultKind)
@@ -142,20 +143,21 @@ column_rules points row candidate =
     ++ (place_rules points row candidate.kind candidate.from candidate.to candidate.to2
     ++ figure_rules candidate.kind row)
 
--- the rules of a record by its number and the names of the earlier records
-unfoldable pub rules_after : List PointRecord → ℕ → List (List ℕ) → List (List ℕ) → List (Rule FaultKind)
-rules_after points number row names =
-    record_rules 257 8 number row ++ (name_rules (name_at row) names ++ column_rules points row (candidate_of points row))
-
 -- ---- the table
 
--- what a candidates table asks: its header row, and in their order the rules of each further record
-abbrev pub candidates_table : List PointRecord → TableRules FaultKind
-candidates_table points = record {
+-- what a candidates table asks of a record: it is one of at most 256 under the header row, and has 8 fields, a name of its
+-- own and these columns
+abbrev pub candidate_rules : List PointRecord → NamedRules FaultKind
+candidate_rules points = record {
   header = candidate_header;
-  header_kind = fault.Header;
-  rules = λ number row earlier. rules_after points number row (map name_at earlier);
+  shape = shape_of 257 8;
+  name = name_kinds;
+  columns = λ row. column_rules points row (candidate_of points row);
 }
+
+-- the same as a table's
+abbrev pub candidates_table : List PointRecord → TableRules FaultKind
+candidates_table points = named_table (candidate_rules points)
 
 -- the first fault of a candidates table: the number of its record, counted from 1, and its kind
 unfoldable pub candidates_fault : List PointRecord → List ℕ → Option (ℕ × FaultKind)
@@ -168,3 +170,8 @@ candidates_of points bytes = map (candidate_of points) (drop 1 (table_rows bytes
 -- the names of candidates, in their order
 abbrev pub names_of : List CandidateRecord → List (List ℕ)
 names_of candidates = map (λ candidate. candidate.name) candidates
+
+-- a candidate's name is the text of its record's first field
+pub candidate_of-name : (points : List PointRecord) (row : List (List ℕ)) → (candidate_of points row).name ≡ name_at row
+unfolding candidate_of
+candidate_of-name points row = refl

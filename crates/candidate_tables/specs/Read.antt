@@ -2,7 +2,7 @@
 use Rattle.std.specs.Prelude.{ℕ, ◌≡◌, ◌<◌, List, length, Option, Some}
 use Rattle.std.specs.Option.{ForSome}
 use Rattle.point_tables.specs.declared.record.PointRecord.{PointRecord}
-use Rattle.point_tables.specs.Columns.{text_at}
+use Rattle.table_columns.specs.Columns.{text_at}
 use Rattle.candidate_tables.specs.declared.ends.Ends.{Ends}
 use Rattle.candidate_tables.specs.declared.figures.Figures.{Figures}
 use Rattle.candidate_tables.specs.declared.kind.Kind.{Kind}

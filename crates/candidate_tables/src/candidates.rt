@@ -1,43 +1,36 @@
-ghost use Rattle.std.specs.Prelude.{◌≡◌, ◌↔◌, ◌≢◌, ◌<◌, ◌≤◌, ◌++◌, [], ◌∷◌, ℕ, length, Some, None, IsNone, OnOk, OnErr, slice_get, false};
-ghost use Rattle.point_tables.specs.Names.{is_among, place_of};
+ghost use Rattle.std.specs.Prelude.{◌≡◌, ◌↔◌, ◌≢◌, ◌<◌, ◌≤◌, ℕ, length, Some, IsNone, slice_get};
+ghost use Rattle.table_columns.specs.Names.{place_of};
 ghost use Rattle.candidate_tables.specs.CandidateTable.{names_of};
 
 use crate::record::CandidateRecord;
-use geo_base::NoMemory;
-use indexmap::IndexMap;
-use std::alloc::Global;
 use std::marker::Model;
+use table_columns::NamedRecords;
 
 /// The candidates of an accepted table, in its order. Contracts see them as the list of their
 /// records.
 #[derive(Drop)]
 pub struct Candidates {
-    // Each candidate under the bytes of its name.
-    records: IndexMap<Vec<u8>, CandidateRecord>,
+    records: NamedRecords<CandidateRecord>,
 }
 
 impl Model for Candidates {
-    ghost use Rattle.std.specs.Prelude.{List};
+    ghost use Rattle.std.specs.Prelude.{◌≤◌, List, length};
     ghost use Rattle.candidate_tables.specs.declared.record.CandidateRecord.{CandidateRecord};
-    ghost use Rattle.indexmap.specs.IndexMap.{values};
 
     ghost Value = { List CandidateRecord };
 
-    ghost use Rattle.point_tables.specs.Stored.{AreStored};
+    ghost view = { λ candidates. candidates.records };
 
-    ghost view = { λ candidates. values candidates.records };
-
-    ghost invariant = { λ candidates. AreStored (λ candidate. candidate.name) 256 candidates.records.entries };
+    ghost invariant = { λ candidates. length candidates.records ≤ 256 };
 }
 
 impl Candidates {
-    /// No candidates yet.
-    pub(crate) fn new(alloc: Global) -> Candidates
-        ensures { result ≡ [] }
+    // The candidates that these records are.
+    pub(crate) fn of(records: NamedRecords<CandidateRecord>) -> Candidates
+        requires { length records ≤ 256 }
+        ensures { result ≡ records }
     {
-        Candidates {
-            records: IndexMap::new(alloc),
-        }
+        Candidates { records }
     }
 
     /// How many candidates there are.
@@ -45,7 +38,7 @@ impl Candidates {
         ensures value { result ≡ length self.now }
         ensures few { result ≤ 256 }
     {
-        self.records.len() as u32
+        self.records.len()
     }
 
     /// Candidate `k`, counted from 0. What holds of it against the points of the table is said of all
@@ -54,10 +47,7 @@ impl Candidates {
         requires { k < length self.now }
         ensures { slice_get self.now k ≡ Some result.now }
     {
-        match self.records.get_index(k as usize) {
-            Some((_, candidate)) => candidate,
-            None => unreachable!(),
-        }
+        self.records.get(k)
     }
 
     /// The number of the candidate of this name, counted from 0. None where no candidate has it.
@@ -66,21 +56,6 @@ impl Candidates {
         ensures found { (k : ℕ) → (result ≡ Some k) ↔ (slice_get (names_of self.now) k ≡ Some name.now) }
         ensures none { IsNone result ↔ ((k : ℕ) → slice_get (names_of self.now) k ≢ Some name.now) }
     {
-        match self.records.get_index_of(name) {
-            Some(place) => Some(place as u32),
-            None => None,
-        }
-    }
-
-    /// Adds a candidate behind the others. Where memory runs out the candidates stay as they were.
-    pub(crate) fn push(&mut self, alloc: Global, candidate: CandidateRecord) -> Result<(), NoMemory>
-        requires few { length self.old < 256 }
-        requires other { is_among candidate.name (names_of self.old) ≡ false }
-        ensures ok { OnOk result (self.new ≡ self.old ++ candidate ∷ []) }
-        ensures err { OnErr result (self.new ≡ self.old) }
-    {
-        let name = Vec::from_slice(alloc, candidate.name.bytes())?;
-        self.records.insert(name, candidate)?;
-        Ok(())
+        self.records.find(name)
     }
 }

@@ -1,5 +1,5 @@
 ghost use Rattle.std.specs.Prelude.{◌≡◌, length};
-ghost use Rattle.point_tables.specs.Columns.{Reads};
+ghost use Rattle.table_columns.specs.Read.{Reads};
 ghost use Rattle.candidate_tables.specs.CandidateTable.{end_rules, foresight_rules, point_rules};
 ghost use Rattle.candidate_tables.specs.Read.{IsEnds, IsForesight, IsPlaceOf};
 

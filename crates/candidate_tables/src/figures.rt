@@ -1,10 +1,10 @@
 ghost use Rattle.std.specs.Prelude.{◌≡◌, length};
-ghost use Rattle.point_tables.specs.Columns.{Reads};
+ghost use Rattle.table_columns.specs.Read.{Reads};
 ghost use Rattle.candidate_tables.specs.CandidateTable.{deviation_of, deviation_rules, figure_rules, height_deviation_of, height_rules, price_of, price_rules};
 ghost use Rattle.candidate_tables.specs.Read.{AreFigures};
 
 use crate::kind::Kind;
-use point_tables::{FaultKind, read_number};
+use point_tables::{FaultKind, NUMBER_KINDS};
 use table_rows::TableRow;
 
 // The bounds of a standard deviation, in hundredths of a millimetre or of a cc.
@@ -27,7 +27,7 @@ pub(crate) struct Figures {
 fn read_deviation(text: &[u8]) -> Result<u32, FaultKind>
     ensures { Reads (deviation_rules text.now) (λ value. value ≡ deviation_of text.now) result }
 {
-    match read_number(text, 2, LEAST_DEVIATION, MOST_DEVIATION) {
+    match NUMBER_KINDS.read(text, 2, LEAST_DEVIATION, MOST_DEVIATION) {
         Ok(value) => Ok(value as u32),
         Err(broken) => Err(broken),
     }
@@ -50,7 +50,7 @@ fn read_height(kind: Kind, text: &[u8]) -> Result<Option<u32>, FaultKind>
 fn read_price(text: &[u8]) -> Result<u64, FaultKind>
     ensures { Reads (price_rules text.now) (λ value. value ≡ price_of text.now) result }
 {
-    match read_number(text, 0, 0, MOST_PRICE) {
+    match NUMBER_KINDS.read(text, 0, 0, MOST_PRICE) {
         Ok(value) => Ok(value as u64),
         Err(broken) => Err(broken),
     }

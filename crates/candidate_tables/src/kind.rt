@@ -1,6 +1,6 @@
 ghost use Rattle.std.specs.Prelude.{◌≡◌};
 ghost use Rattle.std.specs.Str.{bytes_eq};
-ghost use Rattle.point_tables.specs.Columns.{Reads};
+ghost use Rattle.table_columns.specs.Read.{Reads};
 ghost use Rattle.candidate_tables.specs.CandidateTable.{kind_rules};
 ghost use Rattle.candidate_tables.specs.Read.{IsKindOf};
 ghost use Rattle.candidate_tables.specs.Kinds.{kind_of, rules_of};

@@ -1,21 +1,22 @@
-ghost use Rattle.std.specs.Prelude.{◌≡◌, ◌+◌, IfOk, length};
+ghost use Rattle.std.specs.Prelude.{◌≡◌, IfOk, length};
 ghost use Rattle.point_tables.specs.declared.fault.TableName.TheVariants as table;
-ghost use Rattle.point_tables.specs.Columns.{Answers, Reads};
-ghost use Rattle.point_tables.specs.Read.{Adds};
-ghost use Rattle.candidate_tables.specs.Accepted.{AreCandidates};
-ghost use Rattle.candidate_tables.specs.CandidateTable.{candidate_of, candidates_fault, candidates_of, column_rules, names_of, rules_after};
+ghost use Rattle.point_tables.specs.Columns.{Answers};
+ghost use Rattle.table_columns.specs.Read.{Reads};
+ghost use Rattle.candidate_tables.specs.Accepted.{AreCandidates, IsCandidateRecord};
+ghost use Rattle.candidate_tables.specs.CandidateTable.{candidate_of, candidate_of-name, candidate_rules, candidates_fault, candidates_of, column_rules};
 ghost use Rattle.candidate_tables.specs.Read.{AreColumns};
 
 use crate::candidates::Candidates;
 use crate::ends::{Ends, read_ends};
 use crate::figures::{Figures, read_figures};
 use crate::record::CandidateRecord;
-use point_tables::{FaultKind, Name, Points, TableAnswer, TableName, broken_record, new_name};
+use point_tables::{FaultKind, NAME_KINDS, Points, TableAnswer, TableName};
 use std::alloc::Global;
-use table_rows::{TableRow, TableRows};
+use table_columns::{Name, NameKinds, NamedTable, Shape, read_named_table};
+use table_rows::TableRow;
 
 // The largest number of a record, the header row among them.
-const MOST_RECORDS: u32 = 257;
+const MOST_RECORDS: u16 = 257;
 
 // The columns of a record after its name.
 fn read_columns(row: &TableRow, points: &Points) -> Result<(Ends, Figures), FaultKind>
@@ -30,40 +31,52 @@ fn read_columns(row: &TableRow, points: &Points) -> Result<(Ends, Figures), Faul
     Ok((ends, figures))
 }
 
-// Adds the candidate of a record, or says which of its rules it breaks first.
-fn add_record(
-    alloc: Global,
-    row: &TableRow,
-    points: &Points,
-    candidates: &mut Candidates,
-) -> Result<(), TableAnswer>
-    ensures { Adds table.Candidates (length candidates.old + 2) (rules_after points.now (length candidates.old + 2) row.now (names_of candidates.old)) (candidate_of points.now row.now) candidates.old candidates.new result }
-{
-    let number = candidates.len() + 2;
-    if let Some(kind) = broken_record(MOST_RECORDS, 8, number, row) {
-        return Err(TableAnswer::broken(TableName::Candidates, number, kind));
+// The candidates table against the points of an accepted points table.
+#[derive(Drop)]
+struct CandidateTable<'a> {
+    points: &'a Points,
+}
+
+impl<'a> NamedTable for CandidateTable<'a> {
+    type Kind = FaultKind;
+
+    type Record = CandidateRecord;
+
+    ghost asks = { λ table. candidate_rules table.points.now };
+
+    ghost value_of = { λ table. candidate_of table.points.now };
+
+    ghost IsRight = { λ table. IsCandidateRecord table.points.now };
+
+    fn header(&self) -> &'static [&'static str] {
+        &["name", "kind", "from", "to", "to2", "sd", "sdh", "price"]
     }
-    let text = row.field(0);
-    let name = match new_name(text, candidates.find(text)) {
-        Ok(name) => name,
-        Err(kind) => return Err(TableAnswer::broken(TableName::Candidates, number, kind)),
-    };
-    let (ends, figures) = match read_columns(row, points) {
-        Ok(columns) => columns,
-        Err(kind) => return Err(TableAnswer::broken(TableName::Candidates, number, kind)),
-    };
-    let candidate = CandidateRecord {
-        name: Name::new(alloc, name)?,
-        kind: ends.kind,
-        from: ends.from,
-        to: ends.to,
-        to2: ends.to2,
-        sd: figures.sd,
-        sdh: figures.sdh,
-        price: figures.price,
-    };
-    candidates.push(alloc, candidate)?;
-    Ok(())
+
+    fn shape(&self) -> Shape<FaultKind> {
+        FaultKind::shape(MOST_RECORDS, 8)
+    }
+
+    fn name_kinds(&self) -> NameKinds<FaultKind> {
+        NAME_KINDS
+    }
+
+    fn read_columns(&self, row: &TableRow, name: Name) -> Result<CandidateRecord, FaultKind> {
+        match read_columns(row, self.points) {
+            Ok((ends, figures)) => Ok(CandidateRecord {
+                name,
+                kind: ends.kind,
+                from: ends.from,
+                to: ends.to,
+                to2: ends.to2,
+                sd: figures.sd,
+                sdh: figures.sdh,
+                price: figures.price,
+            }),
+            Err(kind) => Err(kind),
+        }
+    }
+
+    ghost named = { λ table. candidate_of-name table.points.now };
 }
 
 /// Reads a candidates table against the points of an accepted points table: the candidates of its
@@ -76,14 +89,8 @@ pub fn read_candidates(
     ensures answer { Answers table.Candidates (candidates_fault points.now bytes.now) (candidates_of points.now bytes.now) result }
     ensures accepted { IfOk result (AreCandidates points.now) }
 {
-    let header = &["name", "kind", "from", "to", "to2", "sd", "sdh", "price"];
-    let Some(mut rows) = TableRows::under_header(alloc, bytes, header)? else {
-        return Err(TableAnswer::broken(TableName::Candidates, 1, FaultKind::Header));
-    };
-    let mut row = TableRow::new(alloc);
-    let mut candidates = Candidates::new(alloc);
-    'rows: while rows.next(&mut row)? {
-        add_record(alloc, &row, points, &mut candidates)?;
+    match read_named_table(alloc, bytes, &CandidateTable { points }) {
+        Ok(records) => Ok(Candidates::of(records)),
+        Err(refusal) => Err(TableAnswer::of(TableName::Candidates, refusal)),
     }
-    Ok(candidates)
 }

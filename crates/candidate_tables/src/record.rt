@@ -1,5 +1,5 @@
 use crate::kind::Kind;
-use point_tables::Name;
+use table_columns::{Name, NamedRecord};
 
 /// A candidate for an observation, as a record of the table gives it.
 #[derive(Debug, Drop)]
@@ -20,4 +20,12 @@ pub struct CandidateRecord {
     pub sdh: Option<u32>,
     /// The price, a whole number up to 1000000000 in the office's own unit.
     pub price: u64,
+}
+
+impl NamedRecord for CandidateRecord {
+    ghost name_of = { λ candidate. candidate.name };
+
+    fn name(&self) -> &[u8] {
+        self.name.bytes()
+    }
 }

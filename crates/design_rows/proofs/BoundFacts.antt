@@ -6,7 +6,7 @@ use Rattle.coefficient_round.proofs.Bounds.{weight_for-size}
 use Rattle.geo_model.specs.declared.network.Unknown.{Unknown}
 use Rattle.geo_model.specs.Row.{IsRow, RowOf}
 use Rattle.point_tables.specs.declared.record.PointRecord.{PointRecord}
-use Rattle.point_tables.proofs.StoredFacts.{all-at}
+use Rattle.table_columns.proofs.StoredFacts.{all-at}
 use Rattle.candidate_tables.specs.declared.record.CandidateRecord.{CandidateRecord}
 use Rattle.candidate_tables.specs.Accepted.{IsCandidateRecord}
 use Rattle.design_rows.specs.Bounds.{AreRows}

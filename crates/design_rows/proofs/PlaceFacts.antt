@@ -6,7 +6,7 @@ use Rattle.std.proofs.lemmas.Bool.Decides.{nat_tests}
 use Rattle.geo_model.specs.declared.network.Component.{Component}
 use Rattle.geo_model.specs.declared.network.Component.TheVariants as component
 use Rattle.geo_model.specs.declared.network.Unknown.{Unknown}
-use Rattle.point_tables.proofs.Places.{Tells, found-at, found-none, place-is}
+use Rattle.table_columns.proofs.Places.{Tells, found-at, found-none, place-is}
 use Rattle.design_rows.specs.Unknowns.{is_same, is_same_component, number_of}
 
 -- ---- the tests decide

@@ -1,8 +1,8 @@
 use Rattle.std.proofs.Common.{◌≡◌, Some, None, subst}
 use Rattle.std.proofs.lemmas.Result.{err_from_is_err_and}
 use Rattle.table_rows.specs.Faults.{first_broken}
-use Rattle.point_tables.specs.Columns.{text_at}
-use Rattle.point_tables.proofs.ColumnFacts.{at-field}
+use Rattle.table_columns.specs.Columns.{text_at}
+use Rattle.table_columns.proofs.RecordFacts.{at-field}
 use Rattle.candidate_tables.specs.CandidateTable.{foresight_rules, kind_at, kind_rules, point_rules}
 use Rattle.candidate_tables.specs.Read.{IsForesight, IsKindOf, IsPlaceOf}
 use Rattle.candidate_tables.proofs.RuleFacts.{broken-from, broken-kind, broken-to, broken-to2, ends-read, keeps-kind, keeps-point, kind-at}

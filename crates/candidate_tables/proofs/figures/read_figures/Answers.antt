@@ -1,7 +1,7 @@
 use Rattle.std.proofs.Common.{◌≡◌, Some, None}
 use Rattle.std.proofs.lemmas.Result.{err_from_is_err_and}
 use Rattle.table_rows.specs.Faults.{first_broken}
-use Rattle.point_tables.proofs.ColumnFacts.{at-field}
+use Rattle.table_columns.proofs.RecordFacts.{at-field}
 use Rattle.candidate_tables.specs.CandidateTable.{deviation_of, deviation_rules, height_deviation_of, height_rules, price_of, price_rules}
 use Rattle.candidate_tables.proofs.RuleFacts.{broken-price, broken-sd, broken-sdh, keeps-deviation, keeps-height}
 use Rattle.candidate_tables.proofs.figures.read_figures.Goals as goal

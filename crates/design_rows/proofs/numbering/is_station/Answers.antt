@@ -1,5 +1,5 @@
 use Rattle.std.proofs.Common.{◌∙◌, sym}
-use Rattle.point_tables.proofs.Places.{any-at}
+use Rattle.table_columns.proofs.Places.{any-at}
 use Rattle.design_rows.specs.Unknowns.{turns_with}
 use Rattle.design_rows.proofs.NumberingFacts.{any-more}
 use Rattle.design_rows.proofs.numbering.is_station.Goals as goal
