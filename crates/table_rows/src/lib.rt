@@ -6,7 +6,7 @@
 //!
 //! Said by: `TableRows::next`, `first_fault_is_least`.
 //!
-//! Caller: `read_candidates` of `candidate_tables/src/read.rt`.
+//! Caller: `read_table` of `table_columns/src/table.rt`.
 #![tactic(auto)]
 
 mod faults;

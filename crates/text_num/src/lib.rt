@@ -7,7 +7,7 @@
 //! Said by: `read_decimal`, clauses `value`, `none`; `decimals_are_the_grammar`,
 //! `written_decimals_are_read`; `put_decimal`, `put_whole`, `read_digits`.
 //!
-//! Caller: `read_number` of `point_tables/src/number.rt`.
+//! Caller: `read` of `table_columns/src/number.rt`.
 #![tactic(auto)]
 
 mod laws;
