@@ -7,6 +7,7 @@ use Rattle.std.proofs.lemmas.Bool.Decides.{Decides-int_eq}
 use Rattle.std.proofs.lemmas.Int.{ints}
 use Rattle.std.proofs.lemmas.List.Elements.{All-nil, All-cons}
 use Rattle.std.proofs.lemmas.List.Sums.{sum_by-cons, sum_by-le-sum_by}
+use Rattle.whole_algebra.proofs.Order.{size-add}
 use Rattle.geo_model.specs.declared.network.Unknown.{Unknown}
 use Rattle.design_rows.specs.declared.term.Term.{Term}
 use Rattle.design_rows.specs.Rows.{coefficient_at, entries_of, is_entry}
@@ -234,7 +235,7 @@ entries-all P unknowns terms each =
 -- ---- the two measures
 
 unsigned-measure : IsMeasure unsigned_abs
-unsigned-measure = record { none = refl; sum = λ a b. omega (arith, ints) }
+unsigned-measure = record { none = refl; sum = size-add }
 
 -- whether a coefficient counts
 pub counts : ℤ → ℕ

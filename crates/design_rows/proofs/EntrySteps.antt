@@ -6,6 +6,8 @@ use Rattle.std.proofs.lemmas.Int.{ints, fits_signed_from_abs}
 use Rattle.std.proofs.lemmas.List.{map-append, take_more, length-take-le}
 use Rattle.std.proofs.lemmas.List.Elements.{filter-append}
 use Rattle.std.proofs.lemmas.List.Sums.{get_or-le-sum_by, sum_by-cons, sum_by-take-le}
+use Rattle.whole_algebra.proofs.Order.{size-add}
+use Rattle.whole_algebra.proofs.Ring.{add_zero}
 use Rattle.whole_algebra.proofs.SumLaws.{int_sum_by-append}
 use Rattle.geo_model.specs.declared.network.Unknown.{Unknown}
 use Rattle.design_rows.specs.declared.term.Term.{Term}
@@ -26,20 +28,14 @@ coefficient-total (term ∷ terms) u =
     let first = at_term-size term u in
     let rest = coefficient-total terms u in
     let parts = sum_by-cons (λ (t : Term). unsigned_abs t.coefficient) term terms in
-    let both = sum-size (at_term term u) (coefficient_at terms u) in
+    let both = size-add (at_term term u) (coefficient_at terms u) in
     rw (coefficient-more term terms u) (omega (arith, first, rest, parts, both))
-  where
-    sum-size : (a b : ℤ) → unsigned_abs (a +ℤ b) ≤ unsigned_abs a + unsigned_abs b
-    sum-size a b = omega (arith, ints)
 
 coefficient-push : (terms : List Term) (term : Term) (u : Unknown) → coefficient_at (terms ++ term ∷ []) u ≡ coefficient_at terms u +ℤ at_term term u
 unfolding coefficient_at at_term
 coefficient-push terms term u =
     int_sum_by-append (λ (t : Term). if is_same u t.unknown then t.coefficient else pos 0) terms (term ∷ [])
-    ∙ ap (λ (z : ℤ). coefficient_at terms u +ℤ z) (end (if is_same u term.unknown then term.coefficient else pos 0))
-  where
-    end : (z : ℤ) → z +ℤ pos 0 ≡ z
-    end z = omega (arith, ints)
+    ∙ ap (λ (z : ℤ). coefficient_at terms u +ℤ z) (add_zero (if is_same u term.unknown then term.coefficient else pos 0))
 
 module _ (terms : List Term) (u : Unknown) (q : ℕ) (d : Term) (inside : q < length terms) where
   one-more : coefficient_at (take (q + 1) terms) u ≡ coefficient_at (take q terms) u +ℤ at_term (get_or terms q d) u
@@ -49,10 +45,7 @@ module _ (terms : List Term) (u : Unknown) (q : ℕ) (d : Term) (inside : q < le
   coefficient-here here = one-more ∙ ap (λ (z : ℤ). coefficient_at (take q terms) u +ℤ z) (at_term-yes (get_or terms q d) u here)
 
   pub coefficient-elsewhere : is_same u (get_or terms q d).unknown ≡ false → coefficient_at (take (q + 1) terms) u ≡ coefficient_at (take q terms) u
-  coefficient-elsewhere there = one-more ∙ rw (at_term-no (get_or terms q d) u there) (end (coefficient_at (take q terms) u))
-    where
-      end : (z : ℤ) → z +ℤ pos 0 ≡ z
-      end z = omega (arith, ints)
+  coefficient-elsewhere there = one-more ∙ rw (at_term-no (get_or terms q d) u there) (add_zero (coefficient_at (take q terms) u))
 
 pub record IsStep (so_far part : ℤ) : Type 0 where
   pub size : FitsSigned w64 part

@@ -5,7 +5,7 @@ use Rattle.std.proofs.lemmas.Int.{ints, to_z-of_z, fits_signed_from_abs}
 use Rattle.coefficient_round.specs.Coefficient.{square_length}
 use Rattle.point_tables.specs.declared.record.PointRecord.{PointRecord}
 use Rattle.candidate_tables.specs.Lines.{length_squared}
-use Rattle.candidate_tables.proofs.PlaceFacts.{squared-is}
+use Rattle.candidate_tables.proofs.PlaceFacts.{difference-is as plain_difference, squared-is}
 use Rattle.design_rows.specs.Equations.{x_part, y_part}
 
 pub fits : (z : ℤ) → unsigned_abs z < 2 ^ 62 → FitsSigned w64 z
@@ -28,9 +28,6 @@ squared-cast points from to x y x_size y_size e f =
 difference-small : (a b : ℤ) → unsigned_abs a ≤ 10 ^ 11 → unsigned_abs b ≤ 10 ^ 11 → unsigned_abs (a -ℤ b) < 2 ^ 62
 difference-small a b first second = omega (arith, ints)
 
-coordinate-small : (a : ℤ) → unsigned_abs a ≤ 10 ^ 11 → unsigned_abs a < 2 ^ 62
-coordinate-small a size = omega arith
-
 pub record IsDifference (z difference : ℤ) : Type 0 where
   pub is : z ≡ difference
   pub size : unsigned_abs z < 2 ^ 62
@@ -41,6 +38,4 @@ pub difference-is : (a b p q : ℤ) → unsigned_abs a ≤ 10 ^ 11 → unsigned_
 difference-is a b p q first second e f =
     let small = difference-small a b first second in
     let same : (a -ℤ b) ≡ (p -ℤ q) = ap₂ (λ (x y : ℤ). x -ℤ y) e f in
-    let inner : (to_z w64 (of_z w64 a) -ℤ to_z w64 (of_z w64 b)) ≡ (a -ℤ b) =
-    ap₂ (λ (x y : ℤ). x -ℤ y) (to_z-of_z w64 a (fits a (coordinate-small a first))) (to_z-of_z w64 b (fits b (coordinate-small b second))) in
-    rw (inner, to_z-of_z w64 (a -ℤ b) (fits (a -ℤ b) small)) (record { is = same; size = small; fits = rw (← same) (fits (a -ℤ b) small) })
+    rw (plain_difference a b first second) (record { is = same; size = small; fits = rw (← same) (fits (a -ℤ b) small) })

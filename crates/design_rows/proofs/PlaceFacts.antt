@@ -1,7 +1,7 @@
 -- The place of an unknown among unknowns that differ.
-use Rattle.std.proofs.Common.{◌≡◌, ◌≢◌, ℕ, Bool, true, false, List, Some, None, refl, ap₂, arith, slice_get, eqb}
-use Rattle.std.specs.Prelude.{◌&&◌}
+use Rattle.std.proofs.Common.{◌≡◌, ◌≢◌, ℕ, true, List, Some, None, refl, ap₂, arith, slice_get, eqb}
 use Rattle.std.specs.List.{IsDistinct}
+use Rattle.std.proofs.lemmas.Bool.{and_parts, eqb-true}
 use Rattle.std.proofs.lemmas.Bool.Decides.{nat_tests}
 use Rattle.geo_model.specs.declared.network.Component.{Component}
 use Rattle.geo_model.specs.declared.network.Component.TheVariants as component
@@ -24,20 +24,13 @@ component-same component.Y = refl
 component-same component.Z = refl
 component-same component.Turn = refl
 
-both : (a b : Bool) → (a && b) ≡ true → (a ≡ true) × (b ≡ true)
-both true b e = (refl, e)
-both false b e = absurd (cc e)
-
-number-is : (a b : ℕ) → eqb a b ≡ true → a ≡ b
-number-is a b e = grind (arith, nat_tests)
-
 number-same : (a : ℕ) → eqb a a ≡ true
 number-same a = grind (arith, nat_tests)
 
 pub same-is : (u v : Unknown) → is_same u v ≡ true → u ≡ v
 same-is u v e =
-    let (part, point) = both (is_same_component u.component v.component) (eqb u.point v.point) e in
-    ap₂ (λ (p : ℕ) (c : Component). record { point = p; component = c }) (number-is u.point v.point point) (component-is u.component v.component part)
+    let (part, point) = and_parts (is_same_component u.component v.component) (eqb u.point v.point) e in
+    ap₂ (λ (p : ℕ) (c : Component). record { point = p; component = c }) (eqb-true u.point v.point point) (component-is u.component v.component part)
 
 pub same-refl : (u : Unknown) → is_same u u ≡ true
 same-refl u = rw (component-same u.component, number-same u.point) refl

@@ -7,7 +7,6 @@ use Rattle.std.proofs.lemmas.List.Elements.{All-nil, All-cons, All-head, All-tai
 use Rattle.std.proofs.lemmas.List.Sums.{sum_by-cons}
 use Rattle.whole_algebra.proofs.Ring.{mul_one, mul_zero}
 use Rattle.whole_algebra.proofs.Normal.{ring, x0, x1, lit, ◌⊗◌, ◌⊕◌}
-use Rattle.whole_algebra.proofs.Order.{mul_le_mul_right, mul_nonneg, square_nonneg}
 use Rattle.geo_model.specs.declared.network.Unknown.{Unknown}
 use Rattle.geo_model.specs.declared.network.Component.TheVariants as component
 use Rattle.geo_model.specs.Row.{Entries, RowOf, form_at, total_size, unit_at}
@@ -29,7 +28,7 @@ use Rattle.net_build.specs.SmallGrids.{IsSmallBeside}
 use Rattle.net_build.proofs.ListFacts.{All-numbered, All-parts}
 use Rattle.net_build.proofs.SquareFacts.{IsUnit, square-unit}
 use Rattle.net_build.proofs.PointFacts.{part-each}
-use Rattle.net_build.proofs.RedundancyFacts.{AreOwnRows, IsOwnRow}
+use Rattle.net_build.proofs.RedundancyFacts.{AreOwnRows, IsOwnRow, alpha-low, thousand-times}
 use Rattle.net_build.proofs.NetworkFacts.{all-own-rows, candidates-bounded, network-bounded, owned-cases, owned_limits}
 
 abbrev IsLightLimit : NetworkOf → LimitOf → Type 0
@@ -108,25 +107,11 @@ points-light network points apart all =
 
 -- ---- the limits of a candidate's redundancy: a thousand times the row
 
-thousand-times : (w f alpha full : ℤ) → pos 1 ≤ℤ w → pos 1 ≤ℤ alpha → (w *ℤ (f *ℤ f)) ≤ℤ full
-    → ((pos 1000 *ℤ w) *ℤ (f *ℤ f) +ℤ pos 0) ≤ℤ (pos 1000 *ℤ (alpha *ℤ full))
-thousand-times w f alpha full low factor most =
-    let energy : pos 0 ≤ℤ (w *ℤ (f *ℤ f)) = mul_nonneg w (f *ℤ f) (omega (arith, ints)) (square_nonneg f) in
-    let more : (pos 1 *ℤ full) ≤ℤ (alpha *ℤ full) = mul_le_mul_right full (pos 1) alpha (omega (arith, ints)) factor in
-    let same : (pos 1000 *ℤ w) *ℤ (f *ℤ f) +ℤ pos 0 ≡ pos 1000 *ℤ (w *ℤ (f *ℤ f)) = ring ((lit 1000 ⊗ x0) ⊗ (x1 ⊗ x1) ⊕ lit 0) (lit 1000 ⊗ (x0 ⊗ (x1 ⊗ x1))) (w ∷ f ∷ []) refl in
-    rw same (compare (w *ℤ (f *ℤ f)) full (alpha *ℤ full) energy more most)
-  where
-    compare : (e full scaled : ℤ) → pos 0 ≤ℤ e → (pos 1 *ℤ full) ≤ℤ scaled → e ≤ℤ full → (pos 1000 *ℤ e) ≤ℤ (pos 1000 *ℤ scaled)
-    compare e full scaled h k l = omega (arith, ints)
-
-factor-low : (q : ℕ) → q ≤ 999 → pos 1 ≤ℤ (pos 1000 -ℤ pos q)
-factor-low q h = omega (arith, ints)
-
 row-light : (network : NetworkOf) (q owner place : ℕ) (row : RowOf) → q ≤ 999 → IsOwnRow (length network.unknowns) network.candidates row
     → IsLightLimit network (redundancy_limit q owner (place, row))
 unfolding redundancy_limit
 row-light network q owner place row within is =
-    inl (λ i inside. thousand-times row.weight (form_at row.entries (unit_at i)) (pos 1000 -ℤ pos q) (full_energy network.candidates (unit_at i)) is.bounds.weight_low (factor-low q within) (is.energy (unit_at i)))
+    inl (λ i inside. thousand-times row.weight (form_at row.entries (unit_at i)) (pos 1000 -ℤ pos q) (full_energy network.candidates (unit_at i)) is.bounds.weight_low (alpha-low q within) (is.energy (unit_at i)))
 
 redundancies-light : (network : NetworkOf) (q : ℕ) → q ≤ 999 → All (AreOwnRows (length network.unknowns) network.candidates) network.candidates
     → All (IsLightLimit network) (redundancy_limits q network.candidates)

@@ -42,19 +42,29 @@ total-small b t small few =
     below : (k : ℕ) → k < 2 ^ 23 → k ≤ 2 ^ 23
     below k h = omega arith
 
--- the diagonal: 1000 times the row's energy is at most 2 ^ 12 times the whole energy, whatever the factor
-diagonal-below : (w f alpha full : ℤ) → pos 1 ≤ℤ w → pos 1 ≤ℤ alpha → (w *ℤ (f *ℤ f)) ≤ℤ full
-    → ((pos 1000 *ℤ w) *ℤ (f *ℤ f) +ℤ pos 0) ≤ℤ int_max (pos (2 ^ 50)) (pos (2 ^ 12) *ℤ (alpha *ℤ full))
-diagonal-below w f alpha full low factor most =
+-- 1000 times the row's energy is at most 1000 times the whole energy, with a factor
+pub thousand-times : (w f alpha full : ℤ) → pos 1 ≤ℤ w → pos 1 ≤ℤ alpha → (w *ℤ (f *ℤ f)) ≤ℤ full
+    → ((pos 1000 *ℤ w) *ℤ (f *ℤ f) +ℤ pos 0) ≤ℤ (pos 1000 *ℤ (alpha *ℤ full))
+thousand-times w f alpha full low factor most =
     let energy : pos 0 ≤ℤ (w *ℤ (f *ℤ f)) = mul_nonneg w (f *ℤ f) (omega (arith, ints)) (square_nonneg f) in
     let more : (pos 1 *ℤ full) ≤ℤ (alpha *ℤ full) = mul_le_mul_right full (pos 1) alpha (omega (arith, ints)) factor in
     let same : (pos 1000 *ℤ w) *ℤ (f *ℤ f) +ℤ pos 0 ≡ pos 1000 *ℤ (w *ℤ (f *ℤ f)) = ring ((lit 1000 ⊗ x0) ⊗ (x1 ⊗ x1) ⊕ lit 0) (lit 1000 ⊗ (x0 ⊗ (x1 ⊗ x1))) (w ∷ f ∷ []) refl in
     rw same (compare (w *ℤ (f *ℤ f)) full (alpha *ℤ full) energy more most)
   where
-    compare : (e full scaled : ℤ) → pos 0 ≤ℤ e → (pos 1 *ℤ full) ≤ℤ scaled → e ≤ℤ full → (pos 1000 *ℤ e) ≤ℤ int_max (pos (2 ^ 50)) (pos (2 ^ 12) *ℤ scaled)
-    compare e full scaled h k l = omega (arith, ints, clamps)
+    compare : (e full scaled : ℤ) → pos 0 ≤ℤ e → (pos 1 *ℤ full) ≤ℤ scaled → e ≤ℤ full → (pos 1000 *ℤ e) ≤ℤ (pos 1000 *ℤ scaled)
+    compare e full scaled h k l = omega (arith, ints)
 
-alpha-low : (q : ℕ) → q ≤ 999 → pos 1 ≤ℤ (pos 1000 -ℤ pos q)
+-- the diagonal: 1000 times the row's energy is at most 2 ^ 12 times the whole energy, whatever the factor
+diagonal-below : (w f alpha full : ℤ) → pos 1 ≤ℤ w → pos 1 ≤ℤ alpha → (w *ℤ (f *ℤ f)) ≤ℤ full
+    → ((pos 1000 *ℤ w) *ℤ (f *ℤ f) +ℤ pos 0) ≤ℤ int_max (pos (2 ^ 50)) (pos (2 ^ 12) *ℤ (alpha *ℤ full))
+diagonal-below w f alpha full low factor most =
+    let energy : pos 0 ≤ℤ ((pos 1000 *ℤ w) *ℤ (f *ℤ f)) = mul_nonneg (pos 1000 *ℤ w) (f *ℤ f) (omega (arith, ints)) (square_nonneg f) in
+    below ((pos 1000 *ℤ w) *ℤ (f *ℤ f)) (alpha *ℤ full) energy (thousand-times w f alpha full low factor most)
+  where
+    below : (e scaled : ℤ) → pos 0 ≤ℤ e → (e +ℤ pos 0) ≤ℤ (pos 1000 *ℤ scaled) → (e +ℤ pos 0) ≤ℤ int_max (pos (2 ^ 50)) (pos (2 ^ 12) *ℤ scaled)
+    below e scaled h k = omega (arith, ints, clamps)
+
+pub alpha-low : (q : ℕ) → q ≤ 999 → pos 1 ≤ℤ (pos 1000 -ℤ pos q)
 alpha-low q h = omega (arith, ints)
 
 alpha-high : (q : ℕ) → (pos 1000 -ℤ pos q) ≤ℤ pos 1000000
