@@ -1,9 +1,7 @@
 //! Certificates by dominance: smaller and smaller matrices that show a quadratic form to be nowhere
-//! negative. Besides, the arithmetic of one step of an interval chain.
+//! negative.
 #![tactic(auto)]
 
-mod arithmetic;
-mod first_row;
 mod lower;
 mod sizes;
 mod square_cert;
@@ -11,8 +9,6 @@ mod step;
 #[cfg(test)]
 mod tests;
 
-pub use arithmetic::{minus_product, product, quotient};
-pub use first_row::{are_small, is_zero_row};
-pub use sizes::{PIVOT_SIZE, fits};
+pub use sizes::fits;
 pub use square_cert::{SquareCert, holds};
 pub use step::step_holds;

@@ -1,0 +1,17 @@
+//! One step of an interval chain, row by row: the tests of a first row, and what its pivot leaves of
+//! the rows below it.
+#![tactic(auto)]
+
+mod arithmetic;
+mod first_row;
+mod side;
+mod step;
+mod steps;
+mod stop;
+
+pub use arithmetic::{PIVOT_SIZE, product};
+pub use first_row::is_zero_row;
+pub use side::Side;
+pub use step::take_step;
+pub use steps::take_steps;
+pub use stop::stop_of;
