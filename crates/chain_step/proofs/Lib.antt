@@ -9,3 +9,4 @@ pub mod Stops
 pub mod Matrices
 pub mod StepsSoFar
 pub mod WrittenRows
+pub mod SameRows

@@ -4,6 +4,7 @@
 
 mod arithmetic;
 mod first_row;
+mod laws;
 mod side;
 mod step;
 mod steps;
@@ -11,6 +12,7 @@ mod stop;
 
 pub use arithmetic::{PIVOT_SIZE, product};
 pub use first_row::is_zero_row;
+pub use laws::equal_first_rows_give_equal_chains;
 pub use side::Side;
 pub use step::take_step;
 pub use steps::take_steps;
