@@ -34,7 +34,9 @@ pub fn verdict(room: &mut ChainRoom, network: &Network, plan: &Plan, limit: u32)
     let form = &network.limits()[limit as usize];
     let squares = form.squares.as_slice();
     bring_to(&mut room.normal, network, plan);
-    room.grid.retake(network, form.alpha, squares);
+    let diagonal = room.diagonal.as_slice();
+    room.grid
+        .retake_known(network, diagonal, form.alpha, squares);
     let grids = Grids {
         network,
         normal: &room.normal,

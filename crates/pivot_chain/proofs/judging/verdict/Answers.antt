@@ -3,11 +3,16 @@ use Rattle.std.proofs.lemmas.Int.{to_z-of_z}
 use Rattle.std.proofs.lemmas.Option.{slice_get-get_or}
 use Rattle.geo_model.specs.Limit.{LimitOf}
 use Rattle.limit_forms.proofs.GridReads.{length-grid_of}
+use Rattle.limit_forms.specs.Form.{IsFullDiagonal}
 use Rattle.limit_forms.specs.Grid.{lower_grid, upper_grid}
 use Rattle.pivot_chain.specs.Room.{RoomOf}
 use Rattle.pivot_chain.proofs.Judged.{limit_at, same_limit, load_of, verdict_is}
 use Rattle.pivot_chain.proofs.Verdicts.{open_interval, met_holds, refuted_breaks, met_grows}
 use Rattle.pivot_chain.proofs.judging.verdict.Goals as goal
+
+pub retake_known-requires-clause-known : goal.retake_known-requires-clause-known
+retake_known-requires-clause-known c =
+    subst (IsFullDiagonal c.args.network.now) (sym (c.as_slice-diagonal.ensures.value ∙ ap (λ (v : RoomOf). v.diagonal) c.room.view_is)) c.requires.room.diagonal
 
 pub judge-requires-clause-made : goal.judge-requires-clause-made
 judge-requires-clause-made c =
@@ -18,7 +23,7 @@ judge-requires-clause-made c =
     let squares : c.as_slice-squares.result.now ≡ c.index-limits-limit.result.squares = c.as_slice-squares.ensures.value ∙ ap (λ (v : LimitOf). v.squares) c.form.view_is in
     let load = load_of c.args.network.now c.index-limits-limit.result c.form.inside.alpha c.as_slice-squares.result.now limit alpha squares in
     simp (to_z-of_z, f)
-    (record { normal_made = c.bring_to.ensures.sum; load = load; grid_made = simp (to_z-of_z, f) at c.retake.ensures })
+    (record { normal_made = c.bring_to.ensures.sum; load = load; grid_made = simp (to_z-of_z, f) at c.retake_known.ensures })
 
 exact : goal.returns-clause-exact
 exact c = λ l e.
@@ -53,7 +58,8 @@ returns-clause-larger c = λ l large found e within.
 pub returns-clause-kept : goal.returns-clause-kept
 returns-clause-kept c = record {
   normal = c.bring_to.ensures.sum;
-  grid = length-grid_of _ _ _ c.retake.new.self c.retake.ensures;
+  grid = length-grid_of _ _ _ c.retake_known.new.self c.retake_known.ensures;
+  diagonal = subst (IsFullDiagonal c.args.network.now) (sym (ap (λ (v : RoomOf). v.diagonal) c.room.view_is)) c.requires.room.diagonal;
   lower = c.judge.ensures.lower_size ∙ (ap (λ (v : RoomOf). length v.lower) c.room.view_is ∙ c.requires.room.lower);
   rows = c.judge.ensures.rows_size ∙ (ap (λ (v : RoomOf). length v.rows) c.room.view_is ∙ c.requires.room.rows);
   upper = c.judge.ensures.upper_size ∙ (ap (λ (v : RoomOf). length v.upper) c.room.view_is ∙ c.requires.room.upper);
