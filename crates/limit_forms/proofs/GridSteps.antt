@@ -1,8 +1,9 @@
 -- A grid as it is made and read.
-use Rattle.std.proofs.Common.{◌≡◌, ◌==◌, ℕ, suc, ◌<◌, List, [], ◌∷◌, ◌++◌, length, take, drop, map, get_or, refl, sym, ◌∙◌, ap, ap₂, subst, arith, ℤ}
+use Rattle.std.proofs.Common.{◌≡◌, ◌==◌, ℕ, suc, ◌+◌, ◌<◌, List, [], ◌∷◌, ◌++◌, length, take, drop, set, map, get_or, refl, sym, ◌∙◌, ap, ap₂, subst, arith, ℤ}
 use Rattle.std.specs.Prelude.{All, count_by}
 use Rattle.std.specs.List.{range_with_len}
-use Rattle.std.proofs.lemmas.List.FromFn.{length-map-range_with_len}
+use Rattle.std.proofs.lemmas.List.{take_more_set}
+use Rattle.std.proofs.lemmas.List.FromFn.{length-map-range_with_len, map-range_with_len_more}
 use Rattle.geo_model.specs.Limit.{SquareOf}
 use Rattle.geo_model.specs.Network.{NetworkOf, IsNetwork}
 use Rattle.normal_matrix.specs.Entries.{HasEachOnce}
@@ -52,3 +53,11 @@ found_somewhere i grid us is same inside none =
     let nowhere = none_counted i us none in
     let e = ap (λ (l : List ℕ). count_by (λ u. i == u) l) same in
     omega arith
+
+-- one more exponent
+pub exponent_written : (network : NetworkOf) (alpha result : ℤ) (exponents : List ℤ) (i : ℕ) → i < length exponents → take i exponents ≡ map (exponent_at network.candidates alpha) (range_with_len 0 i)
+    → result ≡ exponent_at network.candidates alpha i → take (i + 1) (set exponents i result) ≡ map (exponent_at network.candidates alpha) (range_with_len 0 (i + 1))
+exponent_written network alpha result exponents i inside so_far is =
+    take_more_set exponents i result inside
+    ∙ ap₂ (λ s t. s ++ t ∷ []) so_far is
+    ∙ sym (map-range_with_len_more (exponent_at network.candidates alpha) 0 i i (omega arith))

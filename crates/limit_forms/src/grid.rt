@@ -1,8 +1,9 @@
 ghost use Rattle.std.specs.Prelude.{◌≡◌, ◌<◌, ◌≤◌, Some, length, slice_get, IfOk};
 ghost use Rattle.geo_model.specs.Limit.{IsLoad};
+ghost use Rattle.limit_forms.specs.Form.{IsFullDiagonal};
 ghost use Rattle.limit_forms.specs.Grid.{grid_of};
 
-use crate::exponents::take_exponents;
+use crate::exponents::{exponents_of, take_exponents};
 use crate::order::take_order;
 use geo_base::NoMemory;
 use geo_model::{Network, Square};
@@ -56,6 +57,25 @@ impl LimitGrid {
         let _bounds = network.candidates();
         take_order(self.order.as_mut_slice(), squares);
         take_exponents(self.exponents.as_mut_slice(), network, alpha);
+    }
+
+    /// The same, where the diagonal of the normal matrix of all candidates is known.
+    pub fn retake_known(
+        &mut self,
+        network: &Network,
+        diagonal: &[i128],
+        alpha: i64,
+        squares: &[Square],
+    )
+        requires places { length self.old.order ≡ length network.now.unknowns }
+        requires known { IsFullDiagonal network.now diagonal.now }
+        requires limit { IsLoad (length network.now.unknowns) network.now.candidates alpha squares.now }
+        ensures { self.new ≡ grid_of network.now alpha squares.now }
+    {
+        // The network's bounds, for the proof.
+        let _bounds = network.candidates();
+        take_order(self.order.as_mut_slice(), squares);
+        exponents_of(self.exponents.as_mut_slice(), network, diagonal, alpha);
     }
 
     /// The place of an unknown.

@@ -20,6 +20,7 @@ mod row;
 #[cfg(test)]
 mod tests;
 
+pub use exponents::full_diagonals;
 pub use form::form_entry;
 pub use grid::LimitGrid;
 pub use laws::{

@@ -8,11 +8,11 @@ use Rattle.std.specs.List.{list_all}
 use Rattle.whole_algebra.proofs.Places.{row_at-chain_rows}
 use Rattle.whole_algebra.proofs.ChainLaws.{step_cases, is_zero-true, and_left}
 use Rattle.whole_algebra.proofs.Refutation.{false_is_not_true}
-use Rattle.psd_cert.proofs.RowLaws.{neither, parts}
-use Rattle.pivot_chain.specs.Step.{over_of}
-use Rattle.pivot_chain.specs.declared.side.Side.{Side}
-use Rattle.pivot_chain.proofs.Matrices.{GoesOn}
-use Rattle.pivot_chain.proofs.RowSteps.{triangle_next}
+use Rattle.chain_step.proofs.RowLaws.{neither, parts}
+use Rattle.chain_step.specs.Step.{over_of}
+use Rattle.chain_step.specs.declared.side.Side.{Side}
+use Rattle.chain_step.proofs.Matrices.{GoesOn}
+use Rattle.chain_step.proofs.RowSteps.{triangle_next}
 
 -- ---- a chain that goes on to its end
 pub no_stop : (side : Side) (n : ℕ) (m : List (List ℤ)) → IsTriangle n m → GoesOn side n m → stops (chain_steps (over_of side) n m) ≡ false
@@ -84,12 +84,6 @@ pivot_read side n k m row one le go e =
     ap (λ r. at r 0) same ∙ head_is (row_at rows (k - 1)) here ∙ ap pivot_value (sym (step_of_row rows (k - 1)))
 
 -- ---- the outcome
-pub outcome_met : (low high : List Step) → stops low ≡ false → outcome_of low high ≡ met
-outcome_met low high e = ap (λ b. cond b (cond (stops high) refuted (open_at (stop_place low) (stop_value low) (pivot_at high (stop_place low)))) met) e
-
-pub outcome_refuted : (low high : List Step) → stops low ≡ true → stops high ≡ true → outcome_of low high ≡ refuted
-outcome_refuted low high e f = ap₂ (λ a b. cond a (cond b refuted (open_at (stop_place low) (stop_value low) (pivot_at high (stop_place low)))) met) e f
-
 pub outcome_open : (low high : List Step) (k : ℕ) (lo hi : ℤ) → stops low ≡ true → stops high ≡ false → k ≡ stop_place low → lo ≡ stop_value low → hi ≡ pivot_at high k
     → outcome_of low high ≡ open_at k lo hi
 outcome_open low high k lo hi e f place number value =

@@ -1,5 +1,5 @@
 -- The verdict as the code puts it together.
-use Rattle.std.proofs.Common.{◌≡◌, ℕ, zero, suc, [], ◌∷◌, ◌+◌, ◌^◌, ◌<◌, ◌≤◌, Bool, List, length, get_or, Some, slice_get, sym, ◌∙◌, ap, ap₂, subst, arith, ℤ, pos, ◌+ℤ◌, ◌-ℤ◌, ◌≤ℤ◌}
+use Rattle.std.proofs.Common.{◌≡◌, ℕ, zero, suc, [], ◌∷◌, ◌+◌, ◌^◌, ◌<◌, ◌≤◌, Bool, List, length, get_or, Some, slice_get, refl, sym, ◌∙◌, ap, ap₂, subst, arith, ℤ, pos, ◌+ℤ◌, ◌-ℤ◌, ◌≤ℤ◌}
 use Rattle.std.proofs.lemmas.Int.{ints}
 use Rattle.whole_algebra.specs.Rounding.{floor_over, gap_over}
 use Rattle.whole_algebra.specs.Matrices.{at, slacks, IsTriangle}
@@ -9,15 +9,17 @@ use Rattle.whole_algebra.proofs.Rounding.{gap_range}
 use Rattle.whole_algebra.proofs.Shapes.{length-triangle}
 use Rattle.whole_algebra.proofs.Places.{at-diagonal, lower_over-diagonal, upper_over-diagonal}
 use Rattle.whole_algebra.proofs.VerdictLaws.{stop_place-range, length-chain}
-use Rattle.psd_cert.proofs.DividedLaws.{slack_nonneg}
+use Rattle.whole_algebra.proofs.DiagonalLaws.{slack_nonneg}
 use Rattle.geo_model.specs.Limit.{SquareOf, LimitOf, IsLoad}
 use Rattle.geo_model.specs.Network.{NetworkOf, IsNetwork, IsLimit}
 use Rattle.limit_forms.specs.Grid.{on_grid, grid_step, lower_grid, upper_grid}
 use Rattle.limit_forms.proofs.GridEntries.{step_above, lower_triangle, upper_triangle, lower_small, upper_small, upper_heads}
-use Rattle.pivot_chain.specs.Step.{over_of}
+use Rattle.chain_step.specs.Step.{over_of}
 use Rattle.pivot_chain.specs.Chain.{chain_of, StopsAt, IsSmall}
+use Rattle.pivot_chain.specs.Judging.{lower_of, upper_of, IsMade}
+use Rattle.pivot_chain.specs.declared.grids.Grids.{Grids}
 use Rattle.pivot_chain.specs.Verdict.{verdict_from, verdict_of}
-use Rattle.pivot_chain.specs.declared.side.Side.{Side}
+use Rattle.chain_step.specs.declared.side.Side.{Side}
 use Rattle.pivot_chain.specs.declared.chain.Stop.{Stop}
 
 -- ---- the grid matrices are small
@@ -77,6 +79,19 @@ tall_lower network plan alpha squares m e = ap length e ∙ length-triangle (len
 
 pub tall_upper : (network : NetworkOf) (plan : List Bool) (alpha : ℤ) (squares : List SquareOf) (m : List (List ℤ)) → m ≡ upper_grid network plan alpha squares → length m ≡ length network.unknowns
 tall_upper network plan alpha squares m e = ap length e ∙ length-triangle (length network.unknowns) (upper_grid network plan alpha squares) (upper_triangle network plan alpha squares)
+
+-- both have a row for each unknown
+pub small_lower_of : (grids : Grids) → IsNetwork grids.network.now → IsMade grids → IsSmall (lower_of grids)
+small_lower_of grids bounds made = small_lower grids.network.now grids.normal.now.plan grids.alpha grids.squares.now bounds made.load
+
+pub small_upper_of : (grids : Grids) → IsNetwork grids.network.now → IsMade grids → IsSmall (upper_of grids)
+small_upper_of grids bounds made = small_upper grids.network.now grids.normal.now.plan grids.alpha grids.squares.now bounds made.load
+
+pub tall_lower_of : (grids : Grids) → length (lower_of grids) ≡ length grids.network.now.unknowns
+tall_lower_of grids = tall_lower grids.network.now grids.normal.now.plan grids.alpha grids.squares.now (lower_of grids) refl
+
+pub tall_upper_of : (grids : Grids) → length (upper_of grids) ≡ length grids.network.now.unknowns
+tall_upper_of grids = tall_upper grids.network.now grids.normal.now.plan grids.alpha grids.squares.now (upper_of grids) refl
 
 -- ---- the limit that was looked up
 pub limit_at : (network : NetworkOf) (limits : List LimitOf) (i : ℕ) (form : LimitOf) → IsNetwork network → limits ≡ network.limits → i < length network.limits → form ≡ get_or limits i form → IsLimit network form

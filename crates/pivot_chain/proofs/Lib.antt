@@ -1,13 +1,6 @@
 pub mod Verdicts
-pub mod Gaps
-pub mod Dividing
-pub mod RowSteps
-pub mod Matrices
 pub mod ChainSteps
 pub mod HeightNetworks
 pub mod Judged
 pub mod ChainRun
 pub mod Plans
-pub mod RowWrites
-pub mod StepsSoFar
-pub mod Stops

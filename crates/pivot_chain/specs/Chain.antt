@@ -3,8 +3,8 @@ use Rattle.std.specs.Prelude.{◌≡◌, ℕ, ◌+◌, ◌^◌, ◌<◌, ◌≤�
 use Rattle.whole_algebra.specs.Matrices.{at, IsTriangle}
 use Rattle.whole_algebra.specs.Chains.{Step, chain_steps, stops, stop_place, stop_value}
 use Rattle.whole_algebra.specs.Grid.{row_at}
-use Rattle.pivot_chain.specs.Step.{over_of}
-use Rattle.pivot_chain.specs.declared.side.Side.{Side}
+use Rattle.chain_step.specs.Step.{over_of}
+use Rattle.chain_step.specs.declared.side.Side.{Side}
 use Rattle.pivot_chain.specs.declared.chain.Stop.{Stop}
 
 -- the steps of the chain of a side

@@ -1,4 +1,4 @@
 pub mod Verdict
 pub mod Room
-pub mod Step
 pub mod Chain
+pub mod Judging

@@ -1,14 +1,16 @@
 -- The room in which verdicts are reckoned. This project's own layout.
 use Rattle.std.specs.Prelude.{◌≡◌, ℤ, List, length}
-use Rattle.lent_parts.specs.Triangle.{IsTri}
 use Rattle.geo_model.specs.Network.{NetworkOf}
 use Rattle.normal_matrix.specs.Normal.{NormalOf, IsNormalOf}
+use Rattle.limit_forms.specs.Form.{IsFullDiagonal}
 use Rattle.limit_forms.specs.Grid.{GridOf}
 
--- a normal matrix, a grid, the two grid matrices of a limit, and the rows of a chain
+-- a normal matrix, a grid, the diagonal of the normal matrix of all candidates, rows of the two grid matrices of a
+-- limit, and the rows of a chain
 pub record RoomOf : Type 0 where
   pub normal : NormalOf
   pub grid : GridOf
+  pub diagonal : List ℤ
   pub lower : List (List ℤ)
   pub upper : List (List ℤ)
   pub rows : List (List ℤ)
@@ -18,6 +20,7 @@ pub record RoomOf : Type 0 where
 pub record IsRoomOf (network : NetworkOf) (room : RoomOf) : Type 0 where
   pub normal : IsNormalOf network room.normal
   pub grid : length room.grid.order ≡ length network.unknowns
-  pub lower : IsTri (length network.unknowns) room.lower
-  pub upper : IsTri (length network.unknowns) room.upper
-  pub rows : IsTri (length network.unknowns) room.rows
+  pub diagonal : IsFullDiagonal network room.diagonal
+  pub lower : length room.lower ≡ length network.unknowns
+  pub upper : length room.upper ≡ length network.unknowns
+  pub rows : length room.rows ≡ length network.unknowns

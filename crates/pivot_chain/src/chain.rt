@@ -1,12 +1,11 @@
-ghost use Rattle.std.specs.Prelude.{◌≡◌, ℕ, ◌+◌, ◌-◌, ◌<◌, ◌≤◌, ◌^◌, ℤ, pos, ◌≤ℤ◌, List, length, unsigned_abs, IsFalse, IsNone, IfSome, MatchOption};
+ghost use Rattle.std.specs.Prelude.{◌≡◌, ◌≢◌, ℕ, ◌+◌, ◌<◌, ◌≤◌, ◌^◌, ℤ, pos, ◌≤ℤ◌, List, length, unsigned_abs, MatchOption};
 ghost use Rattle.whole_algebra.specs.Matrices.{at, IsTriangle};
-ghost use Rattle.whole_algebra.specs.Chains.{stops, matrix_after};
+ghost use Rattle.whole_algebra.specs.Chains.{step_of, stop, matrix_after};
 ghost use Rattle.whole_algebra.specs.Grid.{row_at};
-ghost use Rattle.lent_parts.specs.Triangle.{IsTri, tri_row};
-ghost use Rattle.pivot_chain.specs.Step.{over_of, IsPivotRow};
-ghost use Rattle.pivot_chain.specs.Chain.{chain_of, StopsAt, IsSmall};
+ghost use Rattle.lent_parts.specs.Triangle.{tri_row};
+ghost use Rattle.chain_step.specs.Step.{over_of, IsPivotRow};
 
-use crate::{Side, stop_of, take_step};
+use chain_step::{Side, stop_of, take_steps};
 use lent_parts::Tri;
 
 /// Where a chain stops.
@@ -19,45 +18,30 @@ pub struct Stop {
     pub value: i128,
 }
 
-/// Runs a chain of a matrix, a row after another, and answers where it stops. The first rows of the
-/// matrices that its steps leave are put in `rows`, up to the row of the step that stops, if one
-/// does; what `rows` holds below it, and in `matrix`, is of no use afterwards.
-pub fn run_chain(side: Side, matrix: &mut Tri, rows: &mut Tri) -> Option<Stop>
-    requires small { IsSmall matrix.old }
-    requires room { IsTri (length matrix.old) rows.old }
-    ensures stop { MatchOption result (IsFalse (stops (chain_of side matrix.old))) (λ stop. StopsAt (chain_of side matrix.old) stop) }
-    ensures rows { IsNone result → (k : ℕ) → k < length matrix.old → tri_row rows.new k ≡ row_at (matrix_after (over_of side) k matrix.old) 0 }
-    ensures stopped { IfSome result (λ stop. (k : ℕ) → k < stop.step → tri_row rows.new k ≡ row_at (matrix_after (over_of side) k matrix.old) 0) }
-    ensures matrix_shape { IsTri (length matrix.old) matrix.new }
-    ensures rows_shape { IsTri (length matrix.old) rows.new }
+/// Takes on row `k` of a matrix the steps of the rows before it, puts it in its place in `rows`, and
+/// answers the value with which the chain stops there: None where it goes on. Where the rows before it
+/// in `rows` are the first rows of the matrices that the steps of a chain leave, so is this one
+/// afterwards. No other row changes; what `matrix` holds in row `k` is of no use afterwards.
+pub fn step_row(side: Side, matrix: &mut Tri, rows: &mut Tri, k: u32) -> Option<i128>
+    requires within { k < length rows.old }
+    requires same { length matrix.old ≡ length rows.old }
+    requires few { length rows.old ≤ 64 }
+    requires pivots { (j : ℕ) → j < k → IsPivotRow (tri_row rows.old j) }
+    requires size { (m : ℕ) → unsigned_abs (at (tri_row matrix.old k) m) < 2 ^ 109 }
+    requires head { at (tri_row matrix.old k) 0 ≤ℤ pos (2 ^ 60 + 64) }
+    ensures exact { (first : List (List ℤ)) → IsTriangle (length rows.old) first
+        → ((j : ℕ) → j < k → tri_row rows.old j ≡ row_at (matrix_after (over_of side) j first) 0)
+        → tri_row matrix.old k ≡ row_at first k → tri_row rows.new k ≡ row_at (matrix_after (over_of side) k first) 0 }
+    ensures others { (j : ℕ) → j ≢ k → tri_row rows.new j ≡ tri_row rows.old j }
+    ensures places { length rows.new ≡ length rows.old }
+    ensures left { (j : ℕ) → j ≢ k → tri_row matrix.new j ≡ tri_row matrix.old j }
+    ensures left_places { length matrix.new ≡ length matrix.old }
+    ensures answer { MatchOption result (IsPivotRow (tri_row rows.new k)) (λ value. step_of (tri_row rows.new k) ≡ stop value) }
 {
-    for k in 0..matrix.size() {
-        take_steps(side, matrix.row_mut(k), rows);
-        copy_row(matrix.row(k), rows.row_mut(k));
-        if let Some(value) = stop_of(rows.row(k)) {
-            return Some(Stop { step: k + 1, value });
-        }
-    }
-    None
-}
-
-// Takes on a row, from its diagonal on, the steps of the rows before it.
-fn take_steps(side: Side, row: &mut [i128], rows: &Tri)
-    requires shape { IsTri (length rows.now) rows.now }
-    requires some { 0 < length row.old }
-    requires room { length row.old ≤ length rows.now }
-    requires pivots { (t : ℕ) → t < length rows.now - length row.old → IsPivotRow (tri_row rows.now t) }
-    requires size { (m : ℕ) → unsigned_abs (at row.old m) < 2 ^ 109 }
-    requires head { at row.old 0 ≤ℤ pos (2 ^ 60 + 64) }
-    ensures exact { (matrix : List (List ℤ)) → IsTriangle (length rows.now) matrix
-        → ((t : ℕ) → t < length rows.now - length row.old → row_at (matrix_after (over_of side) t matrix) 0 ≡ tri_row rows.now t)
-        → row_at matrix (length rows.now - length row.old) ≡ row.old
-        → row.new ≡ row_at (matrix_after (over_of side) (length rows.now - length row.old) matrix) 0 }
-    ensures head { at row.new 0 ≤ℤ pos (2 ^ 61) }
-{
-    for t in 0..rows.size() - row.len() as u32 {
-        take_step(side, row, rows.row(t));
-    }
+    let (before, _place) = rows.rows_before(k);
+    take_steps(side, matrix.row_mut(k), &before);
+    copy_row(matrix.row(k), rows.row_mut(k));
+    stop_of(rows.row(k))
 }
 
 // Writes one row over another of the same length.

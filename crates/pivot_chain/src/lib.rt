@@ -12,23 +12,19 @@
 #![tactic(auto)]
 
 mod chain;
+mod grids;
 mod judging;
 mod laws;
 mod plan;
 mod room;
-mod side;
-mod step;
-mod stop;
+mod run;
 #[cfg(test)]
 mod tests;
 
-pub use chain::{Stop, run_chain};
+pub use chain::{Stop, step_row};
 pub use judging::verdict;
 pub use laws::{
     certified_plans_meet_limits, met_is_sound, open_intervals_contain_zero, refuted_is_sound,
     refuted_plans_fail,
 };
 pub use room::ChainRoom;
-pub use side::Side;
-pub use step::take_step;
-pub use stop::stop_of;

@@ -4,7 +4,7 @@ ghost use Rattle.pivot_chain.specs.Room.{IsRoomOf};
 use geo_base::NoMemory;
 use geo_model::Network;
 use lent_parts::Tri;
-use limit_forms::LimitGrid;
+use limit_forms::{LimitGrid, full_diagonals};
 use normal_matrix::Normal;
 use std::alloc::Global;
 use std::marker::Model;
@@ -15,6 +15,7 @@ use std::marker::Model;
 pub struct ChainRoom {
     pub(crate) normal: Normal,
     pub(crate) grid: LimitGrid,
+    pub(crate) diagonal: Vec<i128>,
     pub(crate) lower: Tri,
     pub(crate) upper: Tri,
     pub(crate) rows: Tri,
@@ -25,7 +26,7 @@ impl Model for ChainRoom {
 
     ghost Value = { RoomOf };
 
-    ghost view = { λ room. record { normal = room.normal; grid = room.grid; lower = room.lower; upper = room.upper; rows = room.rows } };
+    ghost view = { λ room. record { normal = room.normal; grid = room.grid; diagonal = room.diagonal.items; lower = room.lower; upper = room.upper; rows = room.rows } };
 }
 
 impl ChainRoom {
@@ -36,12 +37,14 @@ impl ChainRoom {
         let size = network.unknowns().len() as u32;
         let normal = Normal::new(alloc, network)?;
         let grid = LimitGrid::new(alloc, network, 1, &[])?;
+        let diagonal = full_diagonals(alloc, network)?;
         let lower = Tri::new(alloc, size)?;
         let upper = Tri::new(alloc, size)?;
         let rows = Tri::new(alloc, size)?;
         Ok(ChainRoom {
             normal,
             grid,
+            diagonal,
             lower,
             upper,
             rows,

@@ -12,7 +12,7 @@ use Rattle.psd_cert.specs.Sizes.{Fits}
 use Rattle.psd_cert.specs.Certificate.{IsCertificate, IsKept}
 use Rattle.psd_cert.specs.Lower.{StopsHere, Leaves, last_matrix}
 use Rattle.psd_cert.proofs.FormBounds.{chain_fits}
-use Rattle.psd_cert.proofs.RowLaws.{parts}
+use Rattle.chain_step.proofs.RowLaws.{parts}
 
 -- the remainders so far begin those of the lower chain of a first matrix, which goes on from the last one
 pub record IsBegun (n : ℕ) (first : List (List ℤ)) (rs : List (List (List ℤ))) : Type 0 where

@@ -10,7 +10,7 @@ use Rattle.whole_algebra.proofs.Places.{at-row_at-schur, at-row_at-minus_matrix,
 use Rattle.lent_parts.specs.Triangle.{IsTri, tri_row}
 use Rattle.psd_cert.specs.Sizes.{RowFits, Fits}
 use Rattle.psd_cert.specs.LeftOver.{left_over, left_sizes, IsScale}
-use Rattle.psd_cert.proofs.Products.{kept, read_back}
+use Rattle.chain_step.proofs.Products.{kept, read_back}
 
 -- ---- sizes
 pub row_fits_at : (row : List ℤ) (k : ℕ) → RowFits row → unsigned_abs (at row k) ≤ 2 ^ 61

@@ -15,6 +15,7 @@ use Rattle.whole_algebra.proofs.Places.{at-row_at-schur, at-beside, at-diagonal,
 use Rattle.whole_algebra.proofs.ChainLaws.{is_zero-true, and_left, and_right}
 use Rattle.whole_algebra.proofs.Normal.{ring, x0, x1, lit, ◌⊖◌, ◌⊗◌}
 use Rattle.lent_parts.specs.Triangle.{IsTri, tri_row}
+use Rattle.chain_step.proofs.RowLaws.{nothing_past}
 use Rattle.psd_cert.specs.Certificate.{StepFrom}
 use Rattle.psd_cert.specs.LeftOver.{left_over, left_sizes, IsRowDominant, IsScale}
 use Rattle.psd_cert.proofs.Entries.{at-left_sizes, triangle-left_over, triangle-minus_matrix}
@@ -143,11 +144,6 @@ unfolding left_sizes
 row_parts s m r i = at-off_sums (entries size_of (left_over s m r)) i
 
 -- ---- the whole step
-pub nothing_past : (xs : List ℤ) (i : ℕ) → length xs ≤ i → at xs i ≡ pos 0
-nothing_past [] i h = refl
-nothing_past (x ∷ xs) zero h = absurd (omega arith)
-nothing_past (x ∷ xs) (suc i) h = nothing_past xs i (omega arith)
-
 pub dominant_from_rows : (n : ℕ) (m : List (List ℤ)) → IsTriangle n m → ((i : ℕ) → i < n → IsRowDominant m i) → IsDominant m
 dominant_from_rows n m t h i =
     elim (cases_lt i n) [

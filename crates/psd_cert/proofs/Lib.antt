@@ -1,14 +1,9 @@
 pub mod Decided
-pub mod RowLaws
-pub mod WrittenRows
-pub mod Quotients
 pub mod ScaleLaws
-pub mod Products
 pub mod Entries
 pub mod LeftOverLaws
 pub mod RowTests
 pub mod CertificateLaws
 pub mod FormBounds
-pub mod DividedLaws
 pub mod ChainSoFar
-pub mod LowerEntries
+pub mod LowerSteps

@@ -6,7 +6,7 @@ use Rattle.std.proofs.lemmas.Int.{ints}
 use Rattle.whole_algebra.specs.Rounding.{is_zero}
 use Rattle.whole_algebra.specs.Matrices.{at}
 use Rattle.psd_cert.specs.LeftOver.{IsScale}
-use Rattle.psd_cert.proofs.RowLaws.{zero_is, both, all_zero, zero_all}
+use Rattle.chain_step.proofs.RowLaws.{zero_is, both, all_zero, zero_all}
 
 -- ---- the three cases of the code
 pub scale_of_pivot : (row : List ℤ) → 0 < length row → int_lt (pos 0) (at row 0) ≡ true → IsScale row (at row 0)

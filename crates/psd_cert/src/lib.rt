@@ -7,8 +7,6 @@
 //! Said by: `SquareCert::make`, `step_holds`, `holds`.
 #![tactic(auto)]
 
-mod arithmetic;
-mod first_row;
 mod lower;
 mod sizes;
 mod square_cert;
@@ -16,8 +14,6 @@ mod step;
 #[cfg(test)]
 mod tests;
 
-pub use arithmetic::{minus_product, product, quotient};
-pub use first_row::{are_small, is_zero_row};
-pub use sizes::{PIVOT_SIZE, fits};
+pub use sizes::fits;
 pub use square_cert::{SquareCert, holds};
 pub use step::step_holds;

@@ -1,11 +1,8 @@
 ghost use Rattle.std.specs.Prelude.{◌↔◌, IsTrue};
 ghost use Rattle.psd_cert.specs.Sizes.{RowFits, Fits};
 
+use chain_step::PIVOT_SIZE;
 use lent_parts::Tri;
-
-/// The greatest size of a pivot, and of what it divides, `2^61`: products of two such numbers, and
-/// sums of those over a row, stay in 128 bits.
-pub const PIVOT_SIZE: i128 = 0x2000_0000_0000_0000;
 
 /// Whether all entries are at most `2^61` in size.
 pub fn fits(first: &Tri) -> bool

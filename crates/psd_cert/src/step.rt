@@ -8,8 +8,7 @@ ghost use Rattle.psd_cert.specs.Certificate.{StepFrom};
 ghost use Rattle.psd_cert.specs.Sizes.{Fits};
 ghost use Rattle.psd_cert.specs.LeftOver.{left_over, left_sizes, IsRowDominant, IsScale, IsStep};
 
-use crate::arithmetic::product;
-use crate::first_row::is_zero_row;
+use chain_step::{is_zero_row, product};
 use lent_parts::Tri;
 
 /// Whether the step from a matrix to a remainder holds. With the first row `a, b` of the current
@@ -34,7 +33,7 @@ pub fn step_holds(current: &Tri, remainder: &Tri) -> bool
 }
 
 // What the step from a first row multiplies by: None where no step from it holds.
-pub(crate) fn scale_of(first: &[i128]) -> Option<i128>
+fn scale_of(first: &[i128]) -> Option<i128>
     requires { 0 < length first.now }
     ensures { MatchOption result ((s : ℤ) → IsScale first.now s → ⊥) (λ s. IsScale first.now s) }
 {

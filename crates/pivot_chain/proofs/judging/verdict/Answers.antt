@@ -1,46 +1,29 @@
-use Rattle.std.proofs.Common.{rules, ◌≡◌, get_or, length, sym, ◌∙◌, ap, subst, w64, FitsSigned}
+use Rattle.std.proofs.Common.{rules, ◌≡◌, get_or, length, refl, sym, ◌∙◌, ap, subst, w64, FitsSigned}
 use Rattle.std.proofs.lemmas.Int.{to_z-of_z}
 use Rattle.std.proofs.lemmas.Option.{slice_get-get_or}
-use Rattle.lent_parts.specs.Triangle.{IsTri}
 use Rattle.geo_model.specs.Limit.{LimitOf}
 use Rattle.limit_forms.proofs.GridReads.{length-grid_of}
+use Rattle.limit_forms.specs.Form.{IsFullDiagonal}
+use Rattle.limit_forms.specs.Grid.{lower_grid, upper_grid}
 use Rattle.pivot_chain.specs.Room.{RoomOf}
-use Rattle.pivot_chain.specs.Chain.{IsSmall}
-use Rattle.pivot_chain.proofs.Judged.{small_lower, small_upper, tall_lower, tall_upper, limit_at, same_limit, load_of, verdict_is}
+use Rattle.pivot_chain.proofs.Judged.{limit_at, same_limit, load_of, verdict_is}
 use Rattle.pivot_chain.proofs.Verdicts.{open_interval, met_holds, refuted_breaks, met_grows}
 use Rattle.pivot_chain.proofs.judging.verdict.Goals as goal
 
-pub judge-requires-clause-lower : goal.judge-requires-clause-lower
-judge-requires-clause-lower c =
+pub retake_known-requires-clause-known : goal.retake_known-requires-clause-known
+retake_known-requires-clause-known c =
+    subst (IsFullDiagonal c.args.network.now) (sym (c.as_slice-diagonal.ensures.value ∙ ap (λ (v : RoomOf). v.diagonal) c.room.view_is)) c.requires.room.diagonal
+
+pub judge-requires-clause-made : goal.judge-requires-clause-made
+judge-requires-clause-made c =
     let bounds = c.limits.ensures.bounds in
     let f : FitsSigned w64 c.form.inside.alpha = search rules in
     let limit = limit_at c.args.network.now c.limits.result.now c.args.limit c.index-limits-limit.result bounds c.limits.ensures.value c.requires.limit c.index-limits-limit.is in
     let alpha : c.form.inside.alpha ≡ c.index-limits-limit.result.alpha = ap (λ (v : LimitOf). v.alpha) c.form.view_is in
     let squares : c.as_slice-squares.result.now ≡ c.index-limits-limit.result.squares = c.as_slice-squares.ensures.value ∙ ap (λ (v : LimitOf). v.squares) c.form.view_is in
     let load = load_of c.args.network.now c.index-limits-limit.result c.form.inside.alpha c.as_slice-squares.result.now limit alpha squares in
-    let written = simp (to_z-of_z, f) at c.write_grids.ensures.lower in
-    subst IsSmall (sym written) (small_lower c.args.network.now c.bring_to.new.normal.plan c.form.inside.alpha c.as_slice-squares.result.now bounds load)
-
-pub judge-requires-clause-upper : goal.judge-requires-clause-upper
-judge-requires-clause-upper c =
-    let bounds = c.limits.ensures.bounds in
-    let f : FitsSigned w64 c.form.inside.alpha = search rules in
-    let limit = limit_at c.args.network.now c.limits.result.now c.args.limit c.index-limits-limit.result bounds c.limits.ensures.value c.requires.limit c.index-limits-limit.is in
-    let alpha : c.form.inside.alpha ≡ c.index-limits-limit.result.alpha = ap (λ (v : LimitOf). v.alpha) c.form.view_is in
-    let squares : c.as_slice-squares.result.now ≡ c.index-limits-limit.result.squares = c.as_slice-squares.ensures.value ∙ ap (λ (v : LimitOf). v.squares) c.form.view_is in
-    let load = load_of c.args.network.now c.index-limits-limit.result c.form.inside.alpha c.as_slice-squares.result.now limit alpha squares in
-    let written = simp (to_z-of_z, f) at c.write_grids.ensures.upper in
-    subst IsSmall (sym written) (small_upper c.args.network.now c.bring_to.new.normal.plan c.form.inside.alpha c.as_slice-squares.result.now bounds load)
-
-pub judge-requires-clause-same : goal.judge-requires-clause-same
-judge-requires-clause-same c =
-    tall_upper _ _ _ _ c.write_grids.new.upper c.write_grids.ensures.upper ∙ sym (tall_lower _ _ _ _ c.write_grids.new.lower c.write_grids.ensures.lower)
-
-pub judge-requires-clause-room : goal.judge-requires-clause-room
-judge-requires-clause-room c =
-    let rows : c.room.inside.rows ≡ c.args.room.now.rows = ap (λ (v : RoomOf). v.rows) c.room.view_is in
-    let tall = tall_lower _ _ _ _ c.write_grids.new.lower c.write_grids.ensures.lower in
-    subst (λ n. IsTri n c.room.inside.rows) (sym tall) (subst (IsTri (length c.args.network.now.unknowns)) (sym rows) c.requires.room.rows)
+    simp (to_z-of_z, f)
+    (record { normal_made = c.bring_to.ensures.sum; load = load; grid_made = simp (to_z-of_z, f) at c.retake_known.ensures })
 
 exact : goal.returns-clause-exact
 exact c = λ l e.
@@ -48,9 +31,10 @@ exact c = λ l e.
     let alpha : c.form.inside.alpha ≡ c.index-limits-limit.result.alpha = ap (λ (v : LimitOf). v.alpha) c.form.view_is in
     let squares : c.as_slice-squares.result.now ≡ c.index-limits-limit.result.squares = c.as_slice-squares.ensures.value ∙ ap (λ (v : LimitOf). v.squares) c.form.view_is in
     let same = same_limit c.limits.result.now c.args.limit c.index-limits-limit.result l c.index-limits-limit.is (rw c.limits.ensures.value e) in
-    c.judge.ensures.exact
-    ∙ verdict_is c.args.network.now c.args.plan.now c.bring_to.new.normal.plan c.index-limits-limit.result l c.form.inside.alpha c.as_slice-squares.result.now c.write_grids.new.lower c.write_grids.new.upper
-    (simp (to_z-of_z, f) at c.write_grids.ensures.lower) (simp (to_z-of_z, f) at c.write_grids.ensures.upper) c.bring_to.ensures.plan alpha squares same
+    simp (to_z-of_z, f) at c.judge.ensures.exact
+    ∙ verdict_is c.args.network.now c.args.plan.now c.bring_to.new.normal.plan c.index-limits-limit.result l c.form.inside.alpha c.as_slice-squares.result.now
+    (lower_grid c.args.network.now c.bring_to.new.normal.plan c.form.inside.alpha c.as_slice-squares.result.now) (upper_grid c.args.network.now c.bring_to.new.normal.plan c.form.inside.alpha c.as_slice-squares.result.now)
+    refl refl c.bring_to.ensures.plan alpha squares same
 
 pub returns-clause-exact : goal.returns-clause-exact
 returns-clause-exact c = exact c
@@ -72,12 +56,11 @@ returns-clause-larger c = λ l large found e within.
     met_grows c.args.network.now c.args.plan.now large c.args.limit l c.judge.result c.limits.ensures.bounds found (exact c l found) e within
 
 pub returns-clause-kept : goal.returns-clause-kept
-returns-clause-kept c =
-    let tall = tall_lower _ _ _ _ c.write_grids.new.lower c.write_grids.ensures.lower in
-    record {
-      normal = c.bring_to.ensures.sum;
-      grid = length-grid_of _ _ _ c.retake.new.self c.retake.ensures;
-      lower = subst (λ n. IsTri n c.judge.new.lower) tall c.judge.ensures.lower_shape;
-      upper = subst (λ n. IsTri n c.judge.new.upper) tall c.judge.ensures.upper_shape;
-      rows = subst (λ n. IsTri n c.judge.new.rows) tall c.judge.ensures.rows_shape;
-    }
+returns-clause-kept c = record {
+  normal = c.bring_to.ensures.sum;
+  grid = length-grid_of _ _ _ c.retake_known.new.self c.retake_known.ensures;
+  diagonal = subst (IsFullDiagonal c.args.network.now) (sym (ap (λ (v : RoomOf). v.diagonal) c.room.view_is)) c.requires.room.diagonal;
+  lower = c.judge.ensures.lower_size ∙ (ap (λ (v : RoomOf). length v.lower) c.room.view_is ∙ c.requires.room.lower);
+  rows = c.judge.ensures.rows_size ∙ (ap (λ (v : RoomOf). length v.rows) c.room.view_is ∙ c.requires.room.rows);
+  upper = c.judge.ensures.upper_size ∙ (ap (λ (v : RoomOf). length v.upper) c.room.view_is ∙ c.requires.room.upper);
+}

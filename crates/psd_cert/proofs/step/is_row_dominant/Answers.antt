@@ -2,7 +2,7 @@ use Rattle.std.proofs.Common.{arith, FitsSigned}
 use Rattle.std.specs.Int.{w128}
 use Rattle.std.proofs.lemmas.Int.{ints, to_z-of_z}
 use Rattle.psd_cert.proofs.Decided.{decided_false, decided_by}
-use Rattle.psd_cert.proofs.Products.{in_range}
+use Rattle.chain_step.proofs.Products.{in_range}
 use Rattle.psd_cert.proofs.LeftOverLaws.{row_is_dominant, column_too_large, diagonal_too_small}
 use Rattle.psd_cert.proofs.step.is_row_dominant.Goals as goal
 

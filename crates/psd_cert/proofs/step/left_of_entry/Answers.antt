@@ -1,5 +1,5 @@
 use Rattle.std.proofs.Common.{◌∙◌, sym, subst, ◌≤◌, ◌^◌, unsigned_abs}
-use Rattle.psd_cert.proofs.Products.{difference_back, difference_size, products_kept}
+use Rattle.chain_step.proofs.Products.{difference_back, difference_size, products_kept}
 use Rattle.psd_cert.proofs.step.left_of_entry.Goals as goal
 
 pub overflow_sub-result : goal.overflow_sub-result

@@ -1,7 +1,7 @@
 use Rattle.std.proofs.Common.{◌≡◌, ◌∙◌, sym, subst, ap, ◌≤◌, ◌^◌, ◌+◌, suc, length, arith, unsigned_abs}
 use Rattle.lent_parts.proofs.Triangles.{length-IsTri, length-tri_row}
 use Rattle.lent_parts.specs.Triangle.{tri_row}
-use Rattle.psd_cert.proofs.Products.{read_back}
+use Rattle.chain_step.proofs.Products.{read_back}
 use Rattle.psd_cert.proofs.Entries.{scale_fits, fits_at, left_over_read}
 use Rattle.psd_cert.proofs.step.left_over_at.Goals as goal
 

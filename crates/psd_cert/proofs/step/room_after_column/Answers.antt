@@ -1,7 +1,7 @@
 use Rattle.std.proofs.Common.{◌-ℤ◌, arith, FitsSigned, to_z}
 use Rattle.std.specs.Int.{w128}
 use Rattle.std.proofs.lemmas.Int.{to_z-of_z}
-use Rattle.psd_cert.proofs.Products.{in_range}
+use Rattle.chain_step.proofs.Products.{in_range}
 use Rattle.psd_cert.proofs.RowTests.{column_stop, column_step}
 use Rattle.psd_cert.proofs.step.room_after_column.Goals as goal
 

@@ -1,7 +1,7 @@
 use Rattle.std.proofs.Common.{length, ◌-ℤ◌, arith, ◌≤ℤ◌, ◌<ℤ◌, ℤ, FitsSigned, to_z}
 use Rattle.std.specs.Int.{w128}
 use Rattle.std.proofs.lemmas.Int.{ints, to_z-of_z}
-use Rattle.psd_cert.proofs.Products.{in_range}
+use Rattle.chain_step.proofs.Products.{in_range}
 use Rattle.whole_algebra.specs.Sums.{int_sum}
 use Rattle.whole_algebra.specs.Chains.{beside}
 use Rattle.whole_algebra.specs.Grid.{row_at}

@@ -3,7 +3,7 @@ use Rattle.std.specs.Int.{w128}
 use Rattle.std.proofs.lemmas.Int.{to_z-of_z}
 use Rattle.whole_algebra.proofs.Refutation.{false_is_not_true}
 use Rattle.psd_cert.proofs.Decided.{decided_true, decided_false}
-use Rattle.psd_cert.proofs.Products.{in_range}
+use Rattle.chain_step.proofs.Products.{in_range}
 use Rattle.psd_cert.proofs.Entries.{scale_fits, fits_at}
 use Rattle.psd_cert.proofs.LeftOverLaws.{step_from_rows, rows_from_step, step_has_scale}
 use Rattle.lent_parts.specs.Triangle.{IsTri, tri_row}

@@ -1,6 +1,13 @@
-use Rattle.std.proofs.Common.{refl, ◌∙◌, ap, length, take}
+use Rattle.std.proofs.Common.{ℕ, ◌≤◌, ℤ, List, refl, ◌∙◌, ap, length, take, arith}
+use Rattle.std.proofs.lemmas.Grind.{common_steps}
 use Rattle.lent_parts.proofs.Triangles.{taken_out, IsKept-refilled, long_row, row_given, rows_kept}
 use Rattle.lent_parts.proofs.tri.Tri.rows_before.Goals as goal
+
+at_most : (k : ℕ) (rows : List (List ℤ)) → length rows ≤ 64 → length (take k rows) ≤ 64
+at_most k rows few = grind (arith, common_steps)
+
+pub of-before-requires : goal.of-before-requires
+of-before-requires c = at_most c.args.k c.deref.result.now (let few = c.self.invariant.few in let len = c.exchange.ensures.len in let same = ap length c.deref.ensures.value in omega arith)
 
 pub invariant_of-self-lent : goal.invariant_of-self-lent
 invariant_of-self-lent c =

@@ -1,5 +1,5 @@
-use Rattle.std.proofs.Common.{◌≡◌, [], length, pos, ap, subst}
-use Rattle.lent_parts.specs.Triangle.{IsTri}
+use Rattle.std.proofs.Common.{◌≡◌, [], length, pos, ◌∙◌, ap}
+use Rattle.lent_parts.proofs.Triangles.{length-IsTri}
 use Rattle.limit_forms.proofs.GridReads.{length-grid_of}
 use Rattle.pivot_chain.proofs.room.ChainRoom.new.Goals as goal
 
@@ -9,7 +9,8 @@ returns c =
     record {
       normal = c.in_ok-normal.ensures.sum;
       grid = length-grid_of c.args.network.now (pos 1) [] c.in_ok-grid.grid c.in_ok-grid.ensures;
-      lower = subst (λ n. IsTri n c.in_ok-lower.lower) size c.in_ok-lower.ensures.shape;
-      upper = subst (λ n. IsTri n c.in_ok-upper.upper) size c.in_ok-upper.ensures.shape;
-      rows = subst (λ n. IsTri n c.in_ok-rows.rows) size c.in_ok-rows.ensures.shape;
+      diagonal = c.in_ok-diagonal.ensures;
+      lower = length-IsTri (length c.unknowns.result.now) c.in_ok-lower.lower c.in_ok-lower.ensures.shape ∙ size;
+      upper = length-IsTri (length c.unknowns.result.now) c.in_ok-upper.upper c.in_ok-upper.ensures.shape ∙ size;
+      rows = length-IsTri (length c.unknowns.result.now) c.in_ok-rows.rows c.in_ok-rows.ensures.shape ∙ size;
     }

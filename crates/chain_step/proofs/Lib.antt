@@ -1,0 +1,12 @@
+pub mod Products
+pub mod Quotients
+pub mod RowLaws
+pub mod Dividing
+pub mod Gaps
+pub mod RowSteps
+pub mod RowWrites
+pub mod Stops
+pub mod Matrices
+pub mod StepsSoFar
+pub mod WrittenRows
+pub mod SameRows

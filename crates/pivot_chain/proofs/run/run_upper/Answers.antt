@@ -1,0 +1,121 @@
+use Rattle.std.proofs.Common.{rules, ◌≡◌, ◌+◌, ◌<◌, length, refl, sym, ◌∙◌, ap, subst, arith, unsigned_abs, ◌^◌, pos, ◌≤ℤ◌, FitsSigned}
+use Rattle.std.specs.Int.{w128}
+use Rattle.std.proofs.lemmas.Int.{to_z-of_z}
+use Rattle.whole_algebra.specs.Matrices.{at, IsTriangle}
+use Rattle.whole_algebra.specs.Grid.{row_at}
+use Rattle.lent_parts.specs.Triangle.{tri_row}
+use Rattle.chain_step.specs.declared.side.Side.TheVariants.{Upper}
+use Rattle.pivot_chain.specs.Judging.{lower_of, upper_of}
+use Rattle.pivot_chain.proofs.ChainRun.{begun, one_more, stops_here, never_stops}
+use Rattle.pivot_chain.proofs.Judged.{small_lower_of, small_upper_of, tall_lower_of, tall_upper_of}
+use Rattle.pivot_chain.proofs.run.run_upper.Goals as goal
+
+pub loop-k-init : goal.loop-k-init
+loop-k-init c = record {
+  so_far = begun Upper (upper_of c.args.grids.now) c.args.rows.now (c.requires.rows_room ∙ sym (tall_upper_of c.args.grids.now));
+  upper_size = refl;
+  ahead = λ j _ lt. c.requires.written j lt;
+  spare_size = refl;
+}
+
+pub write_upper-requires-clause-known : goal.write_upper-requires-clause-known
+write_upper-requires-clause-known c = λ lt. c.loop-k.invariant.ahead c.loop-k.k (omega arith) lt
+
+pub step_row-requires-clause-within : goal.step_row-requires-clause-within
+step_row-requires-clause-within c =
+    let lt = c.loop-k-test.true in
+    let count = c.size-k-end.ensures.rows in
+    let places = c.loop-k.invariant.so_far.places in
+    let room = c.requires.rows_room in
+    let tall = tall_upper_of c.args.grids.now in
+    omega arith
+
+pub step_row-requires-clause-few : goal.step_row-requires-clause-few
+step_row-requires-clause-few c =
+    let count = c.size-k-end.ensures.rows in
+    let most = c.size-k-end.ensures.most in
+    let places = c.loop-k.invariant.so_far.places in
+    let room = c.requires.rows_room in
+    let tall = tall_upper_of c.args.grids.now in
+    omega arith
+
+pub step_row-requires-clause-same : goal.step_row-requires-clause-same
+step_row-requires-clause-same c =
+    let places = c.loop-k.invariant.so_far.places in
+    let size = c.loop-k.invariant.upper_size in
+    let written = c.write_upper.ensures.upper_size in
+    let room = c.requires.upper_room in
+    let tall = tall_upper_of c.args.grids.now in
+    omega arith
+
+pub step_row-requires-clause-pivots : goal.step_row-requires-clause-pivots
+step_row-requires-clause-pivots c = c.loop-k.invariant.so_far.pivots
+
+pub step_row-requires-clause-size : goal.step_row-requires-clause-size
+step_row-requires-clause-size c = λ m.
+    subst (λ row. unsigned_abs (at row m) < 2 ^ 109) (sym c.write_upper.ensures.upper) ((small_upper_of c.args.grids.now c.candidates-bounds.ensures.bounds c.requires.made).each_size c.loop-k.k m)
+
+pub step_row-requires-clause-head : goal.step_row-requires-clause-head
+step_row-requires-clause-head c =
+    subst (λ row. at row 0 ≤ℤ pos (2 ^ 60 + 64)) (sym c.write_upper.ensures.upper) ((small_upper_of c.args.grids.now c.candidates-bounds.ensures.bounds c.requires.made).heads c.loop-k.k)
+
+pub returns-in-Some-clause-stop : goal.returns-in-Some-clause-stop
+returns-in-Some-clause-stop c =
+    let first = upper_of c.args.grids.now in
+    let small = small_upper_of c.args.grids.now c.candidates-bounds.ensures.bounds c.requires.made in
+    let so_far = c.loop-k.invariant.so_far in
+    let here = c.step_row.ensures.exact first (subst (λ n. IsTriangle n first) (sym so_far.places) small.shape) so_far.done c.write_upper.ensures.upper in
+    let lt = c.loop-k-test.true in
+    let count = c.size-k-end.ensures.rows in
+    let room = c.requires.rows_room in
+    let tall = tall_upper_of c.args.grids.now in
+    let f : FitsSigned w128 c.in-Some.value = search rules in
+    simp (to_z-of_z, f)
+    (stops_here Upper first c.loop-k.rows c.loop-k.k (tri_row c.step_row.new.rows c.loop-k.k) c.in-Some.value small.shape (omega arith) so_far here c.in-Some.ensures.answer)
+
+pub returns-in-Some-clause-rows_size : goal.returns-in-Some-clause-rows_size
+returns-in-Some-clause-rows_size c = c.step_row.ensures.places ∙ (c.loop-k.invariant.so_far.places ∙ (tall_upper_of c.args.grids.now ∙ sym c.requires.rows_room))
+
+pub returns-clause-rows_size : goal.returns-clause-rows_size
+returns-clause-rows_size c = c.loop-k.invariant.so_far.places ∙ (tall_upper_of c.args.grids.now ∙ sym c.requires.rows_room)
+
+pub returns-in-Some-clause-upper_size : goal.returns-in-Some-clause-upper_size
+returns-in-Some-clause-upper_size c = c.step_row.ensures.left_places ∙ (c.write_upper.ensures.upper_size ∙ c.loop-k.invariant.upper_size)
+
+pub returns-clause-stop : goal.returns-clause-stop
+returns-clause-stop c =
+    let small = small_upper_of c.args.grids.now c.candidates-bounds.ensures.bounds c.requires.made in
+    let done = c.loop-k-test.false in
+    let count = c.size-k-end.ensures.rows in
+    let room = c.requires.rows_room in
+    let tall = tall_upper_of c.args.grids.now in
+    never_stops Upper (upper_of c.args.grids.now) c.loop-k.rows c.loop-k.k small.shape (omega arith) c.loop-k.invariant.so_far
+
+pub write_upper-requires-clause-within : goal.write_upper-requires-clause-within
+write_upper-requires-clause-within c =
+    let lt = c.loop-k-test.true in
+    let count = c.size-k-end.ensures.rows in
+    let room = c.requires.rows_room in
+    omega arith
+
+pub write_upper-requires-clause-upper_room : goal.write_upper-requires-clause-upper_room
+write_upper-requires-clause-upper_room c = c.loop-k.invariant.upper_size ∙ c.requires.upper_room
+
+pub returns-clause-rows : goal.returns-clause-rows
+returns-clause-rows c = λ _ k lt.
+    let done = c.loop-k-test.false in
+    let count = c.size-k-end.ensures.rows in
+    c.loop-k.invariant.so_far.done k (omega arith)
+
+pub loop-k-preserved : goal.loop-k-preserved
+loop-k-preserved c =
+    let first = upper_of c.args.grids.now in
+    let small = small_upper_of c.args.grids.now c.candidates-bounds.ensures.bounds c.requires.made in
+    let so_far = c.loop-k.invariant.so_far in
+    let here = c.step_row.ensures.exact first (subst (λ n. IsTriangle n first) (sym so_far.places) small.shape) so_far.done c.write_upper.ensures.upper in
+    record {
+      so_far = one_more Upper first c.loop-k.rows c.step_row.new.rows c.loop-k.k so_far c.step_row.ensures.places c.step_row.ensures.others here c.in_default.ensures.answer;
+      upper_size = c.step_row.ensures.left_places ∙ (c.write_upper.ensures.upper_size ∙ c.loop-k.invariant.upper_size);
+      ahead = λ j le lt. c.step_row.ensures.left j (λ e. absurd (omega arith)) ∙ (c.write_upper.ensures.others j (λ e. absurd (omega arith)) ∙ c.loop-k.invariant.ahead j (omega arith) lt);
+      spare_size = c.write_upper.ensures.spare_size ∙ c.loop-k.invariant.spare_size;
+    }
