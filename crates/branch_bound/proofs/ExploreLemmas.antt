@@ -1,7 +1,7 @@
-use Rattle.std.proofs.Common.{replicate, ◌≡◌, ℕ, zero, suc, Bool, true, false, List, [], ◌∷◌, ◌++◌, length, refl, sym, ap, ap₂, ◌∙◌, subst, Some}
+use Rattle.std.proofs.Common.{replicate, ◌≡◌, ℕ, zero, suc, Bool, true, false, List, [], ◌∷◌, ◌++◌, map, length, refl, sym, ap, ap₂, ◌∙◌, subst, Some}
 use Rattle.std.specs.Prelude.{slice_get, slice_set}
 use Rattle.std.proofs.lemmas.List.Concat.{flat_map-append}
-use Rattle.std.proofs.lemmas.List.{length-set, length-replicate, append-nil}
+use Rattle.std.proofs.lemmas.List.{length-set, length-replicate, append-nil, map-append}
 use Rattle.shelf_io.specs.Files.{Files, IsHeld}
 use Rattle.geo_model.specs.Energy.{IsWithin}
 use Rattle.geo_model.specs.Network.{NetworkOf}
@@ -13,14 +13,18 @@ use Rattle.bound_log.proofs.CountLemmas.{counts_with-then}
 use Rattle.geo_model.proofs.PlanLemmas.{IsWithin-with, IsWithin-without, IsWithin-none}
 use Rattle.bound_log.specs.LogText.{line_text, lines_text}
 use Rattle.bound_log.specs.LogTree.{root_of, IsOpenAt, IsRefutedBy, with_chosen, without_chosen, bound_at}
-use Rattle.bound_log.specs.Tree.{split, leaf, Leaf, cost, pivot, Tree, fork, tip, tree_lines}
+use Rattle.bound_log.specs.declared.line_kind.LineKind.{LineKind}
+use Rattle.bound_log.specs.declared.log_leaf.LogLeaf.{LogLeaf}
+use Rattle.bound_log.specs.declared.log_leaf.LogLeaf.TheVariants.{Cost}
+use Rattle.bound_log.specs.declared.log_line.LogLine.{LogLine}
+use Rattle.bound_log.specs.declared.log_line.LogLine.TheVariants.{Split, Leaf}
+use Rattle.bound_log.specs.Lines.{kind_of}
+use Rattle.bound_log.specs.Tree.{Tree, fork, tip, tree_lines}
 use Rattle.branch_bound.specs.declared.best.Best.{Best}
-use Rattle.branch_bound.specs.declared.line.Line.{Line}
-use Rattle.branch_bound.specs.declared.line.Line.TheVariants as line
 use Rattle.branch_bound.specs.declared.search_fault.SearchFault.{SearchFault}
 use Rattle.branch_bound.specs.declared.search_fault.SearchFault.TheVariants as fault
 use Rattle.shelf_io.specs.States.{ShelfState}
-use Rattle.branch_bound.specs.Explored.{Adds, Breaks, line_of, IsNode, IsLineAt, Explores, BreaksOff}
+use Rattle.branch_bound.specs.Explored.{Adds, Breaks, IsNode, IsLineAt, Explores, BreaksOff}
 use Rattle.branch_bound.specs.Found.{IsKept}
 use Rattle.branch_bound.proofs.DoneLemmas.{IsDone-split}
 use Rattle.branch_bound.proofs.PieceLemmas.{Breaks-nothing, Adds-then, Breaks-after, Breaks-longer}
@@ -31,93 +35,85 @@ use Rattle.branch_bound.proofs.PieceLemmas.{Breaks-nothing, Adds-then, Breaks-af
 pub BreaksOff-nothing : (network : NetworkOf) (node : Node) (name : List ℕ) (state : ShelfState) →
     ((files : Files) → state.held ≡ Some files → IsHeld files name) → BreaksOff network node name fault.NoMemory state state
 BreaksOff-nothing network node name state told = record {
-  tree = tip cost;
+  tree = tip Cost;
   allowed = cost_allowed network node;
-  broken = Breaks-nothing name (lines_text (tree_lines (tip cost))) state told;
+  broken = Breaks-nothing name (lines_text (tree_lines (tip Cost))) state told;
 }
 
 -- the text of a tree of one leaf
-tip_text : (end : Leaf) → line_text (leaf end) ≡ lines_text (tree_lines (tip end))
-tip_text end = sym (append-nil (line_text (leaf end)))
+tip_text : (end : LogLeaf) → line_text (Leaf end) ≡ lines_text (tree_lines (tip end))
+tip_text end = sym (append-nil (line_text (Leaf end)))
 
 -- a leaf was written
-pub Explores-leaf : (network : NetworkOf) (node : Node) (name : List ℕ) (best best_now : Best) (counts counts_now : Counts) (before now : ShelfState) (found : Line) →
-    IsLineAt network node best best_now found → ((candidate : ℕ) → found ≡ line.Split candidate → ⊥) →
-    Adds name (line_text (line_of found)) before now → counts_now ≡ counts_with counts (line_of found ∷ []) →
+pub Explores-leaf : (network : NetworkOf) (node : Node) (name : List ℕ) (best best_now : Best) (counts counts_now : Counts) (before now : ShelfState) (found : LogLine) →
+    IsLineAt network node best best_now found → ((candidate : ℕ) → found ≡ Split candidate → ⊥) →
+    Adds name (line_text found) before now → counts_now ≡ counts_with counts (kind_of found ∷ []) →
     Explores network node name best best_now counts counts_now before now
-Explores-leaf network node name best best_now counts counts_now before now (line.Split candidate) here not_split added counted = absurd (not_split candidate refl)
-Explores-leaf network node name best best_now counts counts_now before now line.Cost here not_split added counted = record {
-  tree = tip cost;
+Explores-leaf network node name best best_now counts counts_now before now (Split candidate) here not_split added counted = absurd (not_split candidate refl)
+Explores-leaf network node name best best_now counts counts_now before now (Leaf end) here not_split added counted = record {
+  tree = tip end;
   allowed = here.allowed;
-  added = subst (λ text. Adds name text before now) (tip_text cost) added;
-  counted = counted;
-  done = here.done;
-}
-Explores-leaf network node name best best_now counts counts_now before now (line.Pivot limit) here not_split added counted = record {
-  tree = tip (pivot limit);
-  allowed = here.allowed;
-  added = subst (λ text. Adds name text before now) (tip_text (pivot limit)) added;
+  added = subst (λ text. Adds name text before now) (tip_text end) added;
   counted = counted;
   done = here.done;
 }
 
 -- the lines of a split
 split_text : (candidate : ℕ) (with_it without_it : Tree) →
-    lines_text (tree_lines (fork candidate with_it without_it)) ≡ line_text (split candidate) ++ (lines_text (tree_lines with_it) ++ lines_text (tree_lines without_it))
-split_text candidate with_it without_it = ap (λ text. line_text (split candidate) ++ text) (flat_map-append line_text (tree_lines with_it) (tree_lines without_it))
+    lines_text (tree_lines (fork candidate with_it without_it)) ≡ line_text (Split candidate) ++ (lines_text (tree_lines with_it) ++ lines_text (tree_lines without_it))
+split_text candidate with_it without_it = ap (λ text. line_text (Split candidate) ++ text) (flat_map-append line_text (tree_lines with_it) (tree_lines without_it))
 
 -- a split was begun
 BreaksOff-split : (network : NetworkOf) (node : Node) (name : List ℕ) (candidate : ℕ) (why : SearchFault) (before now : ShelfState) →
-    IsOpenAt network node candidate → Breaks name (line_text (split candidate)) why before now → BreaksOff network node name why before now
+    IsOpenAt network node candidate → Breaks name (line_text (Split candidate)) why before now → BreaksOff network node name why before now
 BreaksOff-split network node name candidate why before now is_open broken = record {
-  tree = fork candidate (tip cost) (tip cost);
+  tree = fork candidate (tip Cost) (tip Cost);
   allowed = (split_allowed network node candidate is_open, cost_allowed network (with_chosen node candidate), cost_allowed network (without_chosen node candidate));
-  broken = Breaks-longer name (line_text (split candidate)) (lines_text (tree_lines (tip cost) ++ tree_lines (tip cost))) why before now broken;
+  broken = Breaks-longer name (line_text (Split candidate)) (lines_text (tree_lines (tip Cost) ++ tree_lines (tip Cost))) why before now broken;
 }
 
 -- a line of a node was begun
-pub BreaksOff-line : (network : NetworkOf) (node : Node) (name : List ℕ) (best best_now : Best) (why : SearchFault) (before now : ShelfState) (found : Line) →
-    IsLineAt network node best best_now found → Breaks name (line_text (line_of found)) why before now → BreaksOff network node name why before now
-BreaksOff-line network node name best best_now why before now (line.Split candidate) here broken = BreaksOff-split network node name candidate why before now here.0 broken
-BreaksOff-line network node name best best_now why before now line.Cost here broken = record {
-  tree = tip cost;
+pub BreaksOff-line : (network : NetworkOf) (node : Node) (name : List ℕ) (best best_now : Best) (why : SearchFault) (before now : ShelfState) (found : LogLine) →
+    IsLineAt network node best best_now found → Breaks name (line_text found) why before now → BreaksOff network node name why before now
+BreaksOff-line network node name best best_now why before now (Split candidate) here broken = BreaksOff-split network node name candidate why before now here.0 broken
+BreaksOff-line network node name best best_now why before now (Leaf end) here broken = record {
+  tree = tip end;
   allowed = here.allowed;
-  broken = subst (λ text. Breaks name text why before now) (tip_text cost) broken;
-}
-BreaksOff-line network node name best best_now why before now (line.Pivot limit) here broken = record {
-  tree = tip (pivot limit);
-  allowed = here.allowed;
-  broken = subst (λ text. Breaks name text why before now) (tip_text (pivot limit)) broken;
+  broken = subst (λ text. Breaks name text why before now) (tip_text end) broken;
 }
 
 -- the first child was begun
 pub BreaksOff-first : (network : NetworkOf) (node : Node) (name : List ℕ) (candidate : ℕ) (why : SearchFault) (before middle now : ShelfState) →
-    IsOpenAt network node candidate → Adds name (line_text (split candidate)) before middle →
+    IsOpenAt network node candidate → Adds name (line_text (Split candidate)) before middle →
     BreaksOff network (with_chosen node candidate) name why middle now → BreaksOff network node name why before now
 BreaksOff-first network node name candidate why before middle now is_open added first = record {
-  tree = fork candidate first.tree (tip cost);
+  tree = fork candidate first.tree (tip Cost);
   allowed = (split_allowed network node candidate is_open, first.allowed, cost_allowed network (without_chosen node candidate));
-  broken = subst (λ text. Breaks name text why before now) (sym (split_text candidate first.tree (tip cost)))
-      (Breaks-after name (line_text (split candidate)) (lines_text (tree_lines first.tree) ++ lines_text (tree_lines (tip cost))) why before middle now added
-      (Breaks-longer name (lines_text (tree_lines first.tree)) (lines_text (tree_lines (tip cost))) why middle now first.broken));
+  broken = subst (λ text. Breaks name text why before now) (sym (split_text candidate first.tree (tip Cost)))
+      (Breaks-after name (line_text (Split candidate)) (lines_text (tree_lines first.tree) ++ lines_text (tree_lines (tip Cost))) why before middle now added
+      (Breaks-longer name (lines_text (tree_lines first.tree)) (lines_text (tree_lines (tip Cost))) why middle now first.broken));
 }
 
 -- the second child was begun
 pub BreaksOff-second : (network : NetworkOf) (node : Node) (name : List ℕ) (candidate : ℕ) (why : SearchFault) (best best_now : Best) (counts counts_now : Counts) (before middle later now : ShelfState) →
-    IsOpenAt network node candidate → Adds name (line_text (split candidate)) before middle →
+    IsOpenAt network node candidate → Adds name (line_text (Split candidate)) before middle →
     Explores network (with_chosen node candidate) name best best_now counts counts_now middle later →
     BreaksOff network (without_chosen node candidate) name why later now → BreaksOff network node name why before now
 BreaksOff-second network node name candidate why best best_now counts counts_now before middle later now is_open added first second = record {
   tree = fork candidate first.tree second.tree;
   allowed = (split_allowed network node candidate is_open, first.allowed, second.allowed);
   broken = subst (λ text. Breaks name text why before now) (sym (split_text candidate first.tree second.tree))
-      (Breaks-after name (line_text (split candidate)) (lines_text (tree_lines first.tree) ++ lines_text (tree_lines second.tree)) why before middle now added
+      (Breaks-after name (line_text (Split candidate)) (lines_text (tree_lines first.tree) ++ lines_text (tree_lines second.tree)) why before middle now added
       (Breaks-after name (lines_text (tree_lines first.tree)) (lines_text (tree_lines second.tree)) why middle later now first.added second.broken));
 }
 
+-- the kinds of the lines of a tree
+abbrev kinds : Tree → List LineKind
+kinds tree = map kind_of (tree_lines tree)
+
 -- both children were explored
 pub Explores-split : (network : NetworkOf) (node : Node) (name : List ℕ) (candidate : ℕ) (best middle_best best_now : Best) (counts counts_split counts_first counts_now : Counts) (before middle later now : ShelfState) →
-    IsOpenAt network node candidate → Adds name (line_text (split candidate)) before middle → counts_split ≡ counts_with counts (split candidate ∷ []) →
+    IsOpenAt network node candidate → Adds name (line_text (Split candidate)) before middle → counts_split ≡ counts_with counts (kind_of (Split candidate) ∷ []) →
     Explores network (with_chosen node candidate) name best middle_best counts_split counts_first middle later →
     Explores network (without_chosen node candidate) name middle_best best_now counts_first counts_now later now →
     Explores network node name best best_now counts counts_now before now
@@ -125,12 +121,13 @@ Explores-split network node name candidate best middle_best best_now counts coun
   tree = fork candidate first.tree second.tree;
   allowed = (split_allowed network node candidate is_open, first.allowed, second.allowed);
   added = subst (λ text. Adds name text before now) (sym (split_text candidate first.tree second.tree))
-      (Adds-then name (line_text (split candidate)) (lines_text (tree_lines first.tree) ++ lines_text (tree_lines second.tree)) before middle now added
+      (Adds-then name (line_text (Split candidate)) (lines_text (tree_lines first.tree) ++ lines_text (tree_lines second.tree)) before middle now added
       (Adds-then name (lines_text (tree_lines first.tree)) (lines_text (tree_lines second.tree)) middle later now first.added second.added));
   counted = second.counted
-      ∙ ap (λ c. counts_with c (tree_lines second.tree)) (first.counted ∙ ap (λ c. counts_with c (tree_lines first.tree)) counted)
-      ∙ counts_with-then (counts_with counts (split candidate ∷ [])) (tree_lines first.tree) (tree_lines second.tree)
-      ∙ counts_with-then counts (split candidate ∷ []) (tree_lines first.tree ++ tree_lines second.tree);
+      ∙ ap (λ c. counts_with c (kinds second.tree)) (first.counted ∙ ap (λ c. counts_with c (kinds first.tree)) counted)
+      ∙ counts_with-then (counts_with counts (kind_of (Split candidate) ∷ [])) (kinds first.tree) (kinds second.tree)
+      ∙ counts_with-then counts (kind_of (Split candidate) ∷ []) (kinds first.tree ++ kinds second.tree)
+      ∙ ap (λ more. counts_with counts (kind_of (Split candidate) ∷ more)) (sym (map-append kind_of (tree_lines first.tree) (tree_lines second.tree)));
   done = IsDone-split network node candidate (bound_at network (with_chosen node candidate) first.tree) (bound_at network (without_chosen node candidate) second.tree) best middle_best best_now is_open first.done second.done;
 }
 
@@ -180,25 +177,25 @@ node_back network node later candidate upper is_open same set_upper =
     (set_upper ∙ ap (λ (n : Node). slice_set n.upper candidate true) same ∙ set_back node.upper candidate true false is_open.in_upper)
 
 -- what a line that is a split says
-pub IsOpenAt-line : (network : NetworkOf) (node : Node) (best best_now : Best) (found : Line) (candidate : ℕ) → found ≡ line.Split candidate →
+pub IsOpenAt-line : (network : NetworkOf) (node : Node) (best best_now : Best) (found : LogLine) (candidate : ℕ) → found ≡ Split candidate →
     IsLineAt network node best best_now found → IsOpenAt network node candidate
-IsOpenAt-line network node best best_now found candidate is here = (subst (λ (l : Line). IsLineAt network node best best_now l) is here).0
+IsOpenAt-line network node best best_now found candidate is here = (subst (λ (l : LogLine). IsLineAt network node best best_now l) is here).0
 
-pub IsKept-line : (network : NetworkOf) (node : Node) (best best_now : Best) (found : Line) (candidate : ℕ) → found ≡ line.Split candidate →
+pub IsKept-line : (network : NetworkOf) (node : Node) (best best_now : Best) (found : LogLine) (candidate : ℕ) → found ≡ Split candidate →
     IsLineAt network node best best_now found → best_now ≡ best
-IsKept-line network node best best_now found candidate is here = (subst (λ (l : Line). IsLineAt network node best best_now l) is here).1
+IsKept-line network node best best_now found candidate is here = (subst (λ (l : LogLine). IsLineAt network node best best_now l) is here).1
 
-pub unrefuted-line : (network : NetworkOf) (node : Node) (best best_now : Best) (found : Line) (candidate : ℕ) → found ≡ line.Split candidate →
+pub unrefuted-line : (network : NetworkOf) (node : Node) (best best_now : Best) (found : LogLine) (candidate : ℕ) → found ≡ Split candidate →
     IsLineAt network node best best_now found → (k : ℕ) → IsRefutedBy network node k → ⊥
-unrefuted-line network node best best_now found candidate is here = (subst (λ (l : Line). IsLineAt network node best best_now l) is here).2
+unrefuted-line network node best best_now found candidate is here = (subst (λ (l : LogLine). IsLineAt network node best best_now l) is here).2
 
-pub Adds-line : (name : List ℕ) (found : Line) (candidate : ℕ) (before now : ShelfState) → found ≡ line.Split candidate →
-    Adds name (line_text (line_of found)) before now → Adds name (line_text (split candidate)) before now
-Adds-line name found candidate before now is added = subst (λ (l : Line). Adds name (line_text (line_of l)) before now) is added
+pub Adds-line : (name : List ℕ) (found : LogLine) (candidate : ℕ) (before now : ShelfState) → found ≡ Split candidate →
+    Adds name (line_text found) before now → Adds name (line_text (Split candidate)) before now
+Adds-line name found candidate before now is added = subst (λ (l : LogLine). Adds name (line_text l) before now) is added
 
-pub Counts-line : (counts counts_now : Counts) (found : Line) (candidate : ℕ) → found ≡ line.Split candidate →
-    counts_now ≡ counts_with counts (line_of found ∷ []) → counts_now ≡ counts_with counts (split candidate ∷ [])
-Counts-line counts counts_now found candidate is counted = subst (λ (l : Line). counts_now ≡ counts_with counts (line_of l ∷ [])) is counted
+pub Counts-line : (counts counts_now : Counts) (found : LogLine) (candidate : ℕ) → found ≡ Split candidate →
+    counts_now ≡ counts_with counts (kind_of found ∷ []) → counts_now ≡ counts_with counts (kind_of (Split candidate) ∷ [])
+Counts-line counts counts_now found candidate is counted = subst (λ (l : LogLine). counts_now ≡ counts_with counts (kind_of l ∷ [])) is counted
 
 -- what is known of the best plan stays known of an equal one
 pub IsKept-same : (network : NetworkOf) (before now : Best) → now ≡ before → IsKept network before → IsKept network now

@@ -3,6 +3,6 @@ pub mod NodeLemmas
 pub mod VerdictLemmas
 pub mod DoneLemmas
 pub mod HeightNetworks
-pub mod ToldLemmas
+pub mod InheritedLemmas
 pub mod ExploreLemmas
 pub mod SearchLemmas

@@ -1,4 +1,4 @@
-use Rattle.std.specs.Prelude.{◌≡◌, ℕ, ◌≤◌, List, ◌++◌, length, Some}
+use Rattle.std.specs.Prelude.{◌≡◌, ℕ, ◌≤◌, List, ◌++◌, map, length, Some}
 use Rattle.shelf_io.specs.Files.{with_piece}
 use Rattle.shelf_io.specs.States.{ShelfState}
 use Rattle.shelf_io.specs.Faults.{Rose, KeepsFaults, write_of}
@@ -8,11 +8,14 @@ use Rattle.geo_model.specs.declared.answer.Counts.{Counts}
 use Rattle.geo_model.specs.declared.plan.Node.{Node}
 use Rattle.bound_log.specs.Counted.{counts_with}
 use Rattle.bound_log.specs.LogText.{lines_text}
-use Rattle.bound_log.specs.LogTree.{IsOpenAt, IsRefutedBy, IsAllowed, IsAllowedLine, leaf_bound, bound_at}
-use Rattle.bound_log.specs.Tree.{LineOf, split, leaf, Leaf, cost, pivot, Tree, tree_lines}
+use Rattle.bound_log.specs.declared.log_leaf.LogLeaf.{LogLeaf}
+use Rattle.bound_log.specs.declared.log_line.LogLine.{LogLine}
+use Rattle.bound_log.specs.declared.log_line.LogLine.TheVariants.{Split, Leaf}
+use Rattle.bound_log.specs.Lines.{kind_of}
+use Rattle.bound_log.specs.LogTree.{IsOpenAt, IsRefutedBy, IsAllowed, leaf_bound, bound_at}
+use Rattle.bound_log.specs.Rules.{IsAllowedLine}
+use Rattle.bound_log.specs.Tree.{Tree, tree_lines}
 use Rattle.branch_bound.specs.declared.best.Best.{Best}
-use Rattle.branch_bound.specs.declared.line.Line.{Line}
-use Rattle.branch_bound.specs.declared.line.Line.TheVariants as line
 use Rattle.branch_bound.specs.declared.search_fault.SearchFault.{SearchFault}
 use Rattle.branch_bound.specs.declared.search_fault.SearchFault.TheVariants as fault
 use Rattle.branch_bound.specs.Found.{IsDone}
@@ -35,12 +38,6 @@ pub record Breaks (name text : List ℕ) (why : SearchFault) (before now : Shelf
   pub failed : why ≡ fault.WriteFault → Rose before.faults now.faults × (now.last_fault ≡ Some (write_of name))
   pub no_memory : why ≡ fault.NoMemory → KeepsFaults before now
 
--- the line of a log that a value of the code stands for
-abbrev pub line_of : Line → LineOf
-line_of (line.Split candidate) = split candidate
-line_of line.Cost = leaf cost
-line_of (line.Pivot limit) = leaf (pivot limit)
-
 -- a node of the network: its plans have an entry for each candidate, and the inner one lies in the upper one
 pub record IsNode (network : NetworkOf) (node : Node) : Type 0 where
   pub inside_long : length node.inside ≡ length network.candidates
@@ -48,17 +45,16 @@ pub record IsNode (network : NetworkOf) (node : Node) : Type 0 where
   pub within : IsWithin node.inside node.upper
 
 -- a leaf ends a node: it is allowed there, and the best plan is brought up to the plans of the node
-pub record IsLeafAt (network : NetworkOf) (node : Node) (end : Leaf) (before now : Best) : Type 0 where
-  pub allowed : IsAllowedLine network node (leaf end)
+pub record IsLeafAt (network : NetworkOf) (node : Node) (end : LogLeaf) (before now : Best) : Type 0 where
+  pub allowed : IsAllowedLine network node (Leaf end)
   pub done : IsDone network node (leaf_bound network node end) before now
 
 -- a line fits a node: a split on an open candidate where no limit refutes the node, which leaves the best plan as it was,
 -- or a leaf
-abbrev pub IsLineAt : NetworkOf → Node → Best → Best → Line → Type 0
-IsLineAt network node before now (line.Split candidate) =
+abbrev pub IsLineAt : NetworkOf → Node → Best → Best → LogLine → Type 0
+IsLineAt network node before now (Split candidate) =
     IsOpenAt network node candidate × (now ≡ before) × ((k : ℕ) → IsRefutedBy network node k → ⊥)
-IsLineAt network node before now line.Cost = IsLeafAt network node cost before now
-IsLineAt network node before now (line.Pivot limit) = IsLeafAt network node (pivot limit) before now
+IsLineAt network node before now (Leaf end) = IsLeafAt network node end before now
 
 -- the plans of a node were explored: the lines of a tree of it were added and counted, and the best plan is brought up
 -- to the plans of the node, with the tree's bound
@@ -66,7 +62,7 @@ pub record Explores (network : NetworkOf) (node : Node) (name : List ℕ) (best_
   pub tree : Tree
   pub allowed : IsAllowed network node tree
   pub added : Adds name (lines_text (tree_lines tree)) before now
-  pub counted : counts_now ≡ counts_with counts (tree_lines tree)
+  pub counted : counts_now ≡ counts_with counts (map kind_of (tree_lines tree))
   pub done : IsDone network node (bound_at network node tree) best_before best_now
 
 -- the lines of some tree of the node were begun, and then a fault came

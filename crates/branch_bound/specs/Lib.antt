@@ -1,5 +1,5 @@
 pub mod Searched
 pub mod Found
-pub mod Told
+pub mod Inherited
 pub mod Explored
 pub mod Logged

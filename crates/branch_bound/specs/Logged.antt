@@ -1,8 +1,8 @@
 use Rattle.std.specs.Prelude.{ℕ, List}
 use Rattle.geo_model.specs.Network.{NetworkOf}
 use Rattle.geo_model.specs.declared.answer.SearchDone.{SearchDone}
-use Rattle.bound_log.specs.LogText.{log_text}
 use Rattle.bound_log.specs.LogTree.{root_of, IsAllowed}
+use Rattle.bound_log.specs.Spells.{Spells}
 use Rattle.bound_log.specs.Tree.{Tree}
 use Rattle.branch_bound.specs.declared.search_fault.SearchFault.{SearchFault}
 use Rattle.shelf_io.specs.States.{ShelfState}
@@ -14,11 +14,15 @@ use Rattle.branch_bound.specs.Searched.{IsSearched}
 -- one whole log was added under the name, its lines are counted, and the answer is what the log says
 pub record Searches (network : NetworkOf) (name : List ℕ) (done : SearchDone) (before now : ShelfState) : Type 0 where
   pub tree : Tree
+  pub text : List ℕ
+  pub spells : Spells text tree
   pub searched : IsSearched network tree done
-  pub added : Adds name (log_text tree) before now
+  pub added : Adds name text before now
 
 -- the beginning of a log of the network was added under the name, and then a fault came
 pub record BreaksLog (network : NetworkOf) (name : List ℕ) (why : SearchFault) (before now : ShelfState) : Type 0 where
   pub tree : Tree
+  pub text : List ℕ
+  pub spells : Spells text tree
   pub allowed : IsAllowed network (root_of network) tree
-  pub broken : Breaks name (log_text tree) why before now
+  pub broken : Breaks name text why before now

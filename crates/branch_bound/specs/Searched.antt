@@ -5,7 +5,6 @@ use Rattle.geo_model.specs.Network.{NetworkOf}
 use Rattle.geo_model.specs.Verdicts.{IsCertifiedBy, IsUnsettledBy}
 use Rattle.geo_model.specs.declared.answer.Answer.{Answer}
 use Rattle.geo_model.specs.declared.answer.Answer.TheVariants as answer
-use Rattle.geo_model.specs.declared.answer.Counts.{Counts}
 use Rattle.geo_model.specs.declared.answer.SearchDone.{SearchDone}
 use Rattle.geo_model.specs.declared.verdict.Verdict.TheVariants.{Met, Open}
 use Rattle.pivot_chain.specs.Verdict.{verdict_of}
@@ -69,7 +68,3 @@ pub record IsSearched (network : NetworkOf) (tree : Tree) (done : SearchDone) : 
   pub allowed : IsAllowed network (root_of network) tree
   pub counted : done.counts ≡ counts_of (tree_lines tree)
   pub answered : IsAnswer network (bound_at network (root_of network) tree) done.answer
-
--- no line is counted
-abbrev pub no_counts : Counts
-no_counts = record { splits = 0; costs = 0; pivots = 0; cuts = 0; duals = 0 }

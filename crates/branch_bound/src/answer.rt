@@ -5,7 +5,7 @@ ghost use Rattle.branch_bound.specs.Found.{IsKept, IsAnswerOf};
 ghost use Rattle.branch_bound.specs.Searched.{IsUnsettled, IsFirstOpen};
 
 use crate::best::Best;
-use crate::limit_tests::{OpenLimit, open_limit};
+use crate::limit_verdicts::{OpenLimit, open_limit};
 use geo_model::{Answer, Network, Plan};
 use pivot_chain::ChainRoom;
 

@@ -5,7 +5,7 @@ ghost use Rattle.bound_log.specs.LogTree.{IsOpenAt};
 ghost use Rattle.branch_bound.specs.Explored.{IsNode};
 
 use crate::choice::{Choice, better, is_open};
-use crate::limit_tests::is_in_force;
+use crate::limit_verdicts::is_in_force;
 use crate::missing::{Missing, unit_load};
 use geo_model::{Candidate, Limit, Network, Node, Row, Verdict};
 use pivot_chain::{ChainRoom, verdict};
@@ -152,7 +152,7 @@ fn weightiest(network: &Network, node: &Node, limit: &Limit) -> Option<u32>
 /// limit shuts out, which ends the child that takes it; else the one that brings the largest share of
 /// a missing energy for its price; or else, where no energy is missing at a displacement by 1 in one
 /// unknown, the one whose rows weigh most. There is none where the node has one plan alone.
-/// `none_shut` says that no limit shuts one out, where that is known, and is told so.
+/// `none_shut` says that no limit shuts one out, where that is known, and is set where it is found so.
 pub fn branch_candidate(
     room: &mut ChainRoom,
     network: &Network,
@@ -167,12 +167,15 @@ pub fn branch_candidate(
     ensures none { IfNone result (node.now.inside ≡ node.now.upper) }
     ensures room { IsRoomOf network.now room.new }
 {
+    // The child that takes a candidate which its own limit shuts out ends at once.
     if !*none_shut {
         if let Some(candidate) = shut_candidate(room, network, node) {
             return Some(candidate);
         }
         *none_shut = true;
     }
+    // All limits at once, in place of the first that misses energy, take more nodes on generated
+    // networks; the first unmet limit alone takes more on levelling and on distances.
     if let Some(candidate) = supplier(network, node) {
         return Some(candidate);
     }

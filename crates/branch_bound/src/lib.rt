@@ -15,13 +15,13 @@ mod answer;
 mod best;
 mod branch;
 mod choice;
-mod limit_tests;
+mod inherited;
+mod limit_verdicts;
 mod line;
 mod missing;
-mod node_tests;
+mod node_judgements;
 mod run;
 mod search_fault;
-mod told;
 
 pub use geo_model::{Answer, SearchDone};
 pub use run::search;

@@ -1,45 +1,28 @@
 //! The lines that the search writes.
-ghost use Rattle.std.specs.Prelude.{◌≡◌, [], ◌∷◌, ◌++◌, Some, OnOk, OnErr, IfErr};
+ghost use Rattle.std.specs.Prelude.{◌≡◌, ℕ, ◌<◌, [], ◌∷◌, length, Some, OnOk, IfErr, IfSome, IfNone};
 ghost use Rattle.bound_log.specs.Counted.{counts_with};
-ghost use Rattle.bound_log.specs.LogLines.{log_line_of};
+ghost use Rattle.bound_log.specs.Lines.{kind_of};
 ghost use Rattle.bound_log.specs.LogText.{line_text};
-ghost use Rattle.branch_bound.specs.Explored.{Adds, Breaks, line_of};
+ghost use Rattle.bound_log.specs.declared.log_line.LogLine.TheVariants as log_line;
+ghost use Rattle.branch_bound.specs.Explored.{Adds, Breaks};
 
 use crate::search_fault::SearchFault;
-use bound_log::{LogLine, count_line, put_cost, put_pivot, put_split};
-use geo_base::NoMemory;
-use geo_model::Counts;
+use bound_log::{LogLine, count_line, put_line};
+use geo_model::{Counts, Network};
 use shelf_io::{Shelf, WriteAnswer};
 
-/// A line of a log: a split on a candidate, a leaf of the chosen candidates' price, or a leaf that
-/// a limit refutes.
-#[derive(Clone, Copy, Debug, PartialEq, Eq)]
-pub enum Line {
-    Split(u32),
-    Cost,
-    Pivot(u32),
-}
-
-/// Appends the bytes of a line. Refused, `out` is as before.
-fn spell(out: &mut Vec<u8>, line: Line) -> Result<(), NoMemory>
-    ensures put { OnOk result (out.new.items ≡ out.old.items ++ line_text (line_of line)) }
-    ensures refused { OnErr result (out.new.items ≡ out.old.items) }
+/// The candidate on which a line splits its node; a leaf splits none.
+pub fn split_candidate(network: &Network, line: LogLine) -> Option<u32>
+    requires { (candidate : ℕ) → line ≡ log_line.Split candidate → candidate < length network.now.candidates }
+    ensures some { IfSome result (λ candidate. line ≡ log_line.Split candidate) }
+    ensures none { IfNone result ((candidate : ℕ) → line ≡ log_line.Split candidate → ⊥) }
 {
     match line {
-        Line::Split(candidate) => put_split(out, candidate),
-        Line::Cost => put_cost(out),
-        Line::Pivot(limit) => put_pivot(out, limit),
-    }
-}
-
-/// The same line, as logs are counted.
-fn counted_line(line: Line) -> LogLine
-    ensures { log_line_of result ≡ line_of line }
-{
-    match line {
-        Line::Split(candidate) => LogLine::Split(candidate as u64),
-        Line::Cost => LogLine::Cost,
-        Line::Pivot(limit) => LogLine::Pivot(limit as u64),
+        LogLine::Split(candidate) => {
+            prove!(candidate < network.candidates().len() as u64);
+            Some(candidate as u32)
+        }
+        LogLine::Leaf(_) => None,
     }
 }
 
@@ -62,19 +45,18 @@ pub fn write_line<H: Shelf>(
     name: &str,
     buffer: &mut Vec<u8>,
     counts: &mut Counts,
-    line: Line,
+    line: LogLine,
 ) -> Result<(), SearchFault>
     requires { (H.state shelf.old).started ≡ Some name.now }
-    ensures added { OnOk result (Adds name.now (line_text (line_of line)) (H.state shelf.old) (H.state shelf.new)) }
-    ensures counted { OnOk result (counts.new ≡ counts_with counts.old (line_of line ∷ [])) }
-    ensures refused { IfErr result (λ why. Breaks name.now (line_text (line_of line)) why (H.state shelf.old)
-        (H.state shelf.new)) }
+    ensures added { OnOk result (Adds name.now (line_text line) (H.state shelf.old) (H.state shelf.new)) }
+    ensures counted { OnOk result (counts.new ≡ counts_with counts.old (kind_of line ∷ [])) }
+    ensures refused { IfErr result (λ why. Breaks name.now (line_text line) why (H.state shelf.old) (H.state shelf.new)) }
 {
     buffer.clear();
-    if spell(buffer, line).is_err() {
+    if put_line(buffer, line).is_err() {
         return Err(SearchFault::NoMemory);
     }
     write_piece(shelf, name, buffer.as_slice())?;
-    count_line(counts, counted_line(line));
+    count_line(counts, line.kind());
     Ok(())
 }

@@ -1,20 +1,20 @@
 //! The search over the tree of nodes.
 ghost use Rattle.std.specs.Prelude.{◌≡◌, Some, OnOk, IfErr, IfOk};
 ghost use Rattle.pivot_chain.specs.Room.{IsRoomOf};
+ghost use Rattle.bound_log.specs.Counted.{no_counts};
 ghost use Rattle.bound_log.specs.LogText.{head_text};
 ghost use Rattle.branch_bound.specs.declared.best.Best.TheVariants as found;
 ghost use Rattle.branch_bound.specs.Explored.{IsNode, Adds, Breaks, Explores, BreaksOff};
 ghost use Rattle.branch_bound.specs.Found.{IsKept, IsAnswerOf};
 ghost use Rattle.branch_bound.specs.Logged.{Searches, BreaksLog};
-ghost use Rattle.branch_bound.specs.Searched.{no_counts};
-ghost use Rattle.branch_bound.specs.Told.{IsTold};
+ghost use Rattle.branch_bound.specs.Inherited.{IsInherited};
 
 use crate::answer::answer_of;
 use crate::best::Best;
-use crate::line::{Line, write_line, write_piece};
-use crate::node_tests::line_at;
+use crate::inherited::Inherited;
+use crate::line::{split_candidate, write_line, write_piece};
+use crate::node_judgements::line_at;
 use crate::search_fault::SearchFault;
-use crate::told::Told;
 use bound_log::put_head;
 use geo_model::{Counts, Network, Node, SearchDone};
 use pivot_chain::ChainRoom;
@@ -24,21 +24,21 @@ use std::alloc::Global;
 /// What a search has found so far: the best plan and the lines counted, with room for the next line
 /// and for verdicts.
 #[derive(Drop)]
-struct Progress {
+struct Findings {
     best: Best,
     counts: Counts,
     buffer: Vec<u8>,
     room: ChainRoom,
 }
 
-impl Progress {
+impl Findings {
     /// Nothing has been found yet.
-    fn new(alloc: Global, room: ChainRoom) -> Progress
+    fn new(alloc: Global, room: ChainRoom) -> Findings
         ensures best { result.best ≡ found.NoPlan }
         ensures counts { result.counts ≡ no_counts }
         ensures room { result.room ≡ room }
     {
-        Progress {
+        Findings {
             best: Best::NoPlan,
             counts: Counts::none(),
             buffer: Vec::new(alloc),
@@ -53,7 +53,7 @@ impl Progress {
         ensures answer { IsAnswerOf network.now self.best result.answer }
         ensures counts { result.counts ≡ self.counts }
     {
-        let Progress {
+        let Findings {
             best,
             counts,
             mut room,
@@ -70,57 +70,60 @@ fn explore<H: Shelf>(
     network: &Network,
     shelf: &mut H,
     name: &str,
-    progress: &mut Progress,
+    findings: &mut Findings,
     node: &mut Node,
-    told: Told,
+    inherited: Inherited,
 ) -> Result<(), SearchFault>
     requires started { (H.state shelf.old).started ≡ Some name.now }
     requires node { IsNode network.now node.old }
-    requires told { IsTold network.now node.old told }
-    requires room { IsRoomOf network.now progress.old.room }
-    requires kept { IsKept network.now progress.old.best }
+    requires inherited { IsInherited network.now node.old inherited }
+    requires room { IsRoomOf network.now findings.old.room }
+    requires kept { IsKept network.now findings.old.best }
     ensures explored { OnOk result (Explores network.now node.old name.now
-        progress.old.best progress.new.best progress.old.counts progress.new.counts (H.state shelf.old)
+        findings.old.best findings.new.best findings.old.counts findings.new.counts (H.state shelf.old)
         (H.state shelf.new)) }
     ensures node { OnOk result (node.new ≡ node.old) }
-    ensures room { OnOk result (IsRoomOf network.now progress.new.room) }
+    ensures room { OnOk result (IsRoomOf network.now findings.new.room) }
     ensures refused { IfErr result (λ why. BreaksOff network.now node.old name.now why (H.state shelf.old)
         (H.state shelf.new)) }
 {
-    let mut told = told;
+    let mut inherited = inherited;
     let line = line_at(
         alloc,
-        &mut progress.room,
+        &mut findings.room,
         network,
         node,
-        &mut told,
-        &mut progress.best,
+        &mut inherited,
+        &mut findings.best,
     )?;
     write_line(
         shelf,
         name,
-        &mut progress.buffer,
-        &mut progress.counts,
+        &mut findings.buffer,
+        &mut findings.counts,
         line,
     )?;
-    let Line::Split(candidate) = line else {
+    let Some(candidate) = split_candidate(network, line) else {
         return Ok(());
     };
-    let with_it = Told {
+    // This child has the same upper plan. So of the limits only the candidate's own can refute it, and
+    // none shuts an open candidate out of it where none did.
+    let with_it = Inherited {
         chosen: Some(candidate),
-        none_shut: told.none_shut,
+        none_shut: inherited.none_shut,
         unmet: None,
     };
     node.inside.set(candidate, true);
-    explore(alloc, network, shelf, name, progress, node, with_it)?;
+    explore(alloc, network, shelf, name, findings, node, with_it)?;
     node.inside.set(candidate, false);
     node.upper.set(candidate, false);
-    let without_it = Told {
+    // This child has the same inner plan, which isn't met on the same limit.
+    let without_it = Inherited {
         chosen: None,
         none_shut: false,
-        unmet: told.unmet,
+        unmet: inherited.unmet,
     };
-    explore(alloc, network, shelf, name, progress, node, without_it)?;
+    explore(alloc, network, shelf, name, findings, node, without_it)?;
     node.upper.set(candidate, true);
     Ok(())
 }
@@ -163,13 +166,21 @@ pub fn search<H: Shelf>(
 {
     let mut node = Node::whole(alloc, network.candidates().len() as u32)?;
     let room = ChainRoom::new(alloc, network)?;
-    let mut progress = Progress::new(alloc, room);
-    begin_log(shelf, name, &mut progress.buffer)?;
-    let told = Told {
+    let mut findings = Findings::new(alloc, room);
+    begin_log(shelf, name, &mut findings.buffer)?;
+    let inherited = Inherited {
         chosen: None,
         none_shut: false,
         unmet: None,
     };
-    explore(alloc, network, shelf, name, &mut progress, &mut node, told)?;
-    Ok(progress.done(network))
+    explore(
+        alloc,
+        network,
+        shelf,
+        name,
+        &mut findings,
+        &mut node,
+        inherited,
+    )?;
+    Ok(findings.done(network))
 }

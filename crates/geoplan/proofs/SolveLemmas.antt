@@ -1,4 +1,4 @@
-use Rattle.std.proofs.Common.{◌≡◌, ◌⊎◌, inl, inr, ◌≤◌, ℕ, List, [], refl, ap, ◌∙◌, subst, Option, Some, Result, Ok, Err}
+use Rattle.std.proofs.Common.{◌≡◌, ◌⊎◌, inl, inr, ◌≤◌, ℕ, List, [], refl, sym, ap, ◌∙◌, subst, Option, Some, Result, Ok, Err}
 use Rattle.std.specs.Prelude.{IfOk, IfErr}
 use Rattle.shelf_io.specs.Files.{Files, with_bytes, with_piece}
 use Rattle.shelf_io.specs.Faults.{Rose, KeepsFaults, write_of}
@@ -7,7 +7,9 @@ use Rattle.geo_model.specs.declared.answer.SearchDone.{SearchDone}
 use Rattle.bound_log.proofs.AllowedLemmas.{cost_allowed}
 use Rattle.bound_log.specs.LogText.{log_text}
 use Rattle.bound_log.specs.LogTree.{root_of}
-use Rattle.bound_log.specs.Tree.{tip, cost}
+use Rattle.bound_log.specs.declared.log_leaf.LogLeaf.TheVariants.{Cost}
+use Rattle.bound_log.specs.Tree.{tip}
+use Rattle.bound_log.proofs.SpellLemmas.{spelled_text}
 use Rattle.branch_bound.specs.declared.search_fault.SearchFault.{SearchFault}
 use Rattle.branch_bound.specs.declared.search_fault.SearchFault.TheVariants as search
 use Rattle.shelf_io.specs.States.{ShelfState}
@@ -22,7 +24,8 @@ Solves-after : (tables : TablesOf) (log : List ℕ) (done : SearchDone) (before 
 Solves-after tables log done before middle now started quiet found = record {
   tree = found.tree;
   searched = found.searched;
-  written = found.added.written ∙ ap (λ held. with_piece held log (log_text found.tree)) started ∙ with_piece-with_bytes before.held log [] (log_text found.tree);
+  written = found.added.written ∙ ap (λ held. with_piece held log found.text) started ∙ with_piece-with_bytes before.held log [] found.text
+      ∙ ap (λ text. with_bytes before.held log text) (spelled_text found.text found.tree found.spells);
   quiet = record { same_count = found.added.quiet.same_count ∙ quiet.same_count; same_last = found.added.quiet.same_last ∙ quiet.same_last };
 }
 
@@ -34,7 +37,7 @@ FailsSolve-after tables log why before middle now started quiet found = record {
     piece = found.broken.piece;
     rest = found.broken.rest;
     allowed = found.allowed;
-    begins = found.broken.begins;
+    begins = sym (spelled_text found.text found.tree found.spells) ∙ found.broken.begins;
     written = found.broken.written ∙ ap (λ held. with_piece held log found.broken.piece) started ∙ with_piece-with_bytes before.held log [] found.broken.piece;
   });
   later = subst (λ n. n ≤ now.faults) quiet.same_count found.broken.later;
@@ -44,7 +47,7 @@ FailsSolve-after tables log why before middle now started quiet found = record {
 -- a log that could not be started stands as before, or empty
 started_or_not : (tables : TablesOf) (log : List ℕ) (before now : Option Files) → (now ≡ before) ⊎ (now ≡ with_bytes before log []) → (now ≡ before) ⊎ HoldsBeginning tables log before now
 started_or_not tables log before now (inl same) = inl same
-started_or_not tables log before now (inr empty) = inr (record { tree = tip cost; piece = []; rest = log_text (tip cost); allowed = cost_allowed tables.network (root_of tables.network); begins = refl; written = empty })
+started_or_not tables log before now (inr empty) = inr (record { tree = tip Cost; piece = []; rest = log_text (tip Cost); allowed = cost_allowed tables.network (root_of tables.network); begins = refl; written = empty })
 
 pub FailsSolve-start : (tables : TablesOf) (log : List ℕ) (why : SearchFault) (before now : ShelfState) → (now.held ≡ before.held) ⊎ (now.held ≡ with_bytes before.held log []) → before.faults ≤ now.faults → (why ≡ search.WriteFault → Rose before.faults now.faults × (now.last_fault ≡ Some (write_of log))) → FailsSolve tables log why before now
 FailsSolve-start tables log why before now held later failed = record {

@@ -14,6 +14,7 @@ use Rattle.bound_log.specs.declared.bound.Bound.TheVariants.{NoPlan, AtLeast}
 use Rattle.bound_log.specs.LogText.{log_text}
 use Rattle.bound_log.specs.LogTree.{root_of, HasBound, bound_at}
 use Rattle.bound_log.proofs.SoundLemmas.{HasBound-below}
+use Rattle.bound_log.proofs.SpellLemmas.{spelled_text, text_spelled}
 use Rattle.pivot_chain.proofs.Verdicts.{certified_meets}
 use Rattle.shelf_io.specs.States.{ShelfState}
 use Rattle.branch_bound.specs.Searched.{IsAnswer, IsCertified}
@@ -34,7 +35,7 @@ use Rattle.geoplan.specs.declared.status.Status.TheVariants as status
 leaves_log : (job : JobOf) (tables : TablesOf) (read : List ℕ) (done : SearchDone) (before middle now : ShelfState) → HasTables (planned_sources job) tables read before middle → (solved : Solves tables job.log done middle now) → LeavesLog job before now tables (bound_at tables.network (root_of tables.network) solved.tree)
 leaves_log job tables read done before middle now has solved =
     let shown : HasBound tables.network (log_text solved.tree) (bound_at tables.network (root_of tables.network) solved.tree) =
-    record { tree = solved.tree; log = record { spelled = refl; allowed = solved.searched.allowed }; least = refl } in
+    record { tree = solved.tree; log = record { spells = text_spelled (log_text solved.tree) solved.tree refl; allowed = solved.searched.allowed }; least = refl } in
     record {
       log = log_text solved.tree;
       input = has.input;
@@ -54,7 +55,7 @@ whole_began job before now tables bound leaves = inr (record {
   rest = [];
   input = leaves.input;
   allowed = leaves.shown.log.allowed;
-  begins = sym leaves.shown.log.spelled ∙ sym (append-nil leaves.log);
+  begins = sym (spelled_text leaves.log leaves.shown.tree leaves.shown.log.spells) ∙ sym (append-nil leaves.log);
   written = leaves.written;
 })
 

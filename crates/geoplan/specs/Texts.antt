@@ -17,8 +17,8 @@ use Rattle.geo_model.specs.declared.answer.Counts.{Counts}
 use Rattle.bound_log.specs.declared.bound.Bound.{Bound}
 use Rattle.bound_log.specs.declared.bound.Bound.TheVariants.{NoPlan, AtLeast}
 use Rattle.log_check.specs.declared.fault.LogFault.{LogFault}
-use Rattle.log_check.specs.declared.fault.LogKind.{LogKind}
-use Rattle.log_check.specs.declared.fault.LogKind.TheVariants as log_kind
+use Rattle.bound_log.specs.declared.log_kind.LogKind.{LogKind}
+use Rattle.bound_log.specs.declared.log_kind.LogKind.TheVariants as log_kind
 use Rattle.log_check.specs.declared.replaying.Replayed.{Replayed}
 use Rattle.geoplan.specs.Tables.{TablesOf}
 

@@ -7,7 +7,7 @@ use Rattle.branch_bound.specs.Found.{IsKept}
 use Rattle.branch_bound.proofs.ExploreLemmas.{BreaksOff-nothing, BreaksOff-line, BreaksOff-first, BreaksOff-second, Explores-leaf, Explores-split, IsNode-with, IsNode-without, IsNode-same, IsKept-same, IsOpenAt-line, IsKept-line, unrefuted-line, Adds-line, Counts-line, BreaksOff-same, Explores-same, child_with, child_without, node_back}
 use Rattle.bound_log.specs.OpenCount.{open_count}
 use Rattle.bound_log.proofs.OpenLemmas.{open_count-with, open_count-without}
-use Rattle.branch_bound.proofs.ToldLemmas.{IsTold-with, IsTold-without, IsTold-same}
+use Rattle.branch_bound.proofs.InheritedLemmas.{IsInherited-with, IsInherited-without, IsInherited-same}
 use Rattle.branch_bound.proofs.run.+explore.Goals as goal
 
 pub returns-in_err-line-clause-refused : goal.returns-in_err-line-clause-refused
@@ -23,17 +23,17 @@ pub returns-in_err-write_line-clause-refused : goal.returns-in_err-write_line-cl
 returns-in_err-write_line-clause-refused g t c =
     let p = err_from_is_err_and c.from_residual-in_err-write_line.result c.from_residual-in_err-write_line.ensures.1 in
     rw (p.1, p.2)
-    (BreaksOff-line c.args.network.now c.args.node.now c.args.name.now c.args.progress.now.best c.line_at.new.best c.in_err-write_line.field-0.0
+    (BreaksOff-line c.args.network.now c.args.node.now c.args.name.now c.args.findings.now.best c.line_at.new.best c.in_err-write_line.field-0.0
     (g.H.Shelf.state c.args.shelf.now)
     (g.H.Shelf.state c.write_line.new.shelf)
     c.in_ok-line.line c.in_ok-line.ensures.line c.in_err-write_line.ensures.refused)
 
 pub returns-in_default : goal.returns-in_default
 returns-in_default g t c = record {
-  explored = Explores-leaf c.args.network.now c.args.node.now c.args.name.now c.args.progress.now.best c.line_at.new.best c.args.progress.now.counts c.write_line.new.counts
+  explored = Explores-leaf c.args.network.now c.args.node.now c.args.name.now c.args.findings.now.best c.line_at.new.best c.args.findings.now.counts c.write_line.new.counts
       (g.H.Shelf.state c.args.shelf.now)
       (g.H.Shelf.state c.write_line.new.shelf)
-      c.in_ok-line.line c.in_ok-line.ensures.line c.in_default.not-Split c.in_ok-write_line.ensures.added c.in_ok-write_line.ensures.counted;
+      c.in_ok-line.line c.in_ok-line.ensures.line c.in_default.ensures.none c.in_ok-write_line.ensures.added c.in_ok-write_line.ensures.counted;
   node = refl;
   room = c.in_ok-line.ensures.room;
   refused = tt;
@@ -42,132 +42,136 @@ returns-in_default g t c = record {
 pub explore-requires : goal.explore-requires
 explore-requires g t c κs within =
     let node : IsNode c.args.network.now c.args.node.now = search rules in
-    let before : IsKept c.args.network.now c.args.progress.now.best = search rules in
-    let is_open : IsOpenAt c.args.network.now c.args.node.now c.in-Split.candidate =
-    IsOpenAt-line c.args.network.now c.args.node.now c.args.progress.now.best c.line_at.new.best c.in_ok-line.line c.in-Split.candidate c.in-Split.is c.in_ok-line.ensures.line in
+    let before : IsKept c.args.network.now c.args.findings.now.best = search rules in
+    let is_open : IsOpenAt c.args.network.now c.args.node.now c.in-Some.candidate =
+    IsOpenAt-line c.args.network.now c.args.node.now c.args.findings.now.best c.line_at.new.best c.in_ok-line.line c.in-Some.candidate c.in-Some.ensures.some c.in_ok-line.ensures.line in
     let same =
-    IsKept-line c.args.network.now c.args.node.now c.args.progress.now.best c.line_at.new.best c.in_ok-line.line c.in-Split.candidate c.in-Split.is c.in_ok-line.ensures.line in
-    let first : (record { inside = c.set.new.self; upper = c.args.node.now.upper }) ≡ with_chosen c.args.node.now c.in-Split.candidate =
-    child_with c.args.node.now c.in-Split.candidate c.set.new.self c.set.ensures in
+    IsKept-line c.args.network.now c.args.node.now c.args.findings.now.best c.line_at.new.best c.in_ok-line.line c.in-Some.candidate c.in-Some.ensures.some c.in_ok-line.ensures.line in
+    let first : (record { inside = c.set.new.self; upper = c.args.node.now.upper }) ≡ with_chosen c.args.node.now c.in-Some.candidate =
+    child_with c.args.node.now c.in-Some.candidate c.set.new.self c.set.ensures in
     let kept : IsKept c.args.network.now c.line_at.new.best =
-    IsKept-same c.args.network.now c.args.progress.now.best c.line_at.new.best same before in
+    IsKept-same c.args.network.now c.args.findings.now.best c.line_at.new.best same before in
     let falls : open_count c.set.new.self c.args.node.now.upper < open_count c.args.node.now.inside c.args.node.now.upper =
-    rw c.set.ensures (open_count-with c.args.node.now.inside c.args.node.now.upper c.in-Split.candidate is_open.in_upper is_open.not_inside) in
+    rw c.set.ensures (open_count-with c.args.node.now.inside c.args.node.now.upper c.in-Some.candidate is_open.in_upper is_open.not_inside) in
     let child : IsNode c.args.network.now (record { inside = c.set.new.self; upper = c.args.node.now.upper }) =
-    IsNode-same c.args.network.now (with_chosen c.args.node.now c.in-Split.candidate) (record { inside = c.set.new.self; upper = c.args.node.now.upper }) first (IsNode-with c.args.network.now c.args.node.now c.in-Split.candidate node is_open) in
-    let told = IsTold-same c.args.network.now (with_chosen c.args.node.now c.in-Split.candidate) (record { inside = c.set.new.self; upper = c.args.node.now.upper }) (record { chosen = Some c.in-Split.candidate; none_shut = c.line_at.new.told.none_shut; unmet = None }) first
-    (IsTold-with c.args.network.now c.args.node.now c.in-Split.candidate c.line_at.new.told.none_shut
-    (unrefuted-line c.args.network.now c.args.node.now c.args.progress.now.best c.line_at.new.best c.in_ok-line.line c.in-Split.candidate c.in-Split.is c.in_ok-line.ensures.line)) in
-    (search rules, (within, (c.in_ok-write_line.ensures.added.started, (child, (told, (c.in_ok-line.ensures.room, kept))))))
+    IsNode-same c.args.network.now (with_chosen c.args.node.now c.in-Some.candidate) (record { inside = c.set.new.self; upper = c.args.node.now.upper }) first (IsNode-with c.args.network.now c.args.node.now c.in-Some.candidate node is_open) in
+    let inherited = IsInherited-same c.args.network.now (with_chosen c.args.node.now c.in-Some.candidate) (record { inside = c.set.new.self; upper = c.args.node.now.upper }) (record { chosen = Some c.in-Some.candidate; none_shut = c.line_at.new.inherited.none_shut; unmet = None }) first
+    (IsInherited-with c.args.network.now c.args.node.now c.in-Some.candidate c.line_at.new.inherited.none_shut
+    (unrefuted-line c.args.network.now c.args.node.now c.args.findings.now.best c.line_at.new.best c.in_ok-line.line c.in-Some.candidate c.in-Some.ensures.some c.in_ok-line.ensures.line)) in
+    (search rules, (within, (c.in_ok-write_line.ensures.added.started, (child, (inherited, (c.in_ok-line.ensures.room, kept))))))
 
 pub explore-requires-2 : goal.explore-requires-2
 explore-requires-2 g t c κs within =
     let node : IsNode c.args.network.now c.args.node.now = search rules in
-    let is_open : IsOpenAt c.args.network.now c.args.node.now c.in-Split.candidate =
-    IsOpenAt-line c.args.network.now c.args.node.now c.args.progress.now.best c.line_at.new.best c.in_ok-line.line c.in-Split.candidate c.in-Split.is c.in_ok-line.ensures.line in
-    let first : (record { inside = c.set.new.self; upper = c.args.node.now.upper }) ≡ with_chosen c.args.node.now c.in-Split.candidate =
-    child_with c.args.node.now c.in-Split.candidate c.set.new.self c.set.ensures in
-    let second : (record { inside = c.set-2.new.self; upper = c.set-3.new.self }) ≡ without_chosen c.args.node.now c.in-Split.candidate =
-    child_without c.args.network.now c.args.node.now c.explore.new.node c.in-Split.candidate c.set-2.new.self c.set-3.new.self is_open (c.in_ok-explore.ensures.node ∙ first) c.set-2.ensures c.set-3.ensures in
+    let is_open : IsOpenAt c.args.network.now c.args.node.now c.in-Some.candidate =
+    IsOpenAt-line c.args.network.now c.args.node.now c.args.findings.now.best c.line_at.new.best c.in_ok-line.line c.in-Some.candidate c.in-Some.ensures.some c.in_ok-line.ensures.line in
+    let first : (record { inside = c.set.new.self; upper = c.args.node.now.upper }) ≡ with_chosen c.args.node.now c.in-Some.candidate =
+    child_with c.args.node.now c.in-Some.candidate c.set.new.self c.set.ensures in
+    let second : (record { inside = c.set-2.new.self; upper = c.set-3.new.self }) ≡ without_chosen c.args.node.now c.in-Some.candidate =
+    child_without c.args.network.now c.args.node.now c.explore.new.node c.in-Some.candidate c.set-2.new.self c.set-3.new.self is_open (c.in_ok-explore.ensures.node ∙ first) c.set-2.ensures c.set-3.ensures in
     let falls : open_count c.set-2.new.self c.set-3.new.self < open_count c.args.node.now.inside c.args.node.now.upper =
     subst (λ (n : Node). open_count n.inside n.upper < open_count c.args.node.now.inside c.args.node.now.upper) (sym second)
-    (open_count-without c.args.node.now.inside c.args.node.now.upper c.in-Split.candidate is_open.in_upper is_open.not_inside) in
+    (open_count-without c.args.node.now.inside c.args.node.now.upper c.in-Some.candidate is_open.in_upper is_open.not_inside) in
     let child : IsNode c.args.network.now (record { inside = c.set-2.new.self; upper = c.set-3.new.self }) =
-    IsNode-same c.args.network.now (without_chosen c.args.node.now c.in-Split.candidate) (record { inside = c.set-2.new.self; upper = c.set-3.new.self }) second (IsNode-without c.args.network.now c.args.node.now c.in-Split.candidate node is_open) in
-    let told = IsTold-same c.args.network.now (without_chosen c.args.node.now c.in-Split.candidate) (record { inside = c.set-2.new.self; upper = c.set-3.new.self }) (record { chosen = None; none_shut = false; unmet = c.line_at.new.told.unmet }) second
-    (IsTold-without c.args.network.now c.args.node.now c.in-Split.candidate c.line_at.new.told.unmet c.line_at.ensures.told) in
-    (search rules, (within, (c.in_ok-explore.ensures.explored.added.started, (child, (told, (c.in_ok-explore.ensures.room, c.in_ok-explore.ensures.explored.done.kept))))))
+    IsNode-same c.args.network.now (without_chosen c.args.node.now c.in-Some.candidate) (record { inside = c.set-2.new.self; upper = c.set-3.new.self }) second (IsNode-without c.args.network.now c.args.node.now c.in-Some.candidate node is_open) in
+    let inherited = IsInherited-same c.args.network.now (without_chosen c.args.node.now c.in-Some.candidate) (record { inside = c.set-2.new.self; upper = c.set-3.new.self }) (record { chosen = None; none_shut = false; unmet = c.line_at.new.inherited.unmet }) second
+    (IsInherited-without c.args.network.now c.args.node.now c.in-Some.candidate c.line_at.new.inherited.unmet c.line_at.ensures.inherited) in
+    (search rules, (within, (c.in_ok-explore.ensures.explored.added.started, (child, (inherited, (c.in_ok-explore.ensures.room, c.in_ok-explore.ensures.explored.done.kept))))))
 
 pub returns-in_err-explore-clause-refused : goal.returns-in_err-explore-clause-refused
 returns-in_err-explore-clause-refused g t c =
-    let is_open : IsOpenAt c.args.network.now c.args.node.now c.in-Split.candidate =
-    IsOpenAt-line c.args.network.now c.args.node.now c.args.progress.now.best c.line_at.new.best c.in_ok-line.line c.in-Split.candidate c.in-Split.is c.in_ok-line.ensures.line in
+    let is_open : IsOpenAt c.args.network.now c.args.node.now c.in-Some.candidate =
+    IsOpenAt-line c.args.network.now c.args.node.now c.args.findings.now.best c.line_at.new.best c.in_ok-line.line c.in-Some.candidate c.in-Some.ensures.some c.in_ok-line.ensures.line in
     let added =
-    Adds-line c.args.name.now c.in_ok-line.line c.in-Split.candidate (g.H.Shelf.state c.args.shelf.now) (g.H.Shelf.state c.write_line.new.shelf) c.in-Split.is c.in_ok-write_line.ensures.added in
-    let first : (record { inside = c.set.new.self; upper = c.args.node.now.upper }) ≡ with_chosen c.args.node.now c.in-Split.candidate =
-    child_with c.args.node.now c.in-Split.candidate c.set.new.self c.set.ensures in
+    Adds-line c.args.name.now c.in_ok-line.line c.in-Some.candidate (g.H.Shelf.state c.args.shelf.now) (g.H.Shelf.state c.write_line.new.shelf) c.in-Some.ensures.some c.in_ok-write_line.ensures.added in
+    let first : (record { inside = c.set.new.self; upper = c.args.node.now.upper }) ≡ with_chosen c.args.node.now c.in-Some.candidate =
+    child_with c.args.node.now c.in-Some.candidate c.set.new.self c.set.ensures in
     let p = err_from_is_err_and c.from_residual-in_err-explore.result c.from_residual-in_err-explore.ensures.1 in
     rw (p.1, p.2)
-    (BreaksOff-first c.args.network.now c.args.node.now c.args.name.now c.in-Split.candidate c.in_err-explore.field-0.0
+    (BreaksOff-first c.args.network.now c.args.node.now c.args.name.now c.in-Some.candidate c.in_err-explore.field-0.0
     (g.H.Shelf.state c.args.shelf.now)
     (g.H.Shelf.state c.write_line.new.shelf)
     (g.H.Shelf.state c.explore.new.shelf)
     is_open added
-    (BreaksOff-same c.args.network.now (with_chosen c.args.node.now c.in-Split.candidate) (record { inside = c.set.new.self; upper = c.args.node.now.upper }) c.args.name.now c.in_err-explore.field-0.0
+    (BreaksOff-same c.args.network.now (with_chosen c.args.node.now c.in-Some.candidate) (record { inside = c.set.new.self; upper = c.args.node.now.upper }) c.args.name.now c.in_err-explore.field-0.0
     (g.H.Shelf.state c.write_line.new.shelf)
     (g.H.Shelf.state c.explore.new.shelf)
     first c.in_err-explore.ensures.refused))
 
 pub returns-in_err-explore-2-clause-refused : goal.returns-in_err-explore-2-clause-refused
 returns-in_err-explore-2-clause-refused g t c =
-    let is_open : IsOpenAt c.args.network.now c.args.node.now c.in-Split.candidate =
-    IsOpenAt-line c.args.network.now c.args.node.now c.args.progress.now.best c.line_at.new.best c.in_ok-line.line c.in-Split.candidate c.in-Split.is c.in_ok-line.ensures.line in
+    let is_open : IsOpenAt c.args.network.now c.args.node.now c.in-Some.candidate =
+    IsOpenAt-line c.args.network.now c.args.node.now c.args.findings.now.best c.line_at.new.best c.in_ok-line.line c.in-Some.candidate c.in-Some.ensures.some c.in_ok-line.ensures.line in
     let added =
-    Adds-line c.args.name.now c.in_ok-line.line c.in-Split.candidate (g.H.Shelf.state c.args.shelf.now) (g.H.Shelf.state c.write_line.new.shelf) c.in-Split.is c.in_ok-write_line.ensures.added in
+    Adds-line c.args.name.now c.in_ok-line.line c.in-Some.candidate (g.H.Shelf.state c.args.shelf.now) (g.H.Shelf.state c.write_line.new.shelf) c.in-Some.ensures.some c.in_ok-write_line.ensures.added in
     let same =
-    IsKept-line c.args.network.now c.args.node.now c.args.progress.now.best c.line_at.new.best c.in_ok-line.line c.in-Split.candidate c.in-Split.is c.in_ok-line.ensures.line in
-    let first : (record { inside = c.set.new.self; upper = c.args.node.now.upper }) ≡ with_chosen c.args.node.now c.in-Split.candidate =
-    child_with c.args.node.now c.in-Split.candidate c.set.new.self c.set.ensures in
-    let second : (record { inside = c.set-2.new.self; upper = c.set-3.new.self }) ≡ without_chosen c.args.node.now c.in-Split.candidate =
-    child_without c.args.network.now c.args.node.now c.explore.new.node c.in-Split.candidate c.set-2.new.self c.set-3.new.self is_open (c.in_ok-explore.ensures.node ∙ first) c.set-2.ensures c.set-3.ensures in
+    IsKept-line c.args.network.now c.args.node.now c.args.findings.now.best c.line_at.new.best c.in_ok-line.line c.in-Some.candidate c.in-Some.ensures.some c.in_ok-line.ensures.line in
+    let first : (record { inside = c.set.new.self; upper = c.args.node.now.upper }) ≡ with_chosen c.args.node.now c.in-Some.candidate =
+    child_with c.args.node.now c.in-Some.candidate c.set.new.self c.set.ensures in
+    let second : (record { inside = c.set-2.new.self; upper = c.set-3.new.self }) ≡ without_chosen c.args.node.now c.in-Some.candidate =
+    child_without c.args.network.now c.args.node.now c.explore.new.node c.in-Some.candidate c.set-2.new.self c.set-3.new.self is_open (c.in_ok-explore.ensures.node ∙ first) c.set-2.ensures c.set-3.ensures in
     let p = err_from_is_err_and c.from_residual-in_err-explore-2.result c.from_residual-in_err-explore-2.ensures.1 in
     rw (p.1, p.2)
-    (BreaksOff-second c.args.network.now c.args.node.now c.args.name.now c.in-Split.candidate c.in_err-explore-2.field-0.0
-    c.args.progress.now.best c.explore.new.progress.best c.write_line.new.counts c.explore.new.progress.counts
+    (BreaksOff-second c.args.network.now c.args.node.now c.args.name.now c.in-Some.candidate c.in_err-explore-2.field-0.0
+    c.args.findings.now.best c.explore.new.findings.best c.write_line.new.counts c.explore.new.findings.counts
     (g.H.Shelf.state c.args.shelf.now)
     (g.H.Shelf.state c.write_line.new.shelf)
     (g.H.Shelf.state c.explore.new.shelf)
     (g.H.Shelf.state c.explore-2.new.shelf)
     is_open added
-    (Explores-same c.args.network.now (with_chosen c.args.node.now c.in-Split.candidate) (record { inside = c.set.new.self; upper = c.args.node.now.upper }) c.args.name.now
-    c.line_at.new.best c.args.progress.now.best c.explore.new.progress.best c.write_line.new.counts c.explore.new.progress.counts
+    (Explores-same c.args.network.now (with_chosen c.args.node.now c.in-Some.candidate) (record { inside = c.set.new.self; upper = c.args.node.now.upper }) c.args.name.now
+    c.line_at.new.best c.args.findings.now.best c.explore.new.findings.best c.write_line.new.counts c.explore.new.findings.counts
     (g.H.Shelf.state c.write_line.new.shelf)
     (g.H.Shelf.state c.explore.new.shelf)
     first same c.in_ok-explore.ensures.explored)
-    (BreaksOff-same c.args.network.now (without_chosen c.args.node.now c.in-Split.candidate) (record { inside = c.set-2.new.self; upper = c.set-3.new.self }) c.args.name.now c.in_err-explore-2.field-0.0
+    (BreaksOff-same c.args.network.now (without_chosen c.args.node.now c.in-Some.candidate) (record { inside = c.set-2.new.self; upper = c.set-3.new.self }) c.args.name.now c.in_err-explore-2.field-0.0
     (g.H.Shelf.state c.explore.new.shelf)
     (g.H.Shelf.state c.explore-2.new.shelf)
     second c.in_err-explore-2.ensures.refused))
 
 pub returns-clause-explored : goal.returns-clause-explored
 returns-clause-explored g t c =
-    let is_open : IsOpenAt c.args.network.now c.args.node.now c.in-Split.candidate =
-    IsOpenAt-line c.args.network.now c.args.node.now c.args.progress.now.best c.line_at.new.best c.in_ok-line.line c.in-Split.candidate c.in-Split.is c.in_ok-line.ensures.line in
+    let is_open : IsOpenAt c.args.network.now c.args.node.now c.in-Some.candidate =
+    IsOpenAt-line c.args.network.now c.args.node.now c.args.findings.now.best c.line_at.new.best c.in_ok-line.line c.in-Some.candidate c.in-Some.ensures.some c.in_ok-line.ensures.line in
     let added =
-    Adds-line c.args.name.now c.in_ok-line.line c.in-Split.candidate (g.H.Shelf.state c.args.shelf.now) (g.H.Shelf.state c.write_line.new.shelf) c.in-Split.is c.in_ok-write_line.ensures.added in
+    Adds-line c.args.name.now c.in_ok-line.line c.in-Some.candidate (g.H.Shelf.state c.args.shelf.now) (g.H.Shelf.state c.write_line.new.shelf) c.in-Some.ensures.some c.in_ok-write_line.ensures.added in
     let same =
-    IsKept-line c.args.network.now c.args.node.now c.args.progress.now.best c.line_at.new.best c.in_ok-line.line c.in-Split.candidate c.in-Split.is c.in_ok-line.ensures.line in
-    let first : (record { inside = c.set.new.self; upper = c.args.node.now.upper }) ≡ with_chosen c.args.node.now c.in-Split.candidate =
-    child_with c.args.node.now c.in-Split.candidate c.set.new.self c.set.ensures in
-    let second : (record { inside = c.set-2.new.self; upper = c.set-3.new.self }) ≡ without_chosen c.args.node.now c.in-Split.candidate =
-    child_without c.args.network.now c.args.node.now c.explore.new.node c.in-Split.candidate c.set-2.new.self c.set-3.new.self is_open (c.in_ok-explore.ensures.node ∙ first) c.set-2.ensures c.set-3.ensures in
+    IsKept-line c.args.network.now c.args.node.now c.args.findings.now.best c.line_at.new.best c.in_ok-line.line c.in-Some.candidate c.in-Some.ensures.some c.in_ok-line.ensures.line in
+    let first : (record { inside = c.set.new.self; upper = c.args.node.now.upper }) ≡ with_chosen c.args.node.now c.in-Some.candidate =
+    child_with c.args.node.now c.in-Some.candidate c.set.new.self c.set.ensures in
+    let second : (record { inside = c.set-2.new.self; upper = c.set-3.new.self }) ≡ without_chosen c.args.node.now c.in-Some.candidate =
+    child_without c.args.network.now c.args.node.now c.explore.new.node c.in-Some.candidate c.set-2.new.self c.set-3.new.self is_open (c.in_ok-explore.ensures.node ∙ first) c.set-2.ensures c.set-3.ensures in
     let counted =
-    Counts-line c.args.progress.now.counts c.write_line.new.counts c.in_ok-line.line c.in-Split.candidate c.in-Split.is c.in_ok-write_line.ensures.counted in
-    Explores-split c.args.network.now c.args.node.now c.args.name.now c.in-Split.candidate
-    c.args.progress.now.best c.explore.new.progress.best c.explore-2.new.progress.best
-    c.args.progress.now.counts c.write_line.new.counts c.explore.new.progress.counts c.explore-2.new.progress.counts
+    Counts-line c.args.findings.now.counts c.write_line.new.counts c.in_ok-line.line c.in-Some.candidate c.in-Some.ensures.some c.in_ok-write_line.ensures.counted in
+    Explores-split c.args.network.now c.args.node.now c.args.name.now c.in-Some.candidate
+    c.args.findings.now.best c.explore.new.findings.best c.explore-2.new.findings.best
+    c.args.findings.now.counts c.write_line.new.counts c.explore.new.findings.counts c.explore-2.new.findings.counts
     (g.H.Shelf.state c.args.shelf.now)
     (g.H.Shelf.state c.write_line.new.shelf)
     (g.H.Shelf.state c.explore.new.shelf)
     (g.H.Shelf.state c.explore-2.new.shelf)
     is_open added counted
-    (Explores-same c.args.network.now (with_chosen c.args.node.now c.in-Split.candidate) (record { inside = c.set.new.self; upper = c.args.node.now.upper }) c.args.name.now
-    c.line_at.new.best c.args.progress.now.best c.explore.new.progress.best c.write_line.new.counts c.explore.new.progress.counts
+    (Explores-same c.args.network.now (with_chosen c.args.node.now c.in-Some.candidate) (record { inside = c.set.new.self; upper = c.args.node.now.upper }) c.args.name.now
+    c.line_at.new.best c.args.findings.now.best c.explore.new.findings.best c.write_line.new.counts c.explore.new.findings.counts
     (g.H.Shelf.state c.write_line.new.shelf)
     (g.H.Shelf.state c.explore.new.shelf)
     first same c.in_ok-explore.ensures.explored)
-    (Explores-same c.args.network.now (without_chosen c.args.node.now c.in-Split.candidate) (record { inside = c.set-2.new.self; upper = c.set-3.new.self }) c.args.name.now
-    c.explore.new.progress.best c.explore.new.progress.best c.explore-2.new.progress.best c.explore.new.progress.counts c.explore-2.new.progress.counts
+    (Explores-same c.args.network.now (without_chosen c.args.node.now c.in-Some.candidate) (record { inside = c.set-2.new.self; upper = c.set-3.new.self }) c.args.name.now
+    c.explore.new.findings.best c.explore.new.findings.best c.explore-2.new.findings.best c.explore.new.findings.counts c.explore-2.new.findings.counts
     (g.H.Shelf.state c.explore.new.shelf)
     (g.H.Shelf.state c.explore-2.new.shelf)
     second refl c.in_ok-explore-2.ensures.explored)
 
 pub returns-clause-node : goal.returns-clause-node
 returns-clause-node g t c =
-    let is_open : IsOpenAt c.args.network.now c.args.node.now c.in-Split.candidate =
-    IsOpenAt-line c.args.network.now c.args.node.now c.args.progress.now.best c.line_at.new.best c.in_ok-line.line c.in-Split.candidate c.in-Split.is c.in_ok-line.ensures.line in
-    let first : (record { inside = c.set.new.self; upper = c.args.node.now.upper }) ≡ with_chosen c.args.node.now c.in-Split.candidate =
-    child_with c.args.node.now c.in-Split.candidate c.set.new.self c.set.ensures in
-    let second : (record { inside = c.set-2.new.self; upper = c.set-3.new.self }) ≡ without_chosen c.args.node.now c.in-Split.candidate =
-    child_without c.args.network.now c.args.node.now c.explore.new.node c.in-Split.candidate c.set-2.new.self c.set-3.new.self is_open (c.in_ok-explore.ensures.node ∙ first) c.set-2.ensures c.set-3.ensures in
-    node_back c.args.network.now c.args.node.now c.explore-2.new.node c.in-Split.candidate c.set-4.new.self is_open (c.in_ok-explore-2.ensures.node ∙ second) c.set-4.ensures
+    let is_open : IsOpenAt c.args.network.now c.args.node.now c.in-Some.candidate =
+    IsOpenAt-line c.args.network.now c.args.node.now c.args.findings.now.best c.line_at.new.best c.in_ok-line.line c.in-Some.candidate c.in-Some.ensures.some c.in_ok-line.ensures.line in
+    let first : (record { inside = c.set.new.self; upper = c.args.node.now.upper }) ≡ with_chosen c.args.node.now c.in-Some.candidate =
+    child_with c.args.node.now c.in-Some.candidate c.set.new.self c.set.ensures in
+    let second : (record { inside = c.set-2.new.self; upper = c.set-3.new.self }) ≡ without_chosen c.args.node.now c.in-Some.candidate =
+    child_without c.args.network.now c.args.node.now c.explore.new.node c.in-Some.candidate c.set-2.new.self c.set-3.new.self is_open (c.in_ok-explore.ensures.node ∙ first) c.set-2.ensures c.set-3.ensures in
+    node_back c.args.network.now c.args.node.now c.explore-2.new.node c.in-Some.candidate c.set-4.new.self is_open (c.in_ok-explore-2.ensures.node ∙ second) c.set-4.ensures
+
+pub split_candidate-requires : goal.split_candidate-requires
+split_candidate-requires g t c = λ candidate is.
+    (IsOpenAt-line c.args.network.now c.args.node.now c.args.findings.now.best c.line_at.new.best c.in_ok-line.line candidate is c.in_ok-line.ensures.line).in_range

@@ -4,7 +4,7 @@ use Rattle.geo_model.specs.Nodes.{all_plans}
 use Rattle.bound_log.specs.LogTree.{root_of}
 use Rattle.branch_bound.proofs.ExploreLemmas.{IsNode-root, IsNode-same}
 use Rattle.branch_bound.proofs.SearchLemmas.{BreaksLog-nothing, BreaksLog-head, BreaksLog-tree, Searches-done}
-use Rattle.branch_bound.proofs.ToldLemmas.{IsTold-nothing}
+use Rattle.branch_bound.proofs.InheritedLemmas.{IsInherited-nothing}
 use Rattle.branch_bound.proofs.run.search.Goals as goal
 
 pub returns-in_err-node-clause-refused : goal.returns-in_err-node-clause-refused
@@ -44,16 +44,16 @@ returns-in_err-explore-clause-refused g c =
 pub returns-clause-searched : goal.returns-clause-searched
 returns-clause-searched g c =
     let root : c.in_ok-node.node ≡ root_of c.args.network.now = c.in_ok-node.ensures ∙ ap (λ cs. all_plans (length cs)) c.candidates.ensures.value in
-    Searches-done c.args.network.now c.in_ok-node.node c.args.name.now c.new-progress.result.best c.explore.new.progress.best c.new-progress.result.counts c.explore.new.progress.counts c.done.result
+    Searches-done c.args.network.now c.in_ok-node.node c.args.name.now c.new-findings.result.best c.explore.new.findings.best c.new-findings.result.counts c.explore.new.findings.counts c.done.result
     (g.H.Shelf.state c.args.shelf.now)
     (g.H.Shelf.state c.begin_log.new.shelf)
     (g.H.Shelf.state c.explore.new.shelf)
-    root c.new-progress.ensures.best c.new-progress.ensures.counts c.in_ok-begin_log.ensures.added c.in_ok-explore.ensures.explored c.done.ensures.answer c.done.ensures.counts
+    root c.new-findings.ensures.best c.new-findings.ensures.counts c.in_ok-begin_log.ensures.added c.in_ok-explore.ensures.explored c.done.ensures.answer c.done.ensures.counts
 
 pub explore-requires-clause-node : goal.explore-requires-clause-node
 explore-requires-clause-node g c =
     let root : c.in_ok-node.node ≡ root_of c.args.network.now = c.in_ok-node.ensures ∙ ap (λ cs. all_plans (length cs)) c.candidates.ensures.value in
     IsNode-same c.args.network.now (root_of c.args.network.now) c.in_ok-node.node root (IsNode-root c.args.network.now)
 
-pub explore-requires-clause-told : goal.explore-requires-clause-told
-explore-requires-clause-told g c = IsTold-nothing c.args.network.now c.in_ok-node.node
+pub explore-requires-clause-inherited : goal.explore-requires-clause-inherited
+explore-requires-clause-inherited g c = IsInherited-nothing c.args.network.now c.in_ok-node.node

@@ -1,7 +1,7 @@
 use Rattle.std.proofs.Common.{rules, ◌≡◌, ◌↔◌, IsTrue}
 use Rattle.geo_model.specs.declared.verdict.Verdict.TheVariants.{Refuted}
 use Rattle.branch_bound.proofs.VerdictLemmas.{refuted_when}
-use Rattle.branch_bound.proofs.limit_tests.refutes.Goals as goal
+use Rattle.branch_bound.proofs.limit_verdicts.refutes.Goals as goal
 
 pub returns-clause-refuted : goal.returns-clause-refuted
 returns-clause-refuted c =

@@ -2,7 +2,7 @@ use Rattle.std.proofs.Common.{rules, FitsSigned}
 use mir.Syntax.{w128}
 use Rattle.std.proofs.lemmas.Int.{to_z-of_z}
 use Rattle.branch_bound.proofs.VerdictLemmas.{open_by}
-use Rattle.branch_bound.proofs.limit_tests.open_limit.Goals as goal
+use Rattle.branch_bound.proofs.limit_verdicts.open_limit.Goals as goal
 
 pub returns-in-Open-clause-found : goal.returns-in-Open-clause-found
 returns-in-Open-clause-found c =

@@ -1,7 +1,7 @@
 use Rattle.std.proofs.Common.{ℕ, ◌<◌}
 use Rattle.pivot_chain.specs.Room.{IsRoomOf}
 use Rattle.branch_bound.specs.Searched.{IsMetAt}
-use Rattle.branch_bound.proofs.node_tests.unmet_limit.Given as goal
+use Rattle.branch_bound.proofs.node_judgements.unmet_limit.Given as goal
 
 abbrev pub invariant-loop-limit : goal.invariant-loop-limit
 invariant-loop-limit l = record {

@@ -1,7 +1,7 @@
 use Rattle.std.proofs.Common.{ℕ, ◌<◌}
 use Rattle.pivot_chain.specs.Room.{IsRoomOf}
 use Rattle.bound_log.specs.LogTree.{IsRefutedBy}
-use Rattle.branch_bound.proofs.node_tests.refuting_limit.Given as goal
+use Rattle.branch_bound.proofs.node_judgements.refuting_limit.Given as goal
 
 abbrev pub invariant-loop-limit : goal.invariant-loop-limit
 invariant-loop-limit l = record {

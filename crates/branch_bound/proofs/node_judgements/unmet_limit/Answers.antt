@@ -1,6 +1,6 @@
 use Rattle.std.proofs.Common.{◌<◌, length, ap, arith}
 use Rattle.branch_bound.proofs.VerdictLemmas.{certified_by}
-use Rattle.branch_bound.proofs.node_tests.unmet_limit.Goals as goal
+use Rattle.branch_bound.proofs.node_judgements.unmet_limit.Goals as goal
 
 pub returns-clause-none : goal.returns-clause-none
 returns-clause-none c =

@@ -6,10 +6,10 @@ use Rattle.geo_model.specs.Limit.{LimitOf, IsInForce}
 use Rattle.geo_model.specs.Network.{NetworkOf}
 use Rattle.geo_model.specs.declared.plan.Node.{Node}
 use Rattle.bound_log.specs.LogTree.{IsRefutedBy, with_chosen, without_chosen}
-use Rattle.branch_bound.specs.Told.{IsUnmetAt, IsTold}
-use Rattle.branch_bound.specs.declared.told.Told.{Told}
+use Rattle.branch_bound.specs.Inherited.{IsUnmetAt, IsInherited}
+use Rattle.branch_bound.specs.declared.inherited.Inherited.{Inherited}
 
--- What a node tells its children holds there.
+-- What a node inherits from its parent holds there.
 
 -- what a plan with one more candidate chooses, it chose before, or it is that candidate
 chosen_before : (plan : List Bool) (candidate i : ℕ) → slice_get (slice_set plan candidate true) i ≡ Some true →
@@ -35,14 +35,14 @@ in_force_before limit plan candidate in_force = by_owner limit.owner in_force
       | inr before ↦ inl (λ other e. let alike : o ≡ other = cc in subst (λ (n : ℕ). slice_get plan n ≡ Some true) alike before)
     ]
 
--- a node that was told nothing
-pub IsTold-nothing : (network : NetworkOf) (node : Node) → IsTold network node (record { chosen = None; none_shut = false; unmet = None })
-IsTold-nothing network node = record { chosen = λ candidate e. absurd (cc); unmet = λ limit e. absurd (cc) }
+-- a node that inherits nothing
+pub IsInherited-nothing : (network : NetworkOf) (node : Node) → IsInherited network node (record { chosen = None; none_shut = false; unmet = None })
+IsInherited-nothing network node = record { chosen = λ candidate e. absurd (cc); unmet = λ limit e. absurd (cc) }
 
 -- the child that chooses a candidate: no limit refutes the parent
-pub IsTold-with : (network : NetworkOf) (node : Node) (candidate : ℕ) (none_shut : Bool) → ((k : ℕ) → IsRefutedBy network node k → ⊥) →
-    IsTold network (with_chosen node candidate) (record { chosen = Some candidate; none_shut = none_shut; unmet = None })
-IsTold-with network node candidate none_shut unrefuted = record {
+pub IsInherited-with : (network : NetworkOf) (node : Node) (candidate : ℕ) (none_shut : Bool) → ((k : ℕ) → IsRefutedBy network node k → ⊥) →
+    IsInherited network (with_chosen node candidate) (record { chosen = Some candidate; none_shut = none_shut; unmet = None })
+IsInherited-with network node candidate none_shut unrefuted = record {
   chosen = λ chosen e k refuted limit named.
       let same : candidate ≡ chosen = cc in
       let alike : limit ≡ refuted.limit = cc in
@@ -54,20 +54,20 @@ IsTold-with network node candidate none_shut unrefuted = record {
 }
 
 -- the child that leaves a candidate out has the parent's inner plan
-pub IsTold-without : (network : NetworkOf) (node : Node) (candidate : ℕ) (unmet : Option ℕ) →
+pub IsInherited-without : (network : NetworkOf) (node : Node) (candidate : ℕ) (unmet : Option ℕ) →
     ForSome unmet (λ limit. IsUnmetAt network node.inside limit) →
-    IsTold network (without_chosen node candidate) (record { chosen = None; none_shut = false; unmet = unmet })
-IsTold-without network node candidate unmet holds = record { chosen = λ chosen e. absurd (cc); unmet = holds }
+    IsInherited network (without_chosen node candidate) (record { chosen = None; none_shut = false; unmet = unmet })
+IsInherited-without network node candidate unmet holds = record { chosen = λ chosen e. absurd (cc); unmet = holds }
 
-pub IsTold-same : (network : NetworkOf) (node same_node : Node) (told : Told) → same_node ≡ node → IsTold network node told →
-    IsTold network same_node told
-IsTold-same network node same_node told same is = subst (λ n. IsTold network n told) (sym same) is
+pub IsInherited-same : (network : NetworkOf) (node same_node : Node) (inherited : Inherited) → same_node ≡ node → IsInherited network node inherited →
+    IsInherited network same_node inherited
+IsInherited-same network node same_node inherited same is = subst (λ n. IsInherited network n inherited) (sym same) is
 
--- a limit that isn't the told candidate's own doesn't refute the node
-pub refutes_not : (network : NetworkOf) (node : Node) (told : Told) (number candidate : ℕ) (owned : Bool) → IsTold network node told →
-    told.chosen ≡ Some candidate → ((l : LimitOf) → slice_get network.limits number ≡ Some l → IsTrue owned ↔ (l.owner ≡ Some candidate)) →
+-- a limit that isn't the inherited candidate's own doesn't refute the node
+pub refutes_not : (network : NetworkOf) (node : Node) (inherited : Inherited) (number candidate : ℕ) (owned : Bool) → IsInherited network node inherited →
+    inherited.chosen ≡ Some candidate → ((l : LimitOf) → slice_get network.limits number ≡ Some l → IsTrue owned ↔ (l.owner ≡ Some candidate)) →
     owned ≡ false → IsTrue false ↔ IsRefutedBy network node number
-refutes_not network node told number candidate owned is chosen tests not = (
+refutes_not network node inherited number candidate owned is chosen tests not = (
   λ yes. absurd (false≢true yes),
   λ refuted. absurd (false≢true (sym not ∙ (tests refuted.limit refuted.named).1 (is.chosen candidate chosen number refuted refuted.limit refuted.named))),
 )

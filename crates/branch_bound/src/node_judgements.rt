@@ -7,35 +7,35 @@ ghost use Rattle.bound_log.specs.LogTree.{IsRefutedBy};
 ghost use Rattle.branch_bound.specs.Explored.{IsNode, IsLineAt};
 ghost use Rattle.branch_bound.specs.Found.{IsKept, IsCovered, IsBelow, best_bound};
 ghost use Rattle.branch_bound.specs.Searched.{IsCertified};
-ghost use Rattle.branch_bound.specs.Told.{IsTold, IsUnmetAt};
+ghost use Rattle.branch_bound.specs.Inherited.{IsInherited, IsUnmetAt};
 ghost use Rattle.std.specs.Option.{ForSome};
 
 use crate::best::Best;
 use crate::branch::branch_candidate;
-use crate::limit_tests::{is_met, is_owned_by, refutes};
-use crate::line::Line;
-use crate::told::Told;
+use crate::inherited::Inherited;
+use crate::limit_verdicts::{is_met, is_owned_by, refutes};
+use bound_log::{LogLeaf, LogLine};
 use geo_base::NoMemory;
 use geo_model::{Network, Node, Plan, cost};
 use pivot_chain::ChainRoom;
 use std::alloc::Global;
 
-/// Whether a limit refutes a node, where a candidate may be told that owns each limit that does.
+/// Whether a limit refutes a node, where the node may inherit the candidate that owns each limit that does.
 fn refutes_now(
     room: &mut ChainRoom,
     network: &Network,
     node: &Node,
-    told: &Told,
+    inherited: &Inherited,
     limit: u32,
 ) -> bool
     requires room { IsRoomOf network.now room.old }
     requires node { IsNode network.now node.now }
-    requires told { IsTold network.now node.now told.now }
+    requires inherited { IsInherited network.now node.now inherited.now }
     requires limit { limit < length network.now.limits }
     ensures refuted { IsTrue result ↔ IsRefutedBy network.now node.now limit }
     ensures room { IsRoomOf network.now room.new }
 {
-    if let Some(candidate) = told.chosen {
+    if let Some(candidate) = inherited.chosen {
         if !is_owned_by(network, limit, candidate) {
             return false;
         }
@@ -44,17 +44,22 @@ fn refutes_now(
 }
 
 /// The number of the first limit that refutes a node.
-fn refuting_limit(room: &mut ChainRoom, network: &Network, node: &Node, told: &Told) -> Option<u32>
+fn refuting_limit(
+    room: &mut ChainRoom,
+    network: &Network,
+    node: &Node,
+    inherited: &Inherited,
+) -> Option<u32>
     requires room { IsRoomOf network.now room.old }
     requires node { IsNode network.now node.now }
-    requires told { IsTold network.now node.now told.now }
+    requires inherited { IsInherited network.now node.now inherited.now }
     ensures found { IfSome result (λ limit. IsRefutedBy network.now node.now limit) }
     ensures none { IfNone result ((k : ℕ) → IsRefutedBy network.now node.now k → ⊥) }
     ensures bounds { IsNetwork network.now }
     ensures room { IsRoomOf network.now room.new }
 {
     for limit in 0..network.limits().len() as u32 {
-        if refutes_now(room, network, node, told, limit) {
+        if refutes_now(room, network, node, inherited, limit) {
             return Some(limit);
         }
     }
@@ -118,39 +123,49 @@ fn is_cheaper(network: &Network, plan: &Plan, best: &Best) -> bool
 
 /// The line of a node: a leaf, or a split on an open candidate. At a leaf the inner plan becomes the
 /// best one, where it is certified and not cut off, or where it is the node's only plan, unsettled,
-/// and cheaper than the best one. `told` is what the node was told, and what it found besides.
+/// and cheaper than the best one. `inherited` is what the node inherits, and takes what it finds besides.
 pub fn line_at(
     alloc: Global,
     room: &mut ChainRoom,
     network: &Network,
     node: &Node,
-    told: &mut Told,
+    inherited: &mut Inherited,
     best: &mut Best,
-) -> Result<Line, NoMemory>
+) -> Result<LogLine, NoMemory>
     requires room { IsRoomOf network.now room.old }
     requires node { IsNode network.now node.now }
-    requires told { IsTold network.now node.now told.old }
+    requires inherited { IsInherited network.now node.now inherited.old }
     requires kept { IsKept network.now best.old }
     ensures line { IfOk result (λ line. IsLineAt network.now node.now best.old best.new line) }
-    ensures told { ForSome told.new.unmet (λ limit. IsUnmetAt network.now node.now.inside limit) }
+    ensures inherited { ForSome inherited.new.unmet (λ limit. IsUnmetAt network.now node.now.inside limit) }
     ensures room { IsRoomOf network.now room.new }
 {
+    // The price is asked first, since it needs no verdict. The log is no longer for it: both answers
+    // are leaves. At equal price a node is cut off only where the best plan is certified.
     if is_cut_off(network, &node.inside, best) {
-        return Ok(Line::Cost);
+        return Ok(LogLine::Leaf(LogLeaf::Cost));
     }
-    if let Some(limit) = refuting_limit(room, network, node, told) {
-        return Ok(Line::Pivot(limit));
+    if let Some(limit) = refuting_limit(room, network, node, inherited) {
+        return Ok(LogLine::Leaf(LogLeaf::Pivot(limit as u64)));
     }
-    let Some(limit) = unmet_limit(room, network, &node.inside, told.unmet) else {
+    let Some(limit) = unmet_limit(room, network, &node.inside, inherited.unmet) else {
         *best = Best::Certified(node.inside.copy(alloc)?);
-        return Ok(Line::Cost);
+        return Ok(LogLine::Leaf(LogLeaf::Cost));
     };
-    told.unmet = Some(limit);
-    if let Some(candidate) = branch_candidate(room, network, node, &mut told.none_shut, limit) {
-        return Ok(Line::Split(candidate));
+    inherited.unmet = Some(limit);
+    if let Some(candidate) = branch_candidate(
+        room,
+        network,
+        node,
+        &mut inherited.none_shut,
+        limit,
+    ) {
+        return Ok(LogLine::Split(candidate as u64));
     }
+    // An unsettled plan is offered only where it is its node's only one. At equal price the first one
+    // stays, and a certified plan takes its place.
     if is_cheaper(network, &node.inside, best) {
         *best = Best::Unsettled(node.inside.copy(alloc)?);
     }
-    Ok(Line::Cost)
+    Ok(LogLine::Leaf(LogLeaf::Cost))
 }

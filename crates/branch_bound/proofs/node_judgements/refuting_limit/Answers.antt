@@ -1,6 +1,6 @@
 use Rattle.std.proofs.Common.{◌<◌, length, ap, arith}
 use Rattle.std.proofs.lemmas.Option.{slice_get_within}
-use Rattle.branch_bound.proofs.node_tests.refuting_limit.Goals as goal
+use Rattle.branch_bound.proofs.node_judgements.refuting_limit.Goals as goal
 
 pub returns-clause-none : goal.returns-clause-none
 returns-clause-none c = λ k refuted.

@@ -5,9 +5,9 @@ use Rattle.geo_model.specs.Network.{NetworkOf}
 use Rattle.geo_model.specs.declared.plan.Node.{Node}
 use Rattle.bound_log.specs.LogTree.{IsRefutedBy}
 use Rattle.branch_bound.specs.Searched.{IsMetAt}
-use Rattle.branch_bound.specs.declared.told.Told.{Told}
+use Rattle.branch_bound.specs.declared.inherited.Inherited.{Inherited}
 
--- What a node tells its children. This project's own.
+-- What a node inherits from its parent. This project's own.
 
 -- the limit of a number is the candidate's own
 abbrev pub IsOwnedBy : NetworkOf → ℕ → ℕ → Type 0
@@ -18,7 +18,7 @@ pub record IsUnmetAt (network : NetworkOf) (plan : List Bool) (number : ℕ) : T
   pub inside : number < length network.limits
   pub unmet : IsMetAt network plan number → ⊥
 
--- what a node was told holds there
-pub record IsTold (network : NetworkOf) (node : Node) (told : Told) : Type 0 where
-  pub chosen : ForSome told.chosen (λ candidate. (k : ℕ) → IsRefutedBy network node k → IsOwnedBy network k candidate)
-  pub unmet : ForSome told.unmet (λ limit. IsUnmetAt network node.inside limit)
+-- what a node inherits holds there
+pub record IsInherited (network : NetworkOf) (node : Node) (inherited : Inherited) : Type 0 where
+  pub chosen : ForSome inherited.chosen (λ candidate. (k : ℕ) → IsRefutedBy network node k → IsOwnedBy network k candidate)
+  pub unmet : ForSome inherited.unmet (λ limit. IsUnmetAt network node.inside limit)

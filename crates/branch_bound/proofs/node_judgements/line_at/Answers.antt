@@ -3,7 +3,7 @@ use Rattle.bound_log.specs.LogTree.{leaf_bound}
 use Rattle.bound_log.proofs.AllowedLemmas.{cost_allowed, pivot_allowed}
 use Rattle.branch_bound.proofs.VerdictLemmas.{unsettled_by}
 use Rattle.branch_bound.proofs.DoneLemmas.{IsDone-cut_off, IsDone-refuted, IsDone-certified, IsDone-unsettled, IsDone-undercut}
-use Rattle.branch_bound.proofs.node_tests.line_at.Goals as goal
+use Rattle.branch_bound.proofs.node_judgements.line_at.Goals as goal
 
 pub returns-then-is_cut_off-clause-line : goal.returns-then-is_cut_off-clause-line
 unfolding leaf_bound
