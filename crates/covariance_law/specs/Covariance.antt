@@ -42,14 +42,15 @@ EnergiesBoundCovariances =
 
 -- ---- two directions
 
--- l is at least both eigenvalues of the symmetric 2 by 2 matrix with the diagonal a and c and half of b beside it: it is at
--- least a and c, and there the characteristic polynomial (l - a) (l - c) - (b / 2) ^ 2 isn't negative
+-- l is at least both eigenvalues of the symmetric 2 by 2 matrix with the diagonal a and c and half of b beside it: it
+-- is at least a and c, and there the characteristic polynomial (l - a) (l - c) - (b / 2) ^ 2 isn't negative
 pub record IsAboveEigenvalues (a b c l : ℤ) : Type 0 where
   pub first : a ≤ℤ l
   pub last : c ≤ℤ l
   pub polynomial : (b *ℤ b) ≤ℤ (pos 4 *ℤ ((l -ℤ a) *ℤ (l -ℤ c)))
 
--- along no vector (u, v) the form is above l times the square of its length exactly where l is at least both eigenvalues
+-- along no vector (u, v) the form is above l times the square of its length exactly where l is at least both
+-- eigenvalues
 abbrev pub EigenvaluesBoundForms : Type 0
 EigenvaluesBoundForms =
     (a b c l : ℤ) →

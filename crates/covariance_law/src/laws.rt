@@ -10,8 +10,8 @@ pub fn energies_bound_covariances()
     ensures { EnergiesBoundCovariances }
 {}
 
-/// The greatest value of a form of two variables along a vector of length 1 is the greatest eigenvalue
-/// of its matrix: a number bounds the one exactly where it bounds the other.
+/// The greatest value of a form of two variables along a vector of length 1 is the greatest
+/// eigenvalue of its matrix: a number bounds the one exactly where it bounds the other.
 pub fn eigenvalues_bound_forms()
     ensures { EigenvaluesBoundForms }
 {}
