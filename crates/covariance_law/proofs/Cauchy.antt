@@ -3,7 +3,7 @@
 use Rattle.std.proofs.Common.{◌≡◌, [], ◌∷◌, refl, ◌∙◌, ap, subst, arith, ℤ, pos, ◌+ℤ◌, ◌-ℤ◌, ◌*ℤ◌, neg_ℤ, ◌≤ℤ◌}
 use Rattle.std.proofs.lemmas.Int.{ints, by_lt_z}
 use Rattle.whole_algebra.proofs.Ring.{mul_zero}
-use Rattle.whole_algebra.proofs.Order.{mul_nonneg, square_nonneg, nonneg_of_mul}
+use Rattle.whole_algebra.proofs.Order.{mul_pos, mul_nonneg, square_nonneg, nonneg_of_mul}
 use Rattle.whole_algebra.proofs.Normal.{ring, x0, x1, x2, lit, opposite_of, ◌⊕◌, ◌⊖◌, ◌⊗◌}
 
 abbrev pub binary : ℤ → ℤ → ℤ → ℤ → ℤ → ℤ
@@ -41,3 +41,15 @@ cauchy a b c h =
     let gone = square_gone b a first (subst (λ z. pos 0 ≤ℤ z) e at_zero) in
     let side : a *ℤ c ≡ pos 0 = ap (λ z. a *ℤ z) zero_c ∙ mul_zero a in
     omega (arith, ints))
+
+-- a number whose square isn't above 0 is 0
+pub zero-of-square : (a : ℤ) → (a *ℤ a) ≤ℤ pos 0 → a ≡ pos 0
+zero-of-square a h =
+    by_lt_z (pos 0) a
+    (λ positive. let p = mul_pos a a positive positive in absurd (omega (arith, ints)))
+    (λ most. by_lt_z a (pos 0)
+    (λ negative.
+    let p = mul_pos (neg_ℤ a) (neg_ℤ a) (omega (arith, ints)) (omega (arith, ints)) in
+    let e : neg_ℤ a *ℤ neg_ℤ a ≡ a *ℤ a = ring (opposite_of x0 ⊗ opposite_of x0) (x0 ⊗ x0) (a ∷ []) refl in
+    absurd (omega (arith, ints)))
+    (λ least. omega (arith, ints)))

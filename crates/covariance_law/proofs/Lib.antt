@@ -2,3 +2,4 @@ pub mod Sums
 pub mod Products
 pub mod Cauchy
 pub mod Law
+pub mod Eigenvalues

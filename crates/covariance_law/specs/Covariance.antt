@@ -1,6 +1,6 @@
 -- Loads and covariances. A normal matrix m of n unknowns is given, and p linear forms of them, the rows of h. With unit
 -- variance 1 the covariance matrix of the unknowns is the inverse of m, and that of the forms follows from it.
-use Rattle.std.specs.Prelude.{◌≡◌, ◌↔◌, ◌==◌, if◌then◌else◌, ℕ, ◌<◌, ℤ, pos, ◌*ℤ◌, ◌≤ℤ◌, ◌<ℤ◌}
+use Rattle.std.specs.Prelude.{◌≡◌, ◌↔◌, ◌==◌, if◌then◌else◌, ℕ, ◌<◌, ℤ, pos, ◌+ℤ◌, ◌-ℤ◌, ◌*ℤ◌, ◌≤ℤ◌, ◌<ℤ◌}
 use Rattle.covariance_law.specs.Vectors.{Vector, Matrix, sum_below, inner, applied, form}
 
 -- a matrix of n rows is symmetric, and its form is nowhere negative
@@ -39,3 +39,20 @@ EnergiesBoundCovariances =
     (n p : ℕ) (m c h : Matrix) (d alpha beta : ℤ) →
     IsNormalMatrix n m → IsInverse n m c d → pos 0 <ℤ alpha → pos 0 <ℤ beta →
     EnergyBearsLoad n p m h alpha beta ↔ VarianceIsWithin n p c h d alpha beta
+
+-- ---- two directions
+
+-- l is at least both eigenvalues of the symmetric 2 by 2 matrix with the diagonal a and c and half of b beside it: it
+-- is at least a and c, and there the characteristic polynomial (l - a) (l - c) - (b / 2) ^ 2 isn't negative
+pub record IsAboveEigenvalues (a b c l : ℤ) : Type 0 where
+  pub first : a ≤ℤ l
+  pub last : c ≤ℤ l
+  pub polynomial : (b *ℤ b) ≤ℤ (pos 4 *ℤ ((l -ℤ a) *ℤ (l -ℤ c)))
+
+-- along no vector (u, v) the form is above l times the square of its length exactly where l is at least both
+-- eigenvalues
+abbrev pub EigenvaluesBoundForms : Type 0
+EigenvaluesBoundForms =
+    (a b c l : ℤ) →
+    ((u v : ℤ) → (a *ℤ (u *ℤ u) +ℤ b *ℤ (u *ℤ v) +ℤ c *ℤ (v *ℤ v)) ≤ℤ (l *ℤ (u *ℤ u +ℤ v *ℤ v)))
+    ↔ IsAboveEigenvalues a b c l

@@ -1,13 +1,8 @@
-//! The law between loads and covariances: a load stays below a multiple of the energy at every
-//! displacement exactly where the covariance matrix of its forms stays below a bound. Nothing runs.
-//!
-//! Proved: for a normal matrix that has an inverse, alpha times the energy is at least beta times the
-//! sum of squares of some linear forms at every displacement exactly where no combination of the
-//! forms has a variance above alpha / beta.
-//!
-//! Said by: `energies_bound_covariances`.
+//! The laws between loads and covariances: a load stays below a multiple of the energy at every
+//! displacement exactly where the covariance matrix of its forms stays below a bound. All here is
+//! proved of the definitions in `specs/`, which upper crates cite; nothing runs.
 #![tactic(auto)]
 
 mod laws;
 
-pub use laws::energies_bound_covariances;
+pub use laws::{eigenvalues_bound_forms, energies_bound_covariances};

@@ -1,12 +1,14 @@
 -- Variances of one form and of the two coordinates of a point, over numbers in place of vectors.
-use Rattle.std.proofs.Common.{◌≡◌, ◌↔◌, ◌==◌, ℕ, zero, suc, ◌<◌, [], ◌∷◌, if◌then◌else◌, refl, ◌∙◌, ap, arith, ℤ, pos, ◌+ℤ◌, ◌-ℤ◌, ◌*ℤ◌, ◌≤ℤ◌}
+use Rattle.std.proofs.Common.{◌≡◌, ◌↔◌, ◌==◌, ◌*◌, ℕ, zero, suc, ◌<◌, [], ◌∷◌, if◌then◌else◌, refl, sym, ◌∙◌, ap, subst, arith, ℤ, pos, ◌+ℤ◌, ◌-ℤ◌, ◌*ℤ◌, ◌≤ℤ◌}
 use Rattle.std.proofs.lemmas.Int.{ints}
 use Rattle.whole_algebra.proofs.Order.{mul_le_mul, square_nonneg}
 use Rattle.whole_algebra.proofs.Normal.{ring, x0, x1, x2, x3, x4, x5, lit, ◌⊕◌, ◌⊖◌, ◌⊗◌}
 use Rattle.covariance_law.specs.Vectors.{Vector, Matrix, inner, applied, form}
-use Rattle.covariance_law.specs.Covariance.{propagated, VarianceIsWithin}
+use Rattle.covariance_law.specs.Covariance.{propagated, IsAboveEigenvalues, VarianceIsWithin}
 use Rattle.covariance_law.proofs.Sums.{inner_comm, inner-unit}
-use Rattle.covariance_words.specs.Precision.{standard_ellipse}
+use Rattle.covariance_law.proofs.Eigenvalues.{eigenvalues_and_forms}
+use Rattle.covariance_words.specs.Precision.{square_tenths, standard_ellipse}
+use Rattle.covariance_words.specs.Meaning.{AxesAreEigenvalues}
 
 pub le_moved : (a b c d : ℤ) → a ≡ b → c ≡ d → a ≤ℤ c → b ≤ℤ d
 le_moved a b c d e f h = omega (arith, ints)
@@ -91,6 +93,32 @@ within-axes n c d alpha beta x y lt lu = (down, up)
       where
         back : (a b c d : ℤ) → a ≡ b → c ≡ d → b ≤ℤ d → a ≤ℤ c
         back a b c d e f h = omega (arith, ints)
+
+-- the bound in every direction is one on the eigenvalues
+pub axes-eigenvalues : AxesAreEigenvalues
+axes-eigenvalues c d x y s = (
+  λ h. law.0 (λ u v. subst (λ t. t ≤ℤ (l *ℤ (u *ℤ u +ℤ v *ℤ v))) (spread u v) (h u v)),
+  λ is u v. subst (λ t. t ≤ℤ (l *ℤ (u *ℤ u +ℤ v *ℤ v))) (sym (spread u v)) (law.1 is u v),
+)
+  where
+    k : ℤ
+    k = square_tenths
+
+    l : ℤ
+    l = pos (s * s) *ℤ d
+
+    law : ((u v : ℤ) → (k *ℤ c x x *ℤ (u *ℤ u) +ℤ k *ℤ (c x y +ℤ c y x) *ℤ (u *ℤ v) +ℤ k *ℤ c y y *ℤ (v *ℤ v)) ≤ℤ (l *ℤ (u *ℤ u +ℤ v *ℤ v)))
+        ↔ IsAboveEigenvalues (k *ℤ c x x) (k *ℤ (c x y +ℤ c y x)) (k *ℤ c y y) l
+    law = eigenvalues_and_forms (k *ℤ c x x) (k *ℤ (c x y +ℤ c y x)) (k *ℤ c y y) l
+
+    spread : (u v : ℤ)
+        → k *ℤ standard_ellipse c x y u v ≡ k *ℤ c x x *ℤ (u *ℤ u) +ℤ k *ℤ (c x y +ℤ c y x) *ℤ (u *ℤ v) +ℤ k *ℤ c y y *ℤ (v *ℤ v)
+    spread u v = numbers k (c x x) (c x y +ℤ c y x) (c y y) u v
+      where
+        numbers : (k a b c u v : ℤ) → k *ℤ (a *ℤ (u *ℤ u) +ℤ b *ℤ (u *ℤ v) +ℤ c *ℤ (v *ℤ v)) ≡ k *ℤ a *ℤ (u *ℤ u) +ℤ k *ℤ b *ℤ (u *ℤ v) +ℤ k *ℤ c *ℤ (v *ℤ v)
+        numbers k a b c u v =
+            ring (x0 ⊗ (x1 ⊗ (x4 ⊗ x4) ⊕ x2 ⊗ (x4 ⊗ x5) ⊕ x3 ⊗ (x5 ⊗ x5))) (x0 ⊗ x1 ⊗ (x4 ⊗ x4) ⊕ x0 ⊗ x2 ⊗ (x4 ⊗ x5) ⊕ x0 ⊗ x3 ⊗ (x5 ⊗ x5))
+            (k ∷ a ∷ b ∷ c ∷ u ∷ v ∷ []) refl
 
 -- ---- the redundancy number and its complement
 pub complement : (q d w v : ℤ) → ((pos 1000 *ℤ w) *ℤ v) ≤ℤ ((pos 1000 -ℤ q) *ℤ d) ↔ ((q *ℤ d) ≤ℤ (pos 1000 *ℤ (d -ℤ w *ℤ v)))

@@ -10,6 +10,7 @@ use Rattle.whole_algebra.proofs.Order.{le_of_mul_le, mul_pos, square_nonneg}
 use Rattle.whole_algebra.proofs.Normal.{ring, x0, x1, x2, lit, opposite_of, ◌⊕◌, ◌⊗◌}
 use Rattle.covariance_law.specs.Vectors.{Vector, Matrix, inner, applied, form}
 use Rattle.covariance_law.specs.Covariance.{squares, EnergyBearsLoad, VarianceIsWithin}
+use Rattle.covariance_law.proofs.Cauchy.{zero-of-square}
 use Rattle.covariance_law.proofs.Law.{energies_and_covariances}
 use Rattle.geo_model.specs.declared.network.Component.TheVariants as component
 use Rattle.geo_model.specs.declared.network.Unknown.{Unknown}
@@ -189,17 +190,6 @@ redundancy-law network plan c d q owner k row orderly covariance within bounds c
     numbers b f = ring (x0 ⊗ (x1 ⊗ x1) ⊕ lit 0) (x0 ⊗ (x1 ⊗ x1)) (b ∷ f ∷ []) refl
 
 -- ---- displacements that cost no energy
-zero-of-square : (a : ℤ) → (a *ℤ a) ≤ℤ pos 0 → a ≡ pos 0
-zero-of-square a h =
-    by_lt_z (pos 0) a
-    (λ positive. let p = mul_pos a a positive positive in absurd (omega (arith, ints)))
-    (λ most. by_lt_z a (pos 0)
-    (λ negative.
-    let p = mul_pos (neg_ℤ a) (neg_ℤ a) (omega (arith, ints)) (omega (arith, ints)) in
-    let e : neg_ℤ a *ℤ neg_ℤ a ≡ a *ℤ a = ring (opposite_of x0 ⊗ opposite_of x0) (x0 ⊗ x0) (a ∷ []) refl in
-    absurd (omega (arith, ints)))
-    (λ least. omega (arith, ints)))
-
 no-load : (l alpha e b t : ℤ) → pos 0 <ℤ b → l ≤ℤ (alpha *ℤ e) → e ≡ pos 0 → l ≡ b *ℤ t → t ≤ℤ pos 0
 no-load l alpha e b t positive h none is =
     let f : alpha *ℤ e ≡ pos 0 = ap (λ z. alpha *ℤ z) none ∙ mul_zero alpha in

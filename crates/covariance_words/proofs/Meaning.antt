@@ -1,5 +1,5 @@
 -- What the limits of the network of two tables mean.
-use Rattle.std.proofs.Common.{◌≡◌, ℕ, ◌<◌, Some, slice_get, List, length}
+use Rattle.std.proofs.Common.{Bool, ◌≡◌, ℕ, ◌<◌, Some, slice_get, List, length}
 use Rattle.geo_model.specs.Network.{NetworkOf}
 use Rattle.geo_model.specs.Row.{RowOf, IsRow}
 use Rattle.geo_model.specs.Candidate.{IsCandidate}
@@ -16,7 +16,7 @@ use Rattle.geo_model.specs.Meeting.{MeetsLimit, MeetsLimits}
 use Rattle.point_tables.specs.Accepted.{IsAccepted}
 use Rattle.point_tables.specs.declared.part.Part.TheVariants as part
 use Rattle.net_build.specs.Build.{axis_limit, height_limit, redundancy_limit}
-use Rattle.covariance_words.specs.Meaning.{AxisLimitsBoundEllipses, FreeMovementsLeaveLimitedPoints, HeightLimitsBoundVariances, IsPrecise, LimitsMeanPrecision, RedundancyLimitsBoundRedundancies}
+use Rattle.covariance_words.specs.Meaning.{AxisLimitsBoundEllipses, FreeMovementsLeaveLimitedPoints, HeightLimitsBoundVariances, IsPrecise, LimitsMeanPrecision, MetLimitsHoldAndArePrecise, RedundancyLimitsBoundRedundancies}
 use Rattle.covariance_words.proofs.Members.{axis-in_force, axis-there, height-in_force, height-there, limits-all, redundancy-in_force, redundancy-owner, redundancy-there, x-there, y-there, z-there}
 use Rattle.covariance_words.proofs.Limits.{IsOrderly, All-at, axis-law, axis-still, height-law, height-still, redundancy-law}
 
@@ -101,3 +101,35 @@ limits-mean points candidates q plan c d is = (down, up)
         (λ owner k candidate row some at at_row force.
         (redundancies-mean points candidates q plan c d owner k candidate row is at at_row).1
         (precise.redundancies owner k candidate row some (redundancy-owner q owner k row plan force) at at_row))
+
+-- ---- what a plan that meets them is
+axis-met : (points : List PointRecord) (candidates : List CandidateRecord) (q : ℕ) (plan : List Bool) (place s : ℕ) (point : PointRecord)
+    → MeetsLimits (network_of points candidates q) plan → slice_get points place ≡ Some point → point.plane ≡ part.New s
+    → MeetsLimit (network_of points candidates q) plan (axis_limit (network_of points candidates q).unknowns place s)
+unfolding network_of
+axis-met points candidates q plan place s point meets at new =
+    let network = network_of points candidates q in
+    let there = axis-there q points network.unknowns network.candidates place s point at new in
+    All-at (λ limit. IsInForce limit plan → MeetsLimit network plan limit) network.limits there.0 (axis_limit network.unknowns place s) meets there.1
+    (axis-in_force network.unknowns place s plan)
+
+height-met : (points : List PointRecord) (candidates : List CandidateRecord) (q : ℕ) (plan : List Bool) (place s : ℕ) (point : PointRecord)
+    → MeetsLimits (network_of points candidates q) plan → slice_get points place ≡ Some point → point.height ≡ part.New s
+    → MeetsLimit (network_of points candidates q) plan (height_limit (network_of points candidates q).unknowns place s)
+unfolding network_of
+height-met points candidates q plan place s point meets at new =
+    let network = network_of points candidates q in
+    let there = height-there q points network.unknowns network.candidates place s point at new in
+    All-at (λ limit. IsInForce limit plan → MeetsLimit network plan limit) network.limits there.0 (height_limit network.unknowns place s) meets there.1
+    (height-in_force network.unknowns place s plan)
+
+pub met-limits-mean : MetLimitsHoldAndArePrecise
+met-limits-mean points candidates q plan are meets = record {
+  holds = record {
+    planes = λ x place s i j point none at new at_i at_j.
+        (movements-mean points candidates q plan x place s are none).plane (axis-met points candidates q plan place s point meets at new) i j at_i at_j;
+    heights = λ x place s k point none at new at_k.
+        (movements-mean points candidates q plan x place s are none).height (height-met points candidates q plan place s point meets at new) k at_k;
+  };
+  precise = λ c d covariance. (limits-mean points candidates q plan c d (record { tables = are; covariance = covariance })).0 meets;
+}

@@ -6,6 +6,7 @@
 mod laws;
 
 pub use laws::{
-    axis_limits_bound_ellipses, free_movements_leave_limited_points, height_limits_bound_variances,
-    limits_mean_precision, redundancy_limits_bound_redundancies,
+    axes_are_eigenvalues, axis_limits_bound_ellipses, free_movements_leave_limited_points,
+    height_limits_bound_variances, limits_mean_precision, met_limits_hold_and_are_precise,
+    redundancy_limits_bound_redundancies,
 };
