@@ -5,8 +5,6 @@ mod direction;
 mod distance;
 mod laws;
 mod line;
-#[cfg(test)]
-mod tests;
 mod units;
 mod weight;
 

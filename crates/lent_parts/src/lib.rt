@@ -5,8 +5,6 @@
 mod laws;
 mod line_walk;
 mod pieces;
-#[cfg(test)]
-mod tests;
 mod token_walk;
 mod tri;
 mod tri_row;
