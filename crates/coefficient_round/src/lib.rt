@@ -13,8 +13,6 @@ mod direction;
 mod distance;
 mod laws;
 mod line;
-#[cfg(test)]
-mod tests;
 mod units;
 mod weight;
 

@@ -15,8 +15,6 @@ mod grid;
 mod laws;
 mod no_memory;
 mod root;
-#[cfg(test)]
-mod tests;
 
 pub use division::{ceil_div, floor_div, nearest};
 pub use grid::{grid_exponent, shift_floor};

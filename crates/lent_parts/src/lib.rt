@@ -14,8 +14,6 @@ mod laws;
 mod line_walk;
 mod pieces;
 mod rows;
-#[cfg(test)]
-mod tests;
 mod token_walk;
 mod tri;
 mod tri_row;

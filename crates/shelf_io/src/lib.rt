@@ -40,6 +40,3 @@ pub use sink::Sink;
 pub use sure_shelf::SureShelf;
 pub use sure_sink::SureSink;
 pub use write_answer::WriteAnswer;
-
-#[cfg(test)]
-mod tests;

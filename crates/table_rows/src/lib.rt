@@ -20,6 +20,3 @@ pub use field_text::text_of;
 pub use mark::has_second_mark;
 pub use row::TableRow;
 pub use rows::TableRows;
-
-#[cfg(test)]
-mod tests;

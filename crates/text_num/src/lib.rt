@@ -15,8 +15,6 @@ mod numeral;
 mod power;
 mod put;
 mod read;
-#[cfg(test)]
-mod tests;
 mod whole;
 
 pub use laws::{decimals_are_the_grammar, whole_texts_are_apart, written_decimals_are_read};

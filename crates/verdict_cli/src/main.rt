@@ -12,8 +12,6 @@ mod header;
 mod plan;
 mod refusal;
 mod request;
-#[cfg(test)]
-mod tests;
 mod verdicts;
 
 use answer::put_answer;

@@ -1,4 +1,4 @@
-use crate::{
+use coefficient_round::{
     dir_coef, directions_and_weights_are_nearest, dist_coef, distance_coefficients_are_rounded,
     length_squared, weight_of,
 };

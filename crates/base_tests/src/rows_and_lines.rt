@@ -1,5 +1,5 @@
-use crate::{Line, Token, Tri, lines, tokens};
 use geo_base::NoMemory;
+use lent_parts::{Line, Token, Tri, lines, tokens};
 
 #[test]
 fn rows_of_a_triangle(rt: HostRuntime) -> Result<(), NoMemory> {

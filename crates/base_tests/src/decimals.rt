@@ -1,5 +1,5 @@
-use crate::{put_decimal, put_whole, read_decimal, read_digits};
 use std::test::Fail;
+use text_num::{put_decimal, put_whole, read_decimal, read_digits};
 
 #[test]
 fn known_numbers(rt: HostRuntime) {

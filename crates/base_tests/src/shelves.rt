@@ -1,6 +1,6 @@
 //! The forms in memory, where their calls fail and where they don't.
 
-use crate::{MemShelf, MemSink, ReadAnswer, Shelf, Sink, SureShelf, SureSink, WriteAnswer};
+use shelf_io::{MemShelf, MemSink, ReadAnswer, Shelf, Sink, SureShelf, SureSink, WriteAnswer};
 use std::test::Fail;
 
 /// Starts a log and adds two lines to it.

@@ -1,4 +1,4 @@
-use crate::{
+use geo_base::{
     ceil_div, floor_div, grid_exponent, nearest, root_floor, rounded_quotients_are_unique,
     shift_floor, shifts_exponents_and_roots_are_unique,
 };

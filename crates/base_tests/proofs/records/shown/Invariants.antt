@@ -1,5 +1,5 @@
 use Rattle.std.proofs.Common.{length}
-use Rattle.table_rows.proofs.tests.shown.Given as goal
+use Rattle.base_tests.proofs.records.shown.Given as goal
 
 abbrev pub decreases-rows : goal.decreases-rows
 decreases-rows l = length l.rows

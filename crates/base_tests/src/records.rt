@@ -1,6 +1,6 @@
-use crate::{TableRow, TableRows, first_fault_is_least, has_second_mark};
 use geo_base::NoMemory;
 use std::alloc::Global;
+use table_rows::{TableRow, TableRows, first_fault_is_least, has_second_mark};
 
 // A table, and its records with each text in brackets. The expected texts come from another program.
 const TABLES: [(&[u8], &[u8]); 14] = [
