@@ -16,6 +16,3 @@ pub use kind::Kind;
 pub use laws::first_candidate_fault_is_least;
 pub use read::read_candidates;
 pub use record::CandidateRecord;
-
-#[cfg(test)]
-mod tests;

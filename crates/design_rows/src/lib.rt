@@ -13,6 +13,3 @@ mod term;
 pub use columns::Columns;
 pub use laws::{rows_are_within_bounds, unknowns_differ};
 pub use rows::rows_of;
-
-#[cfg(test)]
-mod tests;

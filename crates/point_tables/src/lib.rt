@@ -21,6 +21,3 @@ pub use points::Points;
 pub use read::read_points;
 pub use record::PointRecord;
 pub use row::broken_record;
-
-#[cfg(test)]
-mod tests;
