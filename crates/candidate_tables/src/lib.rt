@@ -26,6 +26,3 @@ pub use kind_rules::{KindRules, LineBounds};
 pub use laws::{first_candidate_fault_is_least, words_name_kinds};
 pub use read::read_candidates;
 pub use record::CandidateRecord;
-
-#[cfg(test)]
-mod tests;

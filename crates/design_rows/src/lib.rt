@@ -22,6 +22,3 @@ mod term;
 pub use columns::Columns;
 pub use laws::{rows_are_counted, rows_are_within_bounds, unknowns_differ};
 pub use rows::rows_of;
-
-#[cfg(test)]
-mod tests;

@@ -21,6 +21,3 @@ mod redundancy;
 pub use grid_law::built_grids_are_small;
 pub use laws::built_networks_are_networks;
 pub use network::build;
-
-#[cfg(test)]
-mod tests;

@@ -27,6 +27,3 @@ pub use points::Points;
 pub use read::read_points;
 pub use record::PointRecord;
 pub use table_columns::Name;
-
-#[cfg(test)]
-mod tests;

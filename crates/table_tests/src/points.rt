@@ -1,5 +1,5 @@
-use crate::{Points, TableAnswer, TableName, first_point_fault_is_least, read_points};
 use geo_base::NoMemory;
+use point_tables::{Points, TableAnswer, TableName, first_point_fault_is_least, read_points};
 use std::alloc::Global;
 use std::process::Abort;
 use std::test::Fail;

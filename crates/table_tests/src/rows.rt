@@ -2,8 +2,10 @@ ghost use Rattle.std.specs.Prelude.{◌≡◌, ◌<◌, length};
 ghost use Rattle.candidate_tables.specs.Accepted.{AreCandidates};
 ghost use Rattle.design_rows.specs.Unknowns.{unknowns_of};
 
-use crate::{Columns, rows_are_counted, rows_are_within_bounds, rows_of, unknowns_differ};
 use candidate_tables::{Candidates, read_candidates};
+use design_rows::{
+    Columns, rows_are_counted, rows_are_within_bounds, rows_of, unknowns_differ,
+};
 use geo_base::NoMemory;
 use geo_model::{Component, Row, Unknown};
 use point_tables::{Points, read_points};
@@ -13,56 +15,56 @@ use std::test::Fail;
 
 // Points, candidates, and their unknowns and rows as texts: each unknown as the number of its point and its component, each
 // row as its weight and its entries, and a bar after the rows of a candidate. The expected texts come from another program.
-const TABLES: [(&str, &str, &str); 5] = [
+const TABLES: [(&[u8], &[u8], &[u8]); 5] = [
     // a line of 100 km between large coordinates, with a fixed end
     (
-        "A,5512345.678,3400000.000,,fixed,\nB,5612345.678,3400000.000,,5.0,\n",
-        "d1,distance,A,B,,10.00,,5\n",
-        "1 X;1 Y;100 0:10000;|",
+        b"A,5512345.678,3400000.000,,fixed,\nB,5612345.678,3400000.000,,5.0,\n",
+        b"d1,distance,A,B,,10.00,,5\n",
+        b"1 X;1 Y;100 0:10000;|",
     ),
     // a distance and a direction along a line of 3, 4 and 5 parts, with the orientation of a fixed station
     (
-        "A,0.000,0.000,,fixed,\nP,30.000,40.000,,8.0,\n",
-        "d1,distance,A,P,,2.00,,1\nr1,direction,A,P,,10.00,,1\n",
-        "1 X;1 Y;0 Turn;2500 0:6000 1:8000;|100 0:-101859 1:76394 2:-10000;|",
+        b"A,0.000,0.000,,fixed,\nP,30.000,40.000,,8.0,\n",
+        b"d1,distance,A,P,,2.00,,1\nr1,direction,A,P,,10.00,,1\n",
+        b"1 X;1 Y;0 Turn;2500 0:6000 1:8000;|100 0:-101859 1:76394 2:-10000;|",
     ),
     // an angle at a new point between two fixed ones
     (
-        "P,0.000,0.000,,1.0,\nB,100.000,0.000,,fixed,\nC,0.000,100.000,,fixed,\n",
-        "a1,angle,P,B,C,15.00,,1\n",
-        "0 X;0 Y;44 0:63662 1:63662;|",
+        b"P,0.000,0.000,,1.0,\nB,100.000,0.000,,fixed,\nC,0.000,100.000,,fixed,\n",
+        b"a1,angle,P,B,C,15.00,,1\n",
+        b"0 X;0 Y;44 0:63662 1:63662;|",
     ),
     // levels, of which the first between fixed heights has no entry
     (
-        "A,,,100.000,,fixed\nB,,,101.000,,fixed\nH,,,102.000,,1.0\n",
-        "l1,level,A,B,,1.00,,5\nl2,level,H,A,,1.00,,5\nl3,level,B,H,,0.50,,5\n",
-        "2 Z;10000;|10000 0:-10000;|40000 0:10000;|",
+        b"A,,,100.000,,fixed\nB,,,101.000,,fixed\nH,,,102.000,,1.0\n",
+        b"l1,level,A,B,,1.00,,5\nl2,level,H,A,,1.00,,5\nl3,level,B,H,,0.50,,5\n",
+        b"2 Z;10000;|10000 0:-10000;|40000 0:10000;|",
     ),
     // all kinds, with new points, new heights of fixed points, and a point that has no part
     (
-        "H,,,9.000,,2.0\nP,0.000,0.000,5.000,1.0,2.0\nQ,-120.500,80.250,,2.0,\nN,,,,,\nR,15.000,-200.125,7.000,fixed,3.0\n",
-        "a1,angle,P,Q,R,15.00,,1\na2,angle,Q,R,P,3.33,,1\nr1,direction,R,Q,,7.77,,1\nr2,direction,P,R,,10.00,,1\nd1,distance,P,Q,,2.50,,3\ng1,vector,R,P,,0.10,100.00,9\nl1,level,H,R,,1.23,,4\n",
-        "0 Z;1 X;1 Y;1 Z;2 X;2 Y;4 Z;1 Turn;4 Turn;44 1:-56007 2:-38970 4:24374 5:36599;|902 1:24374 2:36599 4:-5967 5:-27703;|166 4:-18407 5:-8896 8:-10000;|100 1:-31633 2:-2371 7:-10000;|1600 1:8323 2:-5543 4:-8323 5:5543;|1000000 1:10000;1000000 2:10000;1 3:10000 6:-10000;|6610 0:-10000 6:10000;|",
+        b"H,,,9.000,,2.0\nP,0.000,0.000,5.000,1.0,2.0\nQ,-120.500,80.250,,2.0,\nN,,,,,\nR,15.000,-200.125,7.000,fixed,3.0\n",
+        b"a1,angle,P,Q,R,15.00,,1\na2,angle,Q,R,P,3.33,,1\nr1,direction,R,Q,,7.77,,1\nr2,direction,P,R,,10.00,,1\nd1,distance,P,Q,,2.50,,3\ng1,vector,R,P,,0.10,100.00,9\nl1,level,H,R,,1.23,,4\n",
+        b"0 Z;1 X;1 Y;1 Z;2 X;2 Y;4 Z;1 Turn;4 Turn;44 1:-56007 2:-38970 4:24374 5:36599;|902 1:24374 2:36599 4:-5967 5:-27703;|166 4:-18407 5:-8896 8:-10000;|100 1:-31633 2:-2371 7:-10000;|1600 1:8323 2:-5543 4:-8323 5:5543;|1000000 1:10000;1000000 2:10000;1 3:10000 6:-10000;|6610 0:-10000 6:10000;|",
     ),
 ];
 
 // Three vectors to one point, of 5.00 in plan and 8.00 in height.
-const VECTORS: (&str, &str, &str) = (
-    "F1,0.000,0.000,0.000,fixed,fixed\nF2,100.000,0.000,0.000,fixed,fixed\nF3,0.000,100.000,0.000,fixed,fixed\nP,50.000,50.000,10.000,4.0,7.0\n",
-    "g1,vector,F1,P,,5.00,8.00,100\ng2,vector,F2,P,,5.00,8.00,120\ng3,vector,F3,P,,5.00,8.00,150\n",
-    "3 X;3 Y;3 Z;400 0:10000;400 1:10000;156 2:10000;|400 0:10000;400 1:10000;156 2:10000;|400 0:10000;400 1:10000;156 2:10000;|",
+const VECTORS: (&[u8], &[u8], &[u8]) = (
+    b"F1,0.000,0.000,0.000,fixed,fixed\nF2,100.000,0.000,0.000,fixed,fixed\nF3,0.000,100.000,0.000,fixed,fixed\nP,50.000,50.000,10.000,4.0,7.0\n",
+    b"g1,vector,F1,P,,5.00,8.00,100\ng2,vector,F2,P,,5.00,8.00,120\ng3,vector,F3,P,,5.00,8.00,150\n",
+    b"3 X;3 Y;3 Z;400 0:10000;400 1:10000;156 2:10000;|400 0:10000;400 1:10000;156 2:10000;|400 0:10000;400 1:10000;156 2:10000;|",
 );
 
 // A header row and records.
-fn table(alloc: Global, header: &str, records: &str) -> Result<Vec<u8>, Fail> {
-    let mut bytes = header.as_bytes().to_vec(alloc)?;
-    bytes.extend_from_slice(records.as_bytes())?;
+fn table(alloc: Global, header: &[u8], records: &[u8]) -> Result<Vec<u8>, Fail> {
+    let mut bytes = header.to_vec(alloc)?;
+    bytes.extend_from_slice(records)?;
     Ok(bytes)
 }
 
 // The points of some records.
-fn points_of(alloc: Global, records: &str) -> Result<Points, Fail> {
-    let bytes = table(alloc, "name,x,y,z,plane,height\n", records)?;
+fn points_of(alloc: Global, records: &[u8]) -> Result<Points, Fail> {
+    let bytes = table(alloc, b"name,x,y,z,plane,height\n", records)?;
     match read_points(alloc, bytes.as_slice()) {
         Ok(points) => Ok(points),
         Err(_) => Err(Fail::from(NoMemory)),
@@ -121,13 +123,13 @@ fn put_unknowns(
 fn shown(
     rt: &impl Abort,
     alloc: Global,
-    point_records: &str,
-    candidate_records: &str,
+    point_records: &[u8],
+    candidate_records: &[u8],
 ) -> Result<Vec<u8>, Fail> {
     let points = points_of(alloc, point_records)?;
     let bytes = table(
         alloc,
-        "name,kind,from,to,to2,sd,sdh,price\n",
+        b"name,kind,from,to,to2,sd,sdh,price\n",
         candidate_records,
     )?;
     let candidates = match read_candidates(alloc, bytes.as_slice(), &points) {
@@ -147,11 +149,11 @@ fn shown(
 fn unknowns_and_rows_of_tables(rt: HostRuntime) -> Result<(), Fail> {
     for (points, candidates, expected) in TABLES {
         let text = shown(&rt, rt.alloc(), points, candidates)?;
-        assert!(rt; text.as_slice() == expected.as_bytes());
+        assert!(rt; text.as_slice() == expected);
     }
     let (points, candidates, expected) = VECTORS;
     let text = shown(&rt, rt.alloc(), points, candidates)?;
-    assert!(rt; text.as_slice() == expected.as_bytes());
+    assert!(rt; text.as_slice() == expected);
     unknowns_differ();
     rows_are_within_bounds();
     rows_are_counted();
@@ -160,7 +162,7 @@ fn unknowns_and_rows_of_tables(rt: HostRuntime) -> Result<(), Fail> {
 
 #[test]
 fn a_component_that_is_no_unknown_is_not_found(rt: HostRuntime) -> Result<(), Fail> {
-    let points = points_of(rt.alloc(), "A,1,2,3,fixed,2.0\nB,4,5,,1.0,\n")?;
+    let points = points_of(rt.alloc(), b"A,1,2,3,fixed,2.0\nB,4,5,,1.0,\n")?;
     let bytes = b"name,kind,from,to,to2,sd,sdh,price\n";
     let candidates = match read_candidates(rt.alloc(), bytes, &points) {
         Ok(candidates) => candidates,

@@ -1,144 +1,146 @@
-use crate::{Candidates, first_candidate_fault_is_least, read_candidates, words_name_kinds};
+use candidate_tables::{
+    Candidates, first_candidate_fault_is_least, read_candidates, words_name_kinds,
+};
 use geo_base::NoMemory;
 use point_tables::{Points, TableAnswer, TableName, read_points};
 use std::alloc::Global;
 use std::process::Abort;
 use std::test::Fail;
 
-const POINTS: &str =
-    "name,x,y,z,plane,height\nA,0.000,0.000,100.000,fixed,fixed\nH,,,101.000,,1.0\nP,30.000,40.000,10.000,4.0,7.0\nN,0.999,0,,fixed,\nO,1.000,0,,fixed,\nQ,0,9.999,,fixed,\nR,0,10.000,,1.0,\nF,100000.000,0,,fixed,\nG,100000.001,0,,fixed,\n";
+const POINTS: &[u8] =
+    b"name,x,y,z,plane,height\nA,0.000,0.000,100.000,fixed,fixed\nH,,,101.000,,1.0\nP,30.000,40.000,10.000,4.0,7.0\nN,0.999,0,,fixed,\nO,1.000,0,,fixed,\nQ,0,9.999,,fixed,\nR,0,10.000,,1.0,\nF,100000.000,0,,fixed,\nG,100000.001,0,,fixed,\n";
 
 // Whole tables, and what they are read as. The expected texts come from another program.
-const FILES: [(&[u8], &str); 6] = [
-    (b"", "1 Header"),
-    (b"\xEF\xBB\xBF", "1 Header"),
+const FILES: [(&[u8], &[u8]); 6] = [
+    (b"", b"1 Header"),
+    (b"\xEF\xBB\xBF", b"1 Header"),
     (
         b"\xEF\xBB\xBF\xEF\xBB\xBFname,kind,from,to,to2,sd,sdh,price\n",
-        "1 Header",
+        b"1 Header",
     ),
     (
         b"name,kind,from,to,to2,sd,sdh,price\nl1,level,A,H,,1.00,,5\nl2,level,A,H,,1.00,,\xFF\n",
-        "3 Utf8",
+        b"3 Utf8",
     ),
-    (b"name,kind,from,to,to2,sd,sdh,Price\n", "1 Header"),
+    (b"name,kind,from,to,to2,sd,sdh,Price\n", b"1 Header"),
     (
         b"\xEF\xBB\xBF\"name\",\"kind\",\" from\",\"to \",\"to2\",\"sd\",\"sdh\",\"price\"\r\n\"l1\",\"level\",\"A\",\"H\",\"\",\" 1.00 \",\"\",\"5\"\r\n\r\n",
-        "l1 Level 0 1 None 100 None 5;",
+        b"l1 Level 0 1 None 100 None 5;",
     ),
 ];
 
 // Records under the header row, and what the table is read as. The expected texts come from another program.
-const RECORDS: [(&str, &str); 12] = [
+const RECORDS: [(&[u8], &[u8]); 12] = [
     (
-        "l1,level,A,H,,1.00,,5\nA,level,H,A,,+0.1,,5.000\n",
-        "l1 Level 0 1 None 100 None 5;A Level 1 0 None 10 None 5;",
+        b"l1,level,A,H,,1.00,,5\nA,level,H,A,,+0.1,,5.000\n",
+        b"l1 Level 0 1 None 100 None 5;A Level 1 0 None 10 None 5;",
     ),
     (
-        "d1,distance,A,O,,2.00,,1\nr1,direction,A,R,,10.00,,1\n",
-        "d1 Distance 0 4 None 200 None 1;r1 Direction 0 6 None 1000 None 1;",
+        b"d1,distance,A,O,,2.00,,1\nr1,direction,A,R,,10.00,,1\n",
+        b"d1 Distance 0 4 None 200 None 1;r1 Direction 0 6 None 1000 None 1;",
     ),
     (
-        "d1,distance,A,F,,100.00,,1000000000\n",
-        "d1 Distance 0 7 None 10000 None 1000000000;",
+        b"d1,distance,A,F,,100.00,,1000000000\n",
+        b"d1 Distance 0 7 None 10000 None 1000000000;",
     ),
     (
-        "a1,angle,A,R,F,15.00,,0\n",
-        "a1 Angle 0 6 Some(7) 1500 None 0;",
+        b"a1,angle,A,R,F,15.00,,0\n",
+        b"a1 Angle 0 6 Some(7) 1500 None 0;",
     ),
     (
-        "g1,vector,A,P,,5.00,8.00,100\n",
-        "g1 Vector 0 2 None 500 Some(800) 100;",
+        b"g1,vector,A,P,,5.00,8.00,100\n",
+        b"g1 Vector 0 2 None 500 Some(800) 100;",
     ),
-    ("l1,level,A,H,,1.00,\n", "2 Fields"),
+    (b"l1,level,A,H,,1.00,\n", b"2 Fields"),
     (
-        "l1,level,A,H,,1.00,,5\nl2,level,A,P,,1.00,,5\nl1,zenith,A,H,,1.00,,5\n",
-        "4 Twice",
+        b"l1,level,A,H,,1.00,,5\nl2,level,A,P,,1.00,,5\nl1,zenith,A,H,,1.00,,5\n",
+        b"4 Twice",
     ),
-    ("z1,zenith,none,H,,1.00,,5\n", "2 Kind"),
-    ("l1,level,A,none,A,1.00,,5\n", "2 NoPoint"),
-    ("a1,angle,A,R,,1.00,1.00,5\n", "2 NoPoint"),
-    ("l1,level,A,A,A,1.00,,5\n", "2 Extra"),
-    ("a1,angle,A,A,R,1.00,1.00,5\n", "2 Extra"),
+    (b"z1,zenith,none,H,,1.00,,5\n", b"2 Kind"),
+    (b"l1,level,A,none,A,1.00,,5\n", b"2 NoPoint"),
+    (b"a1,angle,A,R,,1.00,1.00,5\n", b"2 NoPoint"),
+    (b"l1,level,A,A,A,1.00,,5\n", b"2 Extra"),
+    (b"a1,angle,A,A,R,1.00,1.00,5\n", b"2 Extra"),
 ];
 
 // Records that break a rule on their points, lines or numbers, and the first fault. The expected texts come from
 // another program.
-const REFUSED: [(&str, &str); 17] = [
-    ("l1,level,A,A,,1.00,,5\n", "2 SamePoint"),
-    ("a1,angle,A,H,H,1.00,,5\n", "2 SamePoint"),
-    ("d1,distance,A,H,,1.00,,5\n", "2 NoPlane"),
-    ("g1,vector,H,O,,1.00,1.00,5\n", "2 NoPlane"),
-    ("g1,vector,A,O,,1.00,1.00,5\n", "2 NoHeight"),
-    ("d1,distance,A,N,,1.00,,5\n", "2 Near"),
-    ("r1,direction,A,Q,,1.00,,5\n", "2 Near"),
-    ("d1,distance,A,G,,0.09,,5\n", "2 Far"),
-    ("a1,angle,A,G,Q,1.00,,5\n", "2 Far"),
-    ("a1,angle,A,R,Q,1.00,,5\n", "2 Near"),
-    ("l1,level,A,H,,0.09,,x\n", "2 Range"),
-    ("l1,level,A,H,,1.005,,-1\n", "2 Number"),
-    ("g1,vector,A,P,,100.01,x,5\n", "2 Range"),
-    ("g1,vector,A,P,,1.00,,1.5\n", "2 Number"),
-    ("l1,level,A,H,,1.00,,1.5\n", "2 Number"),
-    ("l1,level,A,H,,1.00,,1000000001\n", "2 Range"),
-    ("l1,level,A,H,,1.00,,-1\n", "2 Range"),
+const REFUSED: [(&[u8], &[u8]); 17] = [
+    (b"l1,level,A,A,,1.00,,5\n", b"2 SamePoint"),
+    (b"a1,angle,A,H,H,1.00,,5\n", b"2 SamePoint"),
+    (b"d1,distance,A,H,,1.00,,5\n", b"2 NoPlane"),
+    (b"g1,vector,H,O,,1.00,1.00,5\n", b"2 NoPlane"),
+    (b"g1,vector,A,O,,1.00,1.00,5\n", b"2 NoHeight"),
+    (b"d1,distance,A,N,,1.00,,5\n", b"2 Near"),
+    (b"r1,direction,A,Q,,1.00,,5\n", b"2 Near"),
+    (b"d1,distance,A,G,,0.09,,5\n", b"2 Far"),
+    (b"a1,angle,A,G,Q,1.00,,5\n", b"2 Far"),
+    (b"a1,angle,A,R,Q,1.00,,5\n", b"2 Near"),
+    (b"l1,level,A,H,,0.09,,x\n", b"2 Range"),
+    (b"l1,level,A,H,,1.005,,-1\n", b"2 Number"),
+    (b"g1,vector,A,P,,100.01,x,5\n", b"2 Range"),
+    (b"g1,vector,A,P,,1.00,,1.5\n", b"2 Number"),
+    (b"l1,level,A,H,,1.00,,1.5\n", b"2 Number"),
+    (b"l1,level,A,H,,1.00,,1000000001\n", b"2 Range"),
+    (b"l1,level,A,H,,1.00,,-1\n", b"2 Range"),
 ];
 
 // Records with a name, a number of fields or a standard deviation at or past its bounds, and what the table is read as.
 // The expected texts come from another program.
-const BOUNDS: [(&str, &str); 16] = [
-    (",level,A,H,,1.00,,5\n", "2 Name"),
+const BOUNDS: [(&[u8], &[u8]); 16] = [
+    (b",level,A,H,,1.00,,5\n", b"2 Name"),
     (
-        "aaaaaaaaaaaaaaaaaaaaaaaaaaaaaaaa,level,A,H,,1.00,,5\n",
-        "aaaaaaaaaaaaaaaaaaaaaaaaaaaaaaaa Level 0 1 None 100 None 5;",
+        b"aaaaaaaaaaaaaaaaaaaaaaaaaaaaaaaa,level,A,H,,1.00,,5\n",
+        b"aaaaaaaaaaaaaaaaaaaaaaaaaaaaaaaa Level 0 1 None 100 None 5;",
     ),
     (
-        "aaaaaaaaaaaaaaaaaaaaaaaaaaaaaaaaa,level,A,H,,1.00,,5\n",
-        "2 Name",
+        b"aaaaaaaaaaaaaaaaaaaaaaaaaaaaaaaaa,level,A,H,,1.00,,5\n",
+        b"2 Name",
     ),
-    ("\"a,b\",level,A,H,,1.00,,5\n", "2 Name"),
-    ("l1,level,A,H,,1.00,,5,\n", "2 Fields"),
-    ("l1,level,none,H,,1.00,,5\n", "2 NoPoint"),
-    ("l1,level,A,H,A,1.00,,5\n", "2 Extra"),
+    (b"\"a,b\",level,A,H,,1.00,,5\n", b"2 Name"),
+    (b"l1,level,A,H,,1.00,,5,\n", b"2 Fields"),
+    (b"l1,level,none,H,,1.00,,5\n", b"2 NoPoint"),
+    (b"l1,level,A,H,A,1.00,,5\n", b"2 Extra"),
     (
-        "r1,direction,A,F,,1.00,,5\n",
-        "r1 Direction 0 7 None 100 None 5;",
+        b"r1,direction,A,F,,1.00,,5\n",
+        b"r1 Direction 0 7 None 100 None 5;",
     ),
-    ("r1,direction,A,G,,1.00,,5\n", "2 Far"),
+    (b"r1,direction,A,G,,1.00,,5\n", b"2 Far"),
     (
-        "a1,angle,A,R,F,1.00,,5\n",
-        "a1 Angle 0 6 Some(7) 100 None 5;",
+        b"a1,angle,A,R,F,1.00,,5\n",
+        b"a1 Angle 0 6 Some(7) 100 None 5;",
     ),
-    ("a1,angle,A,R,G,1.00,,5\n", "2 Far"),
-    ("g1,vector,A,P,,1.00,0.09,5\n", "2 Range"),
+    (b"a1,angle,A,R,G,1.00,,5\n", b"2 Far"),
+    (b"g1,vector,A,P,,1.00,0.09,5\n", b"2 Range"),
     (
-        "g1,vector,A,P,,1.00,0.10,5\n",
-        "g1 Vector 0 2 None 100 Some(10) 5;",
+        b"g1,vector,A,P,,1.00,0.10,5\n",
+        b"g1 Vector 0 2 None 100 Some(10) 5;",
     ),
     (
-        "g1,vector,A,P,,1.00,100.00,5\n",
-        "g1 Vector 0 2 None 100 Some(10000) 5;",
+        b"g1,vector,A,P,,1.00,100.00,5\n",
+        b"g1 Vector 0 2 None 100 Some(10000) 5;",
     ),
-    ("g1,vector,A,P,,1.00,100.01,5\n", "2 Range"),
-    ("l1,level,A,H,,100.01,,5\n", "2 Range"),
+    (b"g1,vector,A,P,,1.00,100.01,5\n", b"2 Range"),
+    (b"l1,level,A,H,,100.01,,5\n", b"2 Range"),
 ];
 
 // Points 100 km apart, and points that are a millimetre further apart, with what a distance between them is read as.
-const FAR_POINTS: [(&str, &str); 2] = [
+const FAR_POINTS: [(&[u8], &[u8]); 2] = [
     (
-        "name,x,y,z,plane,height\nA,5512345.678,3400000.000,,fixed,\nB,5612345.678,3400000.000,,5.0,\n",
-        "d1 Distance 0 1 None 1000 None 5;",
+        b"name,x,y,z,plane,height\nA,5512345.678,3400000.000,,fixed,\nB,5612345.678,3400000.000,,5.0,\n",
+        b"d1 Distance 0 1 None 1000 None 5;",
     ),
     (
-        "name,x,y,z,plane,height\nA,5512345.678,3400000.000,,fixed,\nB,5612345.679,3400000.000,,5.0,\n",
-        "2 Far",
+        b"name,x,y,z,plane,height\nA,5512345.678,3400000.000,,fixed,\nB,5612345.679,3400000.000,,5.0,\n",
+        b"2 Far",
     ),
 ];
 
-const HEADER: &str = "name,kind,from,to,to2,sd,sdh,price\n";
+const HEADER: &[u8] = b"name,kind,from,to,to2,sd,sdh,price\n";
 
 // The points of a table.
-fn points_of(alloc: Global, table: &str) -> Result<Points, Fail> {
-    match read_points(alloc, table.as_bytes()) {
+fn points_of(alloc: Global, table: &[u8]) -> Result<Points, Fail> {
+    match read_points(alloc, table) {
         Ok(points) => Ok(points),
         Err(_) => Err(Fail::from(NoMemory)),
     }
@@ -190,13 +192,13 @@ fn shown(rt: &impl Abort, alloc: Global, bytes: &[u8], points: &Points) -> Resul
 }
 
 // Asserts that each of some lists of records is read as its text.
-fn expect_shown(rt: &impl Abort, alloc: Global, rows: &[(&str, &str)]) -> Result<(), Fail> {
+fn expect_shown(rt: &impl Abort, alloc: Global, rows: &[(&[u8], &[u8])]) -> Result<(), Fail> {
     let points = test_points(alloc)?;
     for (records, expected) in rows {
-        let mut bytes = HEADER.as_bytes().to_vec(alloc)?;
-        bytes.extend_from_slice(records.as_bytes())?;
+        let mut bytes = HEADER.to_vec(alloc)?;
+        bytes.extend_from_slice(records)?;
         let text = shown(rt, alloc, bytes.as_slice(), &points)?;
-        assert!(rt; text.as_slice() == expected.as_bytes());
+        assert!(rt; text.as_slice() == *expected);
     }
     Ok(())
 }
@@ -224,25 +226,25 @@ fn a_header_row_is_asked_for(rt: HostRuntime) -> Result<(), Fail> {
     let points = test_points(rt.alloc())?;
     for (bytes, expected) in FILES {
         let text = shown(&rt, rt.alloc(), bytes, &points)?;
-        assert!(rt; text.as_slice() == expected.as_bytes());
+        assert!(rt; text.as_slice() == expected);
     }
     Ok(())
 }
 
 #[test]
 fn a_line_is_at_most_100_km_long(rt: HostRuntime) -> Result<(), Fail> {
-    let table = "name,kind,from,to,to2,sd,sdh,price\nd1,distance,A,B,,10.00,,5\n";
+    let table = b"name,kind,from,to,to2,sd,sdh,price\nd1,distance,A,B,,10.00,,5\n";
     for (points, expected) in FAR_POINTS {
         let points = points_of(rt.alloc(), points)?;
-        let text = shown(&rt, rt.alloc(), table.as_bytes(), &points)?;
-        assert!(rt; text.as_slice() == expected.as_bytes());
+        let text = shown(&rt, rt.alloc(), table, &points)?;
+        assert!(rt; text.as_slice() == expected);
     }
     Ok(())
 }
 
 // A table of so many candidates.
 fn many_candidates(alloc: Global, count: u32) -> Result<Vec<u8>, Fail> {
-    let mut bytes = HEADER.as_bytes().to_vec(alloc)?;
+    let mut bytes = HEADER.to_vec(alloc)?;
     for number in 0..count {
         let record = format!(in alloc; "l{number},level,A,H,,1.00,,{number}\n")?;
         bytes.extend_from_slice(record.as_bytes())?;
