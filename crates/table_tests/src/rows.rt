@@ -3,9 +3,7 @@ ghost use Rattle.candidate_tables.specs.Accepted.{AreCandidates};
 ghost use Rattle.design_rows.specs.Unknowns.{unknowns_of};
 
 use candidate_tables::{Candidates, read_candidates};
-use design_rows::{
-    Columns, rows_are_counted, rows_are_within_bounds, rows_of, unknowns_differ,
-};
+use design_rows::{Columns, rows_are_counted, rows_are_within_bounds, rows_of, unknowns_differ};
 use geo_base::NoMemory;
 use geo_model::{Component, Row, Unknown};
 use point_tables::{Points, read_points};
