@@ -7,9 +7,9 @@
 //! plan that meets the limits, whoever wrote it.
 //!
 //! Said by: `read_line`, `a_text_is_one_line`, `numbers_are_numerals`, `written_lines_are_read`;
-//! `a_text_has_one_tree`, `a_text_has_one_bound`; `checker_is_sound`.
+//! `a_text_has_one_tree`, `a_text_is_spelled`, `a_text_has_one_bound`; `checker_is_sound`.
 //!
-//! Caller: `take_text` of `log_check/src/replaying.rt`.
+//! Caller: `take_at_node` of `log_check/src/replaying.rt`.
 #![tactic(auto)]
 
 mod bound;

@@ -7,7 +7,7 @@
 //! Said by: `Network::new`, `larger_plans_keep_limits`, `larger_plans_cost_more`,
 //! `sums_stay_within_128_bits`.
 //!
-//! Caller: `is_cheaper` of `branch_bound/src/node_tests.rt`.
+//! Caller: `is_cheaper` of `branch_bound/src/node_judgements.rt`.
 #![tactic(auto)]
 
 mod answer;

@@ -2,10 +2,11 @@
 //! It stands on no crate of the search; all its memory is taken at its start.
 //!
 //! Proved: a text is replayed to the bound and the counts of its one tree, or to its first fault,
-//! a line and a kind; each text is a log or has a first fault, never both, nor two.
+//! a line and a kind; each text is a log or has a first fault, never both, nor two; a fault of a
+//! line that has ended is the fault of every longer text.
 //!
 //! Said by: `replay`, clauses `replayed`, `fault`; `each_text_has_one_verdict`,
-//! `rules_say_what_is_allowed`.
+//! `a_fault_stays`.
 //!
 //! Caller: `replayed` of `geoplan/src/answer.rt`.
 #![tactic(auto)]

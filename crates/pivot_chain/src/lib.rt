@@ -8,7 +8,7 @@
 //! Said by: `verdict`, clauses `exact`, `met`, `larger`, `refuted`, `interval`;
 //! `certified_plans_meet_limits`, `refuted_plans_fail`.
 //!
-//! Caller: `is_met` of `branch_bound/src/limit_tests.rt`.
+//! Caller: `is_met` of `branch_bound/src/limit_verdicts.rt`.
 #![tactic(auto)]
 
 mod chain;
