@@ -8,7 +8,11 @@ use geo_base::floor_div;
 /// sums of those over a row, stay in 128 bits.
 pub const PIVOT_SIZE: i128 = 0x2000_0000_0000_0000;
 
+// A number below this size is divided in 64 bits.
+const NARROW_SIZE: u128 = 0x8000_0000_0000_0000;
+
 /// The product of two numbers of at most `2^62` in size.
+#[inline(always)]
 pub fn product(p: i128, q: i128) -> i128
     requires p { unsigned_abs p ≤ 2 ^ 62 }
     requires q { unsigned_abs q ≤ 2 ^ 62 }
@@ -19,6 +23,7 @@ pub fn product(p: i128, q: i128) -> i128
 }
 
 /// `- p q`, for numbers of at most `2^61` in size.
+#[inline(always)]
 pub fn minus_product(p: i128, q: i128) -> i128
     requires p { unsigned_abs p ≤ 2 ^ 61 }
     requires q { unsigned_abs q ≤ 2 ^ 61 }
@@ -29,6 +34,7 @@ pub fn minus_product(p: i128, q: i128) -> i128
 }
 
 /// `- p q / a` rounded down, and 1 where it isn't whole, else 0.
+#[inline(always)]
 pub fn quotient(a: i128, p: i128, q: i128) -> (i128, i128)
     requires above { pos 0 <ℤ a }
     requires a { unsigned_abs a ≤ 2 ^ 61 }
@@ -44,11 +50,30 @@ pub fn quotient(a: i128, p: i128, q: i128) -> (i128, i128)
     if number == 0 {
         return (0, 0);
     }
+    if number.unsigned_abs() < NARROW_SIZE {
+        return narrow_quotient(number as i64, a as i64);
+    }
     let floor = floor_div(number, a);
     (floor, gap_of(number, a, floor))
 }
 
+// `number / a` rounded down, and 1 where it isn't whole, else 0, for numbers of 64 bits.
+#[inline(always)]
+fn narrow_quotient(number: i64, a: i64) -> (i128, i128)
+    requires { pos 0 <ℤ a }
+    ensures floor { result.0 ≡ floor_over a number }
+    ensures gap { result.1 ≡ gap_over a number }
+    ensures size { unsigned_abs result.0 ≤ 2 ^ 64 }
+    ensures low { pos 0 ≤ℤ result.1 }
+    ensures high { result.1 ≤ℤ pos 1 }
+{
+    let floor = number.div_euclid(a);
+    let rest = number.rem_euclid(a);
+    (floor as i128, if rest == 0 { 0 } else { 1 })
+}
+
 // 1 where `number / a`, with the floor that was found, isn't whole, else 0.
+#[inline(always)]
 fn gap_of(number: i128, a: i128, floor: i128) -> i128
     requires above { pos 0 <ℤ a }
     requires a { unsigned_abs a ≤ 2 ^ 61 }

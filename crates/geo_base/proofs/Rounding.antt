@@ -72,10 +72,6 @@ pub ceil_of-IsCeiling : (n d : ℤ) → pos 0 <ℤ d → IsCeiling n d (ceil_of 
 unfolding ceil_of
 ceil_of-IsCeiling n d h = IsCeiling-from_floor n d (floor_of (neg_ℤ n) d) (floor_of-IsFloor (neg_ℤ n) d h)
 
-pub ceil_of-size : (n d : ℤ) → pos 0 <ℤ d → unsigned_abs (ceil_of n d) ≤ unsigned_abs n
-unfolding ceil_of
-ceil_of-size n d h = omega (arith, ints, floor_of-size (neg_ℤ n) d h)
-
 -- only one number is a ceiling
 pub IsCeiling-unique : (n d p q : ℤ) → pos 0 <ℤ d → IsCeiling n d p → IsCeiling n d q → p ≡ q
 IsCeiling-unique n d p q h one other =

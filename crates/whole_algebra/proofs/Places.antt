@@ -1,6 +1,6 @@
 -- Matrices entry by entry.
 use Rattle.std.proofs.Common.{◌≡◌, ℕ, zero, suc, ◌+◌, ◌-◌, ◌<◌, ◌≤◌, List, [], ◌∷◌, map, length, take, refl, sym, ◌∙◌, ap, ap₂, arith, ℤ, pos, ◌+ℤ◌, ◌-ℤ◌, ◌*ℤ◌, neg_ℤ, ◌<ℤ◌}
-use Rattle.whole_algebra.specs.Sums.{int_sum, dot}
+use Rattle.whole_algebra.specs.Sums.{int_sum}
 use Rattle.whole_algebra.specs.Rounding.{floor_over, gap_over, ceil_over}
 use Rattle.whole_algebra.specs.Matrices.{at, scale, entries, plus_matrix, minus_matrix, schur, diagonal, off_sums, plus_diagonal, slacks, lower_over, upper_over, IsTriangle}
 use Rattle.whole_algebra.specs.Chains.{beside, next, chain_rows, matrix_after}
@@ -174,21 +174,6 @@ sum_of_first (x ∷ xs) (suc k) = ap (λ t. x +ℤ t) (sum_of_first xs k) ∙ sy
 
 pub int_sum-take_more : (xs : List ℤ) (k : ℕ) → int_sum (take (k + 1) xs) ≡ int_sum (take k xs) +ℤ at xs k
 int_sum-take_more xs k = ap (λ j. int_sum (take j xs)) (one_more k) ∙ sum_of_first xs k
-  where
-    one_more : (k : ℕ) → k + 1 ≡ suc k
-    one_more k = omega arith
-
-dot_of_first : (xs ys : List ℤ) (k : ℕ) → dot (take (suc k) xs) ys ≡ dot (take k xs) ys +ℤ at xs k *ℤ at ys k
-dot_of_first [] ys zero = ring (lit 0) (lit 0 ⊕ lit 0 ⊗ x0) (at ys 0 ∷ []) refl
-dot_of_first [] ys (suc k) = ring (lit 0) (lit 0 ⊕ lit 0 ⊗ x0) (at ys (suc k) ∷ []) refl
-dot_of_first (x ∷ xs) [] zero = ring (lit 0) (lit 0 ⊕ x0 ⊗ lit 0) (x ∷ []) refl
-dot_of_first (x ∷ xs) [] (suc k) = ring (lit 0) (lit 0 ⊕ x0 ⊗ lit 0) (at xs k ∷ []) refl
-dot_of_first (x ∷ xs) (y ∷ ys) zero = ring (x0 ⊗ x1 ⊕ lit 0) (lit 0 ⊕ x0 ⊗ x1) (x ∷ y ∷ []) refl
-dot_of_first (x ∷ xs) (y ∷ ys) (suc k) =
-    ap (λ t. x *ℤ y +ℤ t) (dot_of_first xs ys k) ∙ sym (add_assoc (x *ℤ y) (dot (take k xs) ys) (at xs k *ℤ at ys k))
-
-pub dot-take_more : (xs ys : List ℤ) (k : ℕ) → dot (take (k + 1) xs) ys ≡ dot (take k xs) ys +ℤ at xs k *ℤ at ys k
-dot-take_more xs ys k = ap (λ j. dot (take j xs) ys) (one_more k) ∙ dot_of_first xs ys k
   where
     one_more : (k : ℕ) → k + 1 ≡ suc k
     one_more k = omega arith
