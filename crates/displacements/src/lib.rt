@@ -2,6 +2,8 @@
 #![tactic(auto)]
 
 mod proposal;
+#[cfg(test)]
+mod tests;
 
 pub use geo_model::{breaks, energy, load};
 pub use proposal::propose;
