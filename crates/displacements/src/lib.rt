@@ -1,7 +1,16 @@
-//! Displacements that break a limit: how much a plan resists one, and which are proposed.
+//! Displacements that break a limit under a plan: whether one does, and which is proposed.
+//!
+//! Proved: energy, load and what breaks a limit are exact; what is proposed breaks the limit, and
+//! nothing is proposed only where no displacement by 1 in one unknown breaks it.
+//!
+//! Said by: `energy`, `load`, `breaks` of `geo_model`; `propose`.
+//!
+//! Caller: none yet but its tests.
 #![tactic(auto)]
 
 mod proposal;
+#[cfg(test)]
+mod tests;
 
 pub use geo_model::{breaks, energy, load};
 pub use proposal::propose;

@@ -2,10 +2,11 @@
 //! a `Network` as a record of lists, which keeps its bounds.
 //!
 //! Proved: a network keeps its bounds; a larger plan keeps each limit that is met, and costs at
-//! least as much; no sum over a network leaves 128 bits at displacements of up to 2^15.
+//! least as much; no sum over a network leaves 128 bits at displacements of up to 2^15; energy,
+//! load and what breaks a limit at such a displacement are exact.
 //!
 //! Said by: `Network::new`, `larger_plans_keep_limits`, `larger_plans_cost_more`,
-//! `sums_stay_within_128_bits`.
+//! `sums_stay_within_128_bits`; `energy`, `load`, `breaks`.
 //!
 //! Caller: `is_cheaper` of `branch_bound/src/node_judgements.rt`.
 #![tactic(auto)]

@@ -82,3 +82,15 @@ fn no_lines_are_counted_as_none(rt: HostRuntime) -> Result<(), Fail> {
     assert_eq!(rt; (counts.cuts, counts.duals), (0, 0));
     Ok(())
 }
+
+#[test]
+fn a_displacement_moves_single_unknowns(rt: HostRuntime) -> Result<(), Fail> {
+    let mut x = Displacement::new(rt.alloc(), 3)?;
+    assert_eq!(rt; x.entries(), [0i32, 0, 0].as_slice());
+    x.set(1, 32768);
+    x.set(2, -32768);
+    x.set(1, 7);
+    assert_eq!(rt; (x.get(0), x.get(1), x.get(2)), (0, 7, -32768));
+    assert_eq!(rt; x.entries(), [0i32, 7, -32768].as_slice());
+    Ok(())
+}
