@@ -1,13 +1,13 @@
 -- What each limit means: its load is a sum of squares of forms, and the law of covariances speaks of those.
-use Rattle.std.proofs.Common.{◌≡◌, ◌↔◌, ℕ, ◌*◌, ◌^◌, ◌<◌, ◌≤◌, List, [], ◌∷◌, Bool, Some, length, slice_get, refl, sym, ◌∙◌, ap, ap₂, subst, arith, ℤ, pos, ◌+ℤ◌, ◌-ℤ◌, ◌*ℤ◌, neg_ℤ, ◌≤ℤ◌, ◌<ℤ◌}
+use Rattle.std.proofs.Common.{◌≡◌, ◌↔◌, ℕ, ◌*◌, ◌^◌, ◌<◌, ◌≤◌, List, [], ◌∷◌, Bool, Some, length, slice_get, refl, sym, ◌∙◌, ap, ap₂, subst, arith, ℤ, pos, ◌+ℤ◌, ◌-ℤ◌, ◌*ℤ◌, ◌≤ℤ◌, ◌<ℤ◌}
 use Rattle.std.specs.Prelude.{All}
 use Rattle.std.specs.List.{IsDistinct}
 use Rattle.std.proofs.Math.Nat.{mul-le-mul}
-use Rattle.std.proofs.lemmas.Int.{ints, by_lt_z}
+use Rattle.std.proofs.lemmas.Int.{ints}
 use Rattle.std.proofs.lemmas.Option.{slice_get_within, get_or_from_slice_get}
 use Rattle.whole_algebra.proofs.Ring.{mul_zero}
 use Rattle.whole_algebra.proofs.Order.{le_of_mul_le, mul_pos, square_nonneg}
-use Rattle.whole_algebra.proofs.Normal.{ring, x0, x1, x2, lit, opposite_of, ◌⊕◌, ◌⊗◌}
+use Rattle.whole_algebra.proofs.Normal.{ring, x0, x1, x2, lit, ◌⊕◌, ◌⊗◌}
 use Rattle.covariance_law.specs.Vectors.{Vector, Matrix, inner, applied, form}
 use Rattle.covariance_law.specs.Covariance.{squares, EnergyBearsLoad, VarianceIsWithin}
 use Rattle.covariance_law.proofs.Cauchy.{zero-of-square}
