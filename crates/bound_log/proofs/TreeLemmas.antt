@@ -84,7 +84,7 @@ one_tree text a b small also first second =
 -- ---- a text has one bound
 
 -- the numbers of an allowed tree have at most 19 digits
-allowed_numbers : (network : NetworkOf) (node : Node) (tree : Tree) → IsNetwork network → IsAllowed network node tree → All (HasNumbersBelow number_bound) (tree_lines tree)
+pub allowed_numbers : (network : NetworkOf) (node : Node) (tree : Tree) → IsNetwork network → IsAllowed network node tree → All (HasNumbersBelow number_bound) (tree_lines tree)
 allowed_numbers network node (tip end) bounds allowed =
     All-cons (HasNumbersBelow number_bound) (Leaf end) [] (line_numbers network node (Leaf end) bounds allowed) (All-nil (HasNumbersBelow number_bound))
 allowed_numbers network node (fork candidate with_it without_it) bounds allowed =

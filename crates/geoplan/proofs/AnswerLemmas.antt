@@ -1,9 +1,9 @@
 -- The answer of a command from the status that it has.
 use Rattle.std.proofs.Common.{◌≡◌, ◌⊎◌, inl, inr, ℕ, List, sym, ◌∙◌, subst, None, Some}
 use Rattle.shelf_io.specs.States.{ShelfState}
-use Rattle.geoplan.specs.CommandOf.{JobOf, CommandOf, plan_command, rows_command, check_command, plain_sources, command_of, OnCommand, OnPlan, OnCheck}
+use Rattle.geoplan.specs.CommandOf.{CommandOf, command_of, OnCommand}
 use Rattle.geoplan.specs.Running.{SaysWords, Answered}
-use Rattle.geoplan.specs.Standing.{PlanStands, RowsStand, CheckStands, Stands}
+use Rattle.geoplan.specs.Standing.{Stands}
 use Rattle.geoplan.specs.declared.status.Status.{Status}
 use Rattle.geoplan.specs.declared.status.Status.TheVariants as status
 
@@ -32,15 +32,3 @@ by_command words target begun before now text accepted enough is (inr (none, ref
 pub stands_for : (words : List (List ℕ)) (command : CommandOf) (begun : Status) (before now : ShelfState) (text : List ℕ) → command_of words ≡ Some command → Answered words before now begun text → Stands command before now begun text
 stands_for words command begun before now text is (inl (other, of, stands)) = subst (λ c. Stands c before now begun text) (same_command words other command of is) stands
 stands_for words command begun before now text is (inr (none, refused)) = absurd (not_refused words command is none)
-
--- a status that only `plan` has
-pub by_plan : (words : List (List ℕ)) (target : Status) (before now : ShelfState) (text : List ℕ) → ((points candidates : List ℕ) → RowsStand (plain_sources points candidates) before now target text → ⊥) → ((job : JobOf) → CheckStands job before now target text → ⊥) → OnCommand words (λ command. Stands command before now target text) → OnPlan words (λ job. PlanStands job before now target text)
-by_plan words target before now text never other (plan_command job, of, stands) = (job, of, stands)
-by_plan words target before now text never other (rows_command points candidates, of, stands) = absurd (never points candidates stands)
-by_plan words target before now text never other (check_command job, of, stands) = absurd (other job stands)
-
--- a status that only `check` has
-pub by_check : (words : List (List ℕ)) (target : Status) (before now : ShelfState) (text : List ℕ) → ((points candidates : List ℕ) → RowsStand (plain_sources points candidates) before now target text → ⊥) → ((job : JobOf) → PlanStands job before now target text → ⊥) → OnCommand words (λ command. Stands command before now target text) → OnCheck words (λ job. CheckStands job before now target text)
-by_check words target before now text never other (plan_command job, of, stands) = absurd (other job stands)
-by_check words target before now text never other (rows_command points candidates, of, stands) = absurd (never points candidates stands)
-by_check words target before now text never other (check_command job, of, stands) = (job, of, stands)

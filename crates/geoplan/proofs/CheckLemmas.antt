@@ -1,86 +1,109 @@
 -- What `check` makes of the log that `plan` left.
-use Rattle.std.proofs.Common.{◌≡◌, ◌≤◌, length, ◌⊎◌, inl, inr, ℕ, Bool, true, false, ◌||◌, if◌then◌else◌, List, [], ◌∷◌, refl, sym, ap, ◌∙◌, subst, Option, None, Some, is_some}
-use Rattle.std.specs.Prelude.{codes, drop}
-use Rattle.std.specs.List.{list_all}
+use Rattle.std.proofs.Common.{◌≡◌, ◌≤◌, length, ◌⊎◌, inl, inr, ℕ, Bool, true, false, not, ◌&&◌, ◌||◌, if◌then◌else◌, List, [], ◌∷◌, refl, sym, ap, ap₂, ◌∙◌, subst, Option, None, Some, is_some}
+use Rattle.std.specs.Prelude.{drop}
+use Rattle.std.specs.List.{list_all, AllByRecursion}
 use Rattle.std.specs.Str.{bytes_eq}
-use Rattle.std.specs.Option.{option_map}
+use Rattle.std.specs.Option.{option_map, option_and_then}
 use Rattle.std.proofs.lemmas.Slice.Eq.{bytes_eq-Decides}
 use Rattle.shelf_io.specs.Files.{Files, bytes_of, with_bytes}
 use Rattle.shelf_io.specs.States.{ShelfState}
 use Rattle.shelf_io.proofs.FileLaws.{bytes_of-get, bytes_of-with_bytes, is_some-with_bytes, KeepsOthers-with_bytes}
-use Rattle.bound_log.specs.declared.bound.Bound.{Bound}
+use Rattle.geo_model.specs.Network.{NetworkOf, IsNetwork}
 use Rattle.bound_log.specs.Counted.{counts_of}
-use Rattle.bound_log.specs.LogTree.{HasBound}
+use Rattle.bound_log.specs.LogTree.{root_of, bound_at}
 use Rattle.bound_log.specs.Tree.{tree_lines}
-use Rattle.bound_log.proofs.TreeLemmas.{one_bound}
+use Rattle.bound_log.proofs.TreeLemmas.{one_tree, allowed_numbers}
+use Rattle.log_check.specs.declared.replaying.Replayed.{Replayed}
 use Rattle.log_check.specs.Replayed.{IsReplayed}
-use Rattle.geoplan.specs.Checked.{ChecksWith}
-use Rattle.geoplan.specs.CommandOf.{SourcesOf, JobOf, plan_command, check_command, rows_command, planned_sources, checked_sources, is_plain, are_shared, job_of, command_from, command_of}
 use Rattle.text_num.specs.Digits.{digits_of}
-use Rattle.geoplan.specs.Input.{built_input, most_log_bytes, long_log_or, input_of}
+use Rattle.geoplan.specs.declared.file_kind.FileKind.TheVariants as kind
+use Rattle.geoplan.specs.declared.verb.Verb.{Verb}
+use Rattle.geoplan.specs.declared.verb.Verb.TheVariants as verb
+use Rattle.geoplan.specs.Checked.{planning, checking, ChecksWith}
+use Rattle.geoplan.specs.CommandOf.{SourcesOf, CommandOf, roles_of, most_of, is_plain, are_distinct, no_sources, with_name, with_redundancy, given_by, sources_from, command_by, command_from, command_of, verb_of}
+use Rattle.geoplan.specs.Ends.{AreTables}
+use Rattle.geoplan.specs.Input.{built_input, IsWithin, input_of}
+use Rattle.geoplan.specs.Loading.{tables_input}
 use Rattle.geoplan.specs.Outcomes.{LeavesLog, AcceptsLog}
 use Rattle.geoplan.specs.Promises.{IsCheckStatus, IsStatusOf}
 use Rattle.geoplan.specs.Tables.{TablesOf}
-use Rattle.geoplan.proofs.InputLemmas.{accepted, accepts_tables, fits_log}
+use Rattle.geoplan.proofs.InputLemmas.{accepted, input_of-short}
 
--- ---- the names of a job differ
+-- ---- the names of a plan differ
 
--- the tables of a job have other names than its log
-record HasNames (job : JobOf) : Type 0 where
-  points : bytes_eq job.points job.log ≡ false
-  candidates : bytes_eq job.candidates job.log ≡ false
+-- the tables have other names than the log
+record HasNames (sources : SourcesOf) : Type 0 where
+  points : bytes_eq sources.points sources.log ≡ false
+  candidates : bytes_eq sources.candidates sources.log ≡ false
 
-either_false : (a b c : Bool) → (a || (b || c)) ≡ false → (b ≡ false) × (c ≡ false)
-either_false true b c is = absurd (cc)
-either_false false true c is = absurd (cc)
-either_false false false c is = (refl, is)
+apart_of : (a b d : Bool) → (not (a || (b || false)) && (not (d || false) && true)) ≡ true → (b ≡ false) × (d ≡ false)
+apart_of true b d is = absurd (cc)
+apart_of false true d is = absurd (cc)
+apart_of false false true is = absurd (cc)
+apart_of false false false is = (refl, refl)
 
-abbrev made : List ℕ → List ℕ → List ℕ → ℕ → JobOf
-made points candidates log q = record { points = points; candidates = candidates; redundancy = q; log = log }
+named_by : (points candidates log : List ℕ) (q : Option ℕ) (sources : SourcesOf) → bytes_eq points log ≡ false → bytes_eq candidates log ≡ false →
+    option_and_then (λ now. given_by (drop 3 (roles_of verb.Plan)) (log ∷ []) now) (option_map (λ n. with_redundancy n (with_name kind.Candidates candidates (with_name kind.Points points no_sources))) q) ≡ Some sources → HasNames sources
+named_by points candidates log None sources one two is = absurd (cc)
+named_by points candidates log (Some q) sources one two is =
+    let made : SourcesOf = record { points = points; candidates = candidates; redundancy = q; log = log } in
+    let e : made ≡ sources = cc in
+    subst HasNames e (record { points = one; candidates = two })
 
-made_names : (points candidates log : List ℕ) (q : ℕ) → are_shared points candidates log ≡ false → HasNames (made points candidates log q)
-made_names points candidates log q apart =
-    let both = either_false (bytes_eq points candidates) (bytes_eq points log) (bytes_eq candidates log) apart in
-    record { points = both.0; candidates = both.1 }
+four_names : (points candidates redundancy log : List ℕ) (distinct : Bool) (sources : SourcesOf) → are_distinct (points ∷ candidates ∷ log ∷ []) ≡ distinct →
+    (if distinct then given_by (roles_of verb.Plan) (points ∷ candidates ∷ redundancy ∷ log ∷ []) no_sources else None) ≡ Some sources → HasNames sources
+four_names points candidates redundancy log true sources apart is =
+    let both = apart_of (bytes_eq points candidates) (bytes_eq points log) (bytes_eq candidates log) apart in
+    named_by points candidates log (digits_of 3 redundancy) sources both.0 both.1 is
+four_names points candidates redundancy log false sources apart is = absurd (cc)
 
-named_by : (points candidates log : List ℕ) (shared : Bool) (q : Option ℕ) (job : JobOf) → are_shared points candidates log ≡ shared → (if shared then None else option_map (made points candidates log) q) ≡ Some job → HasNames job
-named_by points candidates log true q job apart is = absurd (cc)
-named_by points candidates log false None job apart is = absurd (cc)
-named_by points candidates log false (Some q) job apart is = let e : made points candidates log q ≡ job = cc in subst HasNames e (made_names points candidates log q apart)
+short_given : (q : Option ℕ) (points candidates : List ℕ) → option_and_then (λ now. given_by (drop 3 (roles_of verb.Plan)) [] now) (option_map (λ n. with_redundancy n (with_name kind.Candidates candidates (with_name kind.Points points no_sources))) q) ≡ None
+short_given None points candidates = refl
+short_given (Some q) points candidates = refl
 
-job_names : (points candidates redundancy log : List ℕ) (job : JobOf) → job_of points candidates redundancy log ≡ Some job → HasNames job
-job_names points candidates redundancy log job is = named_by points candidates log (are_shared points candidates log) (digits_of 3 redundancy) job refl is
+long_given : (q : Option ℕ) (points candidates log more : List ℕ) (rest : List (List ℕ)) →
+    option_and_then (λ now. given_by (drop 3 (roles_of verb.Plan)) (log ∷ more ∷ rest) now) (option_map (λ n. with_redundancy n (with_name kind.Candidates candidates (with_name kind.Points points no_sources))) q) ≡ None
+long_given None points candidates log more rest = refl
+long_given (Some q) points candidates log more rest = refl
 
-plan_job : (planned checked : Bool) (given : Option JobOf) (job : JobOf) → (if planned then option_map plan_command given else (if checked then option_map check_command given else None)) ≡ Some (plan_command job) → given ≡ Some job
-plan_job true checked None job is = absurd (cc)
-plan_job true checked (Some other) job is = cc
-plan_job false true None job is = absurd (cc)
-plan_job false true (Some other) job is = absurd (let e : check_command other ≡ plan_command job = cc in cc)
-plan_job false false given job is = absurd (cc)
+no_sources_from : (distinct : Bool) (given : Option SourcesOf) (sources : SourcesOf) → given ≡ None → (if distinct then given else None) ≡ Some sources → HasNames sources
+no_sources_from true given sources none is = absurd (cc)
+no_sources_from false given sources none is = absurd (cc)
 
-no_rows : (rows shared : Bool) (points candidates : List ℕ) (job : JobOf) → (if rows then (if shared then None else Some (rows_command points candidates)) else None) ≡ Some (plan_command job) → ⊥
-no_rows true true points candidates job is = cc
-no_rows true false points candidates job is = let e : rows_command points candidates ≡ plan_command job = cc in cc
-no_rows false shared points candidates job is = cc
+plan_names : (words : List (List ℕ)) (sources : SourcesOf) → sources_from (roles_of verb.Plan) words ≡ Some sources → HasNames sources
+plan_names [] sources is = absurd (cc)
+plan_names (points ∷ []) sources is = no_sources_from (are_distinct (points ∷ [])) (given_by (roles_of verb.Plan) (points ∷ []) no_sources) sources refl is
+plan_names (points ∷ candidates ∷ []) sources is = no_sources_from (are_distinct (points ∷ candidates ∷ [])) (given_by (roles_of verb.Plan) (points ∷ candidates ∷ []) no_sources) sources refl is
+plan_names (points ∷ candidates ∷ redundancy ∷ []) sources is = no_sources_from (are_distinct (points ∷ candidates ∷ [])) (given_by (roles_of verb.Plan) (points ∷ candidates ∷ redundancy ∷ []) no_sources) sources (short_given (digits_of 3 redundancy) points candidates) is
+plan_names (points ∷ candidates ∷ redundancy ∷ log ∷ []) sources is = four_names points candidates redundancy log (are_distinct (points ∷ candidates ∷ log ∷ [])) sources refl is
+plan_names (points ∷ candidates ∷ redundancy ∷ log ∷ more ∷ rest) sources is = no_sources_from (are_distinct (points ∷ candidates ∷ log ∷ [])) (given_by (roles_of verb.Plan) (points ∷ candidates ∷ redundancy ∷ log ∷ more ∷ rest) no_sources) sources (long_given (digits_of 3 redundancy) points candidates log more rest) is
 
-from_names : (words : List (List ℕ)) (job : JobOf) → command_from words ≡ Some (plan_command job) → HasNames job
-from_names [] job is = absurd (cc)
-from_names (a ∷ []) job is = absurd (cc)
-from_names (a ∷ b ∷ []) job is = absurd (cc)
-from_names (a ∷ b ∷ c ∷ []) job is = absurd (cc)
-from_names (program ∷ command ∷ points ∷ candidates ∷ []) job is = absurd (no_rows (bytes_eq command (codes "rows")) (bytes_eq points candidates) points candidates job is)
-from_names (a ∷ b ∷ c ∷ d ∷ e ∷ []) job is = absurd (cc)
-from_names (program ∷ command ∷ points ∷ candidates ∷ redundancy ∷ log ∷ []) job is =
-    job_names points candidates redundancy log job (plan_job (bytes_eq command (codes "plan")) (bytes_eq command (codes "check")) (job_of points candidates redundancy log) job is)
-from_names (a ∷ b ∷ c ∷ d ∷ e ∷ f ∷ g ∷ rest) job is = absurd (cc)
+verb_names : (verb : Verb) (words : List (List ℕ)) (given : Option SourcesOf) (sources : SourcesOf) → sources_from (roles_of verb) words ≡ given → option_map (λ s. record { verb = verb; sources = s }) given ≡ Some (planning sources) → HasNames sources
+verb_names verb.Plan words None sources from is = absurd (cc)
+verb_names verb.Plan words (Some other) sources from is =
+    let e : planning other ≡ planning sources = cc in
+    plan_names words sources (from ∙ ap (λ (c : CommandOf). Some c.sources) e)
+verb_names verb.Rows words None sources from is = absurd (cc)
+verb_names verb.Rows words (Some other) sources from is = absurd (let e : (record { verb = verb.Rows; sources = other }) ≡ planning sources = cc in let v : verb.Rows ≡ verb.Plan = ap (λ (c : CommandOf). c.verb) e in cc)
+verb_names verb.Check words None sources from is = absurd (cc)
+verb_names verb.Check words (Some other) sources from is = absurd (let e : checking other ≡ planning sources = cc in let v : verb.Check ≡ verb.Plan = ap (λ (c : CommandOf). c.verb) e in cc)
 
-of_by : (plain : Bool) (words : List (List ℕ)) (job : JobOf) → (if plain then command_from words else None) ≡ Some (plan_command job) → HasNames job
-of_by true words job is = from_names words job is
-of_by false words job is = absurd (cc)
+word_names : (found : Option Verb) (words : List (List ℕ)) (sources : SourcesOf) → option_and_then (command_by words) found ≡ Some (planning sources) → HasNames sources
+word_names None words sources is = absurd (cc)
+word_names (Some verb) words sources is = verb_names verb words (sources_from (roles_of verb) words) sources refl is
 
-names-of : (words : List (List ℕ)) (job : JobOf) → command_of words ≡ Some (plan_command job) → HasNames job
+from_names : (words : List (List ℕ)) (sources : SourcesOf) → command_from words ≡ Some (planning sources) → HasNames sources
+from_names [] sources is = absurd (cc)
+from_names (program ∷ []) sources is = absurd (cc)
+from_names (program ∷ word ∷ words) sources is = word_names (verb_of word) words sources is
+
+of_by : (plain : Bool) (words : List (List ℕ)) (sources : SourcesOf) → (if plain then command_from words else None) ≡ Some (planning sources) → HasNames sources
+of_by true words sources is = from_names words sources is
+of_by false words sources is = absurd (cc)
+
+names-of : (words : List (List ℕ)) (sources : SourcesOf) → command_of words ≡ Some (planning sources) → HasNames sources
 unfolding command_of
-names-of words job is = of_by (list_all is_plain (drop 1 words)) words job is
+names-of words sources is = of_by (list_all is_plain (drop 1 words)) words sources is
 
 -- ---- the tables stay
 
@@ -92,59 +115,75 @@ before_told : (held now : Option Files) (name bytes : List ℕ) (after : Files) 
 before_told None now name bytes after written told = absurd (let e : true ≡ false = ap is_some (sym told ∙ written) ∙ is_some-with_bytes None name bytes in cc)
 before_told (Some files) now name bytes after written told = (files, refl)
 
-module _ (words : List (List ℕ)) (job : JobOf) (before now : ShelfState) (tables : TablesOf) (bound : Bound) (planned : command_of words ≡ Some (plan_command job)) (leaves : LeavesLog job before now tables bound) (after : Files) (told : now.held ≡ Some after) where
-  -- a name other than the log's holds what it held
-  stays : (files : Files) → before.held ≡ Some files → (name : List ℕ) → bytes_eq name job.log ≡ false → bytes_of after name ≡ bytes_of files name
-  stays files was name differ =
-      bytes_of-get after files name ((KeepsOthers-with_bytes job.log leaves.log before.held now.held leaves.written).others files after was told name (λ same. apart name job.log differ (sym same)))
+-- a text replays in one way
+same_replay : (one other : Replayed) → one.bound ≡ other.bound → one.counts ≡ other.counts → one ≡ other
+same_replay one other bound counts = ap₂ (λ b c. record { bound = b; counts = c }) bound counts
 
-  -- so with any log that isn't too long the tables are the same
-  same_tables : (sources : SourcesOf) → sources.points ≡ job.points → sources.candidates ≡ job.candidates → sources.redundancy ≡ job.redundancy → long_log_or sources.log after (built_input tables) ≡ built_input tables → input_of sources after ≡ built_input tables
-  same_tables sources one two three fit =
-      let names = names-of words job planned in
-      let was = before_told before.held now.held job.log leaves.log after leaves.written told in
-      let is = accepted (planned_sources job) was.0 tables (leaves.input was.0 was.1) in
-      let points = ap (bytes_of after) one ∙ stays was.0 was.1 job.points names.points in
-      let candidates = ap (bytes_of after) two ∙ stays was.0 was.1 job.candidates names.candidates in
-      accepts_tables sources after tables
-      (record { points = rw points is.points; candidates = rw candidates is.candidates; judged = rw (points, candidates, three) is.judged }) fit
+one_replay : (network : NetworkOf) (text : List ℕ) (one other : Replayed) → IsNetwork network → IsReplayed network text one → IsReplayed network text other → one ≡ other
+one_replay network text one other bounds a b =
+    let tree : a.tree ≡ b.tree =
+    one_tree text a.tree b.tree
+    (allowed_numbers network (root_of network) a.tree bounds a.log.allowed)
+    (allowed_numbers network (root_of network) b.tree bounds b.log.allowed)
+    a.log.spells b.log.spells in
+    same_replay one other
+    (a.least ∙ ap (bound_at network (root_of network)) tree ∙ sym b.least)
+    (a.counted ∙ ap (λ t. counts_of (tree_lines t)) tree ∙ sym b.counted)
+
+module _ (words : List (List ℕ)) (sources : SourcesOf) (tables : TablesOf) (done : Replayed) (before now : ShelfState) (planned : command_of words ≡ Some (planning sources)) (are : AreTables (planning sources) before.held tables) (leaves : LeavesLog tables sources.log done before now) (after : Files) (told : now.held ≡ Some after) where
+  -- a name other than the log's holds what it held
+  stays : (files : Files) → before.held ≡ Some files → (name : List ℕ) → bytes_eq name sources.log ≡ false → bytes_of after name ≡ bytes_of files name
+  stays files was name differ =
+      bytes_of-get after files name ((KeepsOthers-with_bytes sources.log leaves.log before.held now.held leaves.written).others files after was told name (λ same. apart name sources.log differ (sym same)))
+
+  -- so the two tables give the same, and are not too long
+  record StillThere : Type 0 where
+    points : length (bytes_of after sources.points) ≤ most_of kind.Points
+    candidates : length (bytes_of after sources.candidates) ≤ most_of kind.Candidates
+    judged : tables_input sources.redundancy (bytes_of after sources.points) (bytes_of after sources.candidates) ≡ built_input tables
+
+  still_there : StillThere
+  still_there =
+      let names = names-of words sources planned in
+      let was = before_told before.held now.held sources.log leaves.log after leaves.written told in
+      let is = accepted (planning sources) was.0 tables (are was.0 was.1) in
+      let points = stays was.0 was.1 sources.points names.points in
+      let candidates = stays was.0 was.1 sources.candidates names.candidates in
+      record { points = rw points is.short.0; candidates = rw candidates is.short.1.0; judged = rw (points, candidates) is.judged }
 
   -- ---- what check makes of it
 
-  has_bound : HasBound tables.network (bytes_of after job.log) bound
-  has_bound = subst (λ text. HasBound tables.network text bound) (sym (bytes_of-with_bytes before.held now.held job.log leaves.log leaves.written after told)) leaves.shown
+  has_log : bytes_of after sources.log ≡ leaves.log
+  has_log = bytes_of-with_bytes before.held now.held sources.log leaves.log leaves.written after told
+
+  replays : IsReplayed tables.network (bytes_of after sources.log) done
+  replays = subst (λ text. IsReplayed tables.network text done) (sym has_log) leaves.replayed
 
   -- the text has no fault
-  right : (s : ℕ) → IsCheckStatus tables (bytes_of after job.log) s → (s ≡ 0) ⊎ (s ≡ 7)
+  right : (s : ℕ) → IsCheckStatus tables (bytes_of after sources.log) s → (s ≡ 0) ⊎ (s ≡ 7)
   right s (inl (is, log)) = inl is
-  right s (inr (inl (is, wrong))) = absurd (wrong.no_log has_bound.tree has_bound.log)
+  right s (inr (inl (is, wrong))) = absurd (wrong.no_log replays.tree replays.log)
   right s (inr (inr is)) = inr is
 
   -- with a log that isn't too long the same tables are found
-  found : length (bytes_of after job.log) ≤ most_log_bytes → input_of (checked_sources job) after ≡ built_input tables
-  found short = same_tables (checked_sources job) refl refl refl (fits_log job.log after (built_input tables) short)
+  found : length (bytes_of after sources.log) ≤ most_of kind.Log → input_of (checking sources) after ≡ built_input tables
+  found short = input_of-short (checking sources) after (still_there.points, (still_there.candidates, (short, tt))) ∙ still_there.judged
 
-  -- the tables of an accepted log are the same
-  found_tables : (at at_now : ShelfState) (text : List ℕ) → at.held ≡ Some after → (accepts : AcceptsLog job at at_now text) → accepts.tables ≡ tables
-  found_tables at at_now text holds accepts =
-      let is = accepted (checked_sources job) after accepts.tables (accepts.input after holds) in
-      let without : input_of (planned_sources job) after ≡ built_input accepts.tables =
-      accepts_tables (planned_sources job) after accepts.tables (record { points = is.points; candidates = is.candidates; judged = is.judged }) refl in
-      let e : built_input accepts.tables ≡ built_input tables = sym without ∙ same_tables (planned_sources job) refl refl refl refl in
+  -- .. and no others are
+  found_tables : (other : TablesOf) → input_of (checking sources) after ≡ built_input other → other ≡ tables
+  found_tables other is =
+      let e : built_input other ≡ built_input tables = sym (accepted (checking sources) after other is).judged ∙ still_there.judged in
       cc
 
-  -- .. and so is its bound
-  found_bound : (at at_now : ShelfState) (text : List ℕ) → at.held ≡ Some after → (accepts : AcceptsLog job at at_now text) → accepts.done.bound ≡ bound
-  found_bound at at_now text holds accepts =
-      let is : IsReplayed tables.network (bytes_of after job.log) accepts.done =
-      subst (λ (t : TablesOf). IsReplayed t.network (bytes_of after job.log) accepts.done) (found_tables at at_now text holds accepts) (accepts.replayed after holds) in
-      one_bound tables.network (bytes_of after job.log) accepts.done.bound bound leaves.network (record { tree = is.tree; log = is.log; least = is.least }) has_bound
+  same_done : (accepts_done : Replayed) → IsReplayed tables.network (bytes_of after sources.log) accepts_done → accepts_done ≡ done
+  same_done other is = one_replay tables.network (bytes_of after sources.log) other done leaves.network is replays
 
-  pub checks_with : ChecksWith job tables bound after
+  pub checks_with : ChecksWith sources tables done after
   checks_with = record {
-    replayed = (record { bound = bound; counts = counts_of (tree_lines has_bound.tree) }, record { tree = has_bound.tree; log = has_bound.log; least = has_bound.least; counted = refl }, refl);
+    replayed = replays;
     checked = found;
     status = λ short s complete.
-        right s (subst (λ given. IsStatusOf (check_command job) given after s) (found short) complete);
-    same_bound = λ at at_now text holds accepts. found_bound at at_now text holds accepts;
+        right s (subst (λ given. IsStatusOf (checking sources) given after s) (found short) complete);
+    same = λ other is at at_now text accepts.
+        same_done accepts.done (subst (λ (t : TablesOf). IsReplayed t.network (bytes_of after sources.log) accepts.done) (found_tables other is) accepts.replayed);
   }

@@ -1,11 +1,16 @@
 -- What the files of a command give, case by case.
-use Rattle.std.proofs.Common.{◌≡◌, ◌<◌, ◌≤◌, ℕ, Bool, true, false, if◌then◌else◌, List, length, refl, ap, ◌∙◌, subst, arith, Option, Some, None}
-use Rattle.std.specs.Prelude.{nat_lt}
+use Rattle.std.proofs.Common.{◌≡◌, ◌<◌, ◌≤◌, ℕ, Bool, true, false, if◌then◌else◌, List, [], ◌∷◌, ◌++◌, length, refl, sym, ap, ◌∙◌, arith}
+use Rattle.std.specs.Prelude.{nat_lt, drop}
+use Rattle.std.specs.List.{AllByRecursion}
 use Rattle.std.proofs.lemmas.Bool.Decides.{nat_tests}
 use Rattle.shelf_io.specs.Files.{Files, bytes_of}
-use Rattle.geoplan.specs.CommandOf.{SourcesOf}
-use Rattle.geoplan.specs.Input.{InputOf, too_long_input, built_input, most_bytes, most_log_bytes, too_long_or, long_log_or, judged_input, input_of}
-use Rattle.geoplan.specs.Loading.{HasLog}
+use Rattle.geoplan.specs.declared.file_kind.FileKind.{FileKind}
+use Rattle.geoplan.specs.declared.file_kind.FileKind.TheVariants as kind
+use Rattle.geoplan.specs.declared.verb.Verb.{Verb}
+use Rattle.geoplan.specs.declared.verb.Verb.TheVariants as verb
+use Rattle.geoplan.specs.CommandOf.{SourcesOf, CommandOf, FileOf, reads, file_of, files_read}
+use Rattle.geoplan.specs.Input.{InputOf, too_long_input, built_input, IsWithin, too_long_or, judged_input, bytes_held, input_of}
+use Rattle.geoplan.specs.Loading.{tables_input, more_read}
 use Rattle.geoplan.specs.Tables.{TablesOf}
 
 is_long : (most n : ℕ) → most < n → nat_lt most n ≡ true
@@ -14,79 +19,76 @@ is_long most n long = grind (arith, nat_tests)
 fits : (most n : ℕ) → n ≤ most → nat_lt most n ≡ false
 fits most n short = grind (arith, nat_tests)
 
--- ---- the log of a command
+short_by : (most n : ℕ) → nat_lt most n ≡ false → n ≤ most
+short_by most n is = grind (arith, nat_tests)
 
--- it isn't too long
-pub short_log : (log : Option (List ℕ)) (bytes : List ℕ) (held : Option Files) (given : InputOf) → HasLog log bytes held → (files : Files) → held ≡ Some files → long_log_or log files given ≡ given
-short_log None bytes held given has files told = refl
-short_log (Some name) bytes held given has files told =
-    rw (fits most_log_bytes (length (bytes_of files name)) (subst (λ b. length b ≤ most_log_bytes) (has.1 files told) has.0)) refl
+-- ---- the first file that is too long
 
--- .. and these are its bytes
-pub log_held : (log : Option (List ℕ)) (bytes : List ℕ) (held : Option Files) → HasLog log bytes held → (name : List ℕ) → log ≡ Some name → (files : Files) → held ≡ Some files → bytes ≡ bytes_of files name
-log_held None bytes held has name is files told = absurd (cc)
-log_held (Some other) bytes held has name is files told = let e : other ≡ name = cc in has.1 files told ∙ ap (bytes_of files) e
+module _ (files : Files) where
+  -- files that are not too long give what is given then
+  pub too_long_or-within : (read : List FileOf) (given : InputOf) → AllByRecursion (IsWithin files) read → too_long_or files read given ≡ given
+  too_long_or-within [] given all = refl
+  too_long_or-within (file ∷ later) given all = rw (fits file.most (length (bytes_of files file.name)) all.0) (too_long_or-within later given all.1)
 
--- ---- what the files give
+  -- one after such files is the first
+  pub too_long_or-first : (earlier : List FileOf) (file : FileOf) (later : List FileOf) (given : InputOf) → AllByRecursion (IsWithin files) earlier → file.most < length (bytes_of files file.name) → too_long_or files (earlier ++ file ∷ later) given ≡ too_long_input file.name
+  too_long_or-first [] file later given all long = rw (is_long file.most (length (bytes_of files file.name)) long) refl
+  too_long_or-first (one ∷ earlier) file later given all long = rw (fits one.most (length (bytes_of files one.name)) all.0) (too_long_or-first earlier file later given all.1 long)
 
-module _ (sources : SourcesOf) (files : Files) where
-  -- too long a table of points
-  pub long_points : most_bytes < length (bytes_of files sources.points) → input_of sources files ≡ too_long_input sources.points
+  -- where tables are built, no file is too long
+  pub record IsShort (read : List FileOf) (given : InputOf) (tables : TablesOf) : Type 0 where
+    pub all : AllByRecursion (IsWithin files) read
+    pub rest : given ≡ built_input tables
+
+  one_shorter : (file : FileOf) (given : InputOf) (tables : TablesOf) (long : Bool) → nat_lt file.most (length (bytes_of files file.name)) ≡ long → (if long then too_long_input file.name else given) ≡ built_input tables → IsWithin files file × (given ≡ built_input tables)
+  one_shorter file given tables true is built = absurd (cc)
+  one_shorter file given tables false is built = (short_by file.most (length (bytes_of files file.name)) is, built)
+
+  pub all_short : (read : List FileOf) (given : InputOf) (tables : TablesOf) → too_long_or files read given ≡ built_input tables → IsShort read given tables
+  all_short [] given tables built = record { all = tt; rest = built }
+  all_short (file ∷ later) given tables built =
+      let one = one_shorter file (too_long_or files later given) tables (nat_lt file.most (length (bytes_of files file.name))) refl built in
+      let more = all_short later given tables one.1 in
+      record { all = (one.0, more.all); rest = more.rest }
+
+-- ---- the files of a command
+
+-- the two tables come first
+tables_first : (verb : Verb) (sources : SourcesOf) → files_read (record { verb = verb; sources = sources }) ≡ file_of sources kind.Points ∷ file_of sources kind.Candidates ∷ drop 2 (files_read (record { verb = verb; sources = sources }))
+tables_first verb.Plan sources = refl
+tables_first verb.Rows sources = refl
+tables_first verb.Check sources = refl
+
+pub files_read-tables : (command : CommandOf) → files_read command ≡ file_of command.sources kind.Points ∷ file_of command.sources kind.Candidates ∷ more_read command
+files_read-tables command = tables_first command.verb command.sources
+
+-- what is judged are the two tables
+pub judged_input-tables : (verb : Verb) (redundancy : ℕ) (bytes : FileKind → List ℕ) → judged_input redundancy bytes (reads verb) ≡ tables_input redundancy (bytes kind.Points) (bytes kind.Candidates)
+unfolding judged_input tables_input
+judged_input-tables verb.Plan redundancy bytes = refl
+judged_input-tables verb.Rows redundancy bytes = refl
+judged_input-tables verb.Check redundancy bytes = refl
+
+module _ (command : CommandOf) (files : Files) where
+  -- a file after such that aren't too long is
+  pub input_of-long : (earlier : List FileOf) (file : FileOf) (later : List FileOf) → files_read command ≡ earlier ++ file ∷ later → AllByRecursion (IsWithin files) earlier → file.most < length (bytes_of files file.name) → input_of command files ≡ too_long_input file.name
   unfolding input_of
-  long_points long = rw (is_long most_bytes (length (bytes_of files sources.points)) long) refl
+  input_of-long earlier file later order all long =
+      ap (λ read. too_long_or files read (judged_input command.sources.redundancy (bytes_held command files) (reads command.verb))) order
+      ∙ too_long_or-first files earlier file later _ all long
 
-  -- too long a table of candidates
-  pub long_candidates : length (bytes_of files sources.points) ≤ most_bytes → most_bytes < length (bytes_of files sources.candidates) → input_of sources files ≡ too_long_input sources.candidates
+  -- none is
+  pub input_of-short : AllByRecursion (IsWithin files) (files_read command) → input_of command files ≡ tables_input command.sources.redundancy (bytes_of files command.sources.points) (bytes_of files command.sources.candidates)
   unfolding input_of
-  long_candidates short long = rw (fits most_bytes (length (bytes_of files sources.points)) short, is_long most_bytes (length (bytes_of files sources.candidates)) long) refl
+  input_of-short all = too_long_or-within files (files_read command) _ all ∙ judged_input-tables command.verb command.sources.redundancy (bytes_held command files)
 
-  -- too long a log
-  pub long_log : length (bytes_of files sources.points) ≤ most_bytes → length (bytes_of files sources.candidates) ≤ most_bytes → (name : List ℕ) → sources.log ≡ Some name → most_log_bytes < length (bytes_of files name) → input_of sources files ≡ too_long_input name
+  -- what accepted tables say of their files
+  pub record IsAccepted (tables : TablesOf) : Type 0 where
+    pub short : AllByRecursion (IsWithin files) (files_read command)
+    pub judged : tables_input command.sources.redundancy (bytes_of files command.sources.points) (bytes_of files command.sources.candidates) ≡ built_input tables
+
+  pub accepted : (tables : TablesOf) → input_of command files ≡ built_input tables → IsAccepted tables
   unfolding input_of
-  long_log short few name is long =
-      rw (fits most_bytes (length (bytes_of files sources.points)) short, fits most_bytes (length (bytes_of files sources.candidates)) few, is, is_long most_log_bytes (length (bytes_of files name)) long) refl
-
-  -- none is too long
-  pub none_long : length (bytes_of files sources.points) ≤ most_bytes → length (bytes_of files sources.candidates) ≤ most_bytes → (given : InputOf) → given ≡ judged_input sources.redundancy (bytes_of files sources.points) (bytes_of files sources.candidates) → long_log_or sources.log files given ≡ given → input_of sources files ≡ given
-  unfolding input_of
-  none_long short few given is fit =
-      rw (fits most_bytes (length (bytes_of files sources.points)) short, fits most_bytes (length (bytes_of files sources.candidates)) few, ← is) fit
-
--- ---- accepted tables
-
--- a file of accepted tables isn't too long
-record IsShort (most : ℕ) (bytes : List ℕ) (given : InputOf) (tables : TablesOf) : Type 0 where
-  short : nat_lt most (length bytes) ≡ false
-  rest : given ≡ built_input tables
-
-short_by : (most : ℕ) (name bytes : List ℕ) (given : InputOf) (tables : TablesOf) (long : Bool) → nat_lt most (length bytes) ≡ long → (if long then too_long_input name else given) ≡ built_input tables → IsShort most bytes given tables
-short_by most name bytes given tables true is built = absurd (cc)
-short_by most name bytes given tables false is built = record { short = is; rest = built }
-
-is_short : (most : ℕ) (name bytes : List ℕ) (given : InputOf) (tables : TablesOf) → too_long_or most name bytes given ≡ built_input tables → IsShort most bytes given tables
-is_short most name bytes given tables built = short_by most name bytes given tables (nat_lt most (length bytes)) refl built
-
-past_log : (log : Option (List ℕ)) (files : Files) (given : InputOf) (tables : TablesOf) → long_log_or log files given ≡ built_input tables → given ≡ built_input tables
-past_log None files given tables built = built
-past_log (Some name) files given tables built = (is_short most_log_bytes name (bytes_of files name) given tables built).rest
-
--- what accepted tables say of their files
-pub record IsAccepted (sources : SourcesOf) (files : Files) (tables : TablesOf) : Type 0 where
-  pub points : nat_lt most_bytes (length (bytes_of files sources.points)) ≡ false
-  pub candidates : nat_lt most_bytes (length (bytes_of files sources.candidates)) ≡ false
-  pub judged : judged_input sources.redundancy (bytes_of files sources.points) (bytes_of files sources.candidates) ≡ built_input tables
-
-pub accepted : (sources : SourcesOf) (files : Files) (tables : TablesOf) → input_of sources files ≡ built_input tables → IsAccepted sources files tables
-unfolding input_of
-accepted sources files tables built =
-    let one = is_short most_bytes sources.points (bytes_of files sources.points) _ tables built in
-    let two = is_short most_bytes sources.candidates (bytes_of files sources.candidates) _ tables one.rest in
-    record { points = one.short; candidates = two.short; judged = past_log sources.log files _ tables two.rest }
-
-pub accepts_tables : (sources : SourcesOf) (files : Files) (tables : TablesOf) → IsAccepted sources files tables → long_log_or sources.log files (built_input tables) ≡ built_input tables → input_of sources files ≡ built_input tables
-unfolding input_of
-accepts_tables sources files tables is fit = rw (is.points, is.candidates, is.judged) fit
-
--- a log of at most so many bytes isn't too long
-pub fits_log : (name : List ℕ) (files : Files) (given : InputOf) → length (bytes_of files name) ≤ most_log_bytes → long_log_or (Some name) files given ≡ given
-fits_log name files given short = rw (fits most_log_bytes (length (bytes_of files name)) short) refl
+  accepted tables built =
+      let is = all_short files (files_read command) (judged_input command.sources.redundancy (bytes_held command files) (reads command.verb)) tables built in
+      record { short = is.all; judged = sym (judged_input-tables command.verb command.sources.redundancy (bytes_held command files)) ∙ is.rest }

@@ -1,6 +1,7 @@
--- Laws of reading the tables and of what they give.
-use Rattle.std.proofs.Common.{◌≡◌, inl, inr, ap, Option, ◌+◌, ◌<◌, ◌≤◌, ℕ, Bool, true, false, if◌then◌else◌, List, [], ◌∷◌, ◌++◌, length, refl, sym, ◌∙◌, subst, arith, Some}
+-- Laws of reading the files of a command and of what they give.
+use Rattle.std.proofs.Common.{◌≡◌, ap, Option, ◌+◌, ◌<◌, ◌≤◌, ℕ, Bool, true, false, if◌then◌else◌, List, [], ◌∷◌, ◌++◌, length, refl, sym, ◌∙◌, subst, arith, Some}
 use Rattle.std.specs.Prelude.{All}
+use Rattle.std.specs.Option.{ForSome}
 use Rattle.shelf_io.specs.Files.{Files, bytes_of}
 use Rattle.shelf_io.specs.Faults.{Rose, KeepsFaults, read_of}
 use Rattle.std.specs.List.{AllByRecursion, enumerate_from, flat_map}
@@ -15,72 +16,125 @@ use Rattle.design_rows.specs.Unknowns.{coordinates, is_new, is_station, orientat
 use Rattle.design_rows.proofs.EntryFacts.{all-of}
 use Rattle.design_rows.proofs.UnknownFacts.{every-append, every-weaker}
 use Rattle.net_build.specs.Build.{candidate_of, network_of}
-use Rattle.geoplan.specs.CommandOf.{SourcesOf}
-use Rattle.geoplan.specs.Input.{too_long_input, most_bytes, most_log_bytes, judged_input, input_of}
-use Rattle.geoplan.specs.Loading.{IsGoodNetwork, input_view, HasBytes, ReadsFile, ReadsLog, HasReadFault, FailsRead, FailsLog, IsGoodInput, Loads, HasLoadFault, FailsLoad}
-use Rattle.geoplan.specs.Outcomes.{IsQuiet, IsOfCommand}
+use Rattle.geoplan.specs.declared.file_kind.FileKind.TheVariants as kind
 use Rattle.geoplan.specs.declared.load.LoadFault.{LoadFault}
 use Rattle.geoplan.specs.declared.load.LoadFault.TheVariants as load
+use Rattle.geoplan.specs.CommandOf.{CommandOf, FileOf, file_of, files_read}
+use Rattle.geoplan.specs.Input.{InputOf, too_long_input, refused_input, built_input, IsWithin, input_of}
+use Rattle.geoplan.specs.Loading.{IsGoodNetwork, refused_view, HasBytes, ReadsFile, HasReadFault, FailsRead, ReadsAll, more_read, ReadsMore, FailsMore, Loads, FailsInOrder, HasLoadFault, FailsLoad, tables_input, IsRefusal}
 use Rattle.geoplan.specs.Tables.{TablesOf}
-use Rattle.geoplan.specs.declared.input.Input.{Input}
-use Rattle.geoplan.specs.declared.input.Input.TheVariants as input
-use Rattle.geoplan.proofs.InputLemmas.{long_points, long_candidates, long_log, none_long, short_log, log_held}
+use Rattle.geoplan.proofs.InputLemmas.{files_read-tables, input_of-long, input_of-short}
 
 -- ---- reading
 
 -- no fault is counted in two steps where none is in each
-keeps : (before middle now : ShelfState) → KeepsFaults middle now → KeepsFaults before middle → KeepsFaults before now
+pub keeps : (before middle now : ShelfState) → KeepsFaults middle now → KeepsFaults before middle → KeepsFaults before now
 keeps before middle now two one = record { same_count = two.same_count ∙ one.same_count; same_last = two.same_last ∙ one.same_last }
 
--- a file was not read after others were
-fails_load : (sources : SourcesOf) (most : ℕ) (name : List ℕ) (why : LoadFault) (before middle now : ShelfState) → middle.held ≡ before.held → IsQuiet before middle → IsOfCommand sources name → ((files : Files) → before.held ≡ Some files → most < length (bytes_of files name) → input_of sources files ≡ too_long_input name) → FailsRead most name why middle now → FailsLoad sources why before now
-fails_load sources most name why before middle now held quiet of_command long fails = record {
-  held = fails.held ∙ held;
-  later = subst (λ n. n ≤ now.faults) quiet.same_count fails.later;
-  cause = cause_of why fails.cause;
-}
-  where
-    cause_of : (why : LoadFault) → HasReadFault most name why middle now → HasLoadFault sources why before now
-    cause_of (load.TooLong other) (same, too_long, still) = (λ files told. long files told (too_long files (held ∙ told)) ∙ ap too_long_input (sym same), keeps before middle now still quiet)
-    cause_of (load.Unread other) (same, fault) =
-        (subst (λ n. IsOfCommand sources n) (sym same) of_command, record { rose = subst (λ n. Rose n now.faults) quiet.same_count fault.rose; last = fault.last ∙ ap (λ n. Some (read_of n)) (sym same) })
-    cause_of load.NoMemory free = tt
+-- before anything is read
+pub ReadsAll-none : (state : ShelfState) → ReadsAll [] state state
+ReadsAll-none state = record { within = λ files told. tt; held = refl; quiet = record { same_count = refl; same_last = refl } }
 
--- bytes that were read are within the limit, where they are told
-within : (most : ℕ) (name bytes : List ℕ) (held : Option Files) → HasBytes most name bytes held → (files : Files) → held ≡ Some files → length (bytes_of files name) ≤ most
-within most name bytes held has files told = subst (λ b. length b ≤ most) (has.1 files told) has.0
+every-snoc : (P : FileOf → Type 0) (files : List FileOf) (file : FileOf) → AllByRecursion P files → P file → AllByRecursion P (files ++ file ∷ [])
+every-snoc P [] file all one = (one, tt)
+every-snoc P (first ∷ files) file all one = (all.0, every-snoc P files file all.1 one)
+
+-- one file more
+pub ReadsAll-one : (files : List FileOf) (file : FileOf) (bytes : List ℕ) (before middle now : ShelfState) → ReadsAll files before middle → ReadsFile file bytes middle now → ReadsAll (files ++ file ∷ []) before now
+ReadsAll-one files file bytes before middle now all one = record {
+  within = λ held told.
+      every-snoc (IsWithin held) files file (all.within held told)
+      (subst (λ b. length b ≤ file.most) (one.has.1 held (all.held ∙ told)) one.has.0);
+  held = one.held ∙ all.held;
+  quiet = keeps before middle now one.quiet all.quiet;
+}
+
+-- more files
+pub ReadsAll-more : (files more : List FileOf) (before middle now : ShelfState) → ReadsAll files before middle → ReadsAll more middle now → ReadsAll (files ++ more) before now
+ReadsAll-more files more before middle now all rest = record {
+  within = λ held told. every-append (IsWithin held) files more (all.within held told) (rest.within held (all.held ∙ told));
+  held = rest.held ∙ all.held;
+  quiet = keeps before middle now rest.quiet all.quiet;
+}
+
+-- a file was not read after others were
+module _ (command : CommandOf) (earlier : List FileOf) (file : FileOf) (later : List FileOf) (order : files_read command ≡ earlier ++ file ∷ later) (before middle now : ShelfState) (all : ReadsAll earlier before middle) where
+  cause_of : (why : LoadFault) → HasReadFault file why middle now → HasLoadFault command why before now
+  cause_of (load.TooLong other) (same, too_long, still) =
+      (λ files told. input_of-long command files earlier file later order (all.within files told) (too_long files (all.held ∙ told)) ∙ ap too_long_input (sym same), keeps before middle now still all.quiet)
+  cause_of (load.Unread other) (same, fault) = record {
+    earlier = earlier;
+    file = file;
+    later = later;
+    order = order;
+    within = λ held told. all-of (IsWithin held) earlier (all.within held told);
+    same_name = same;
+    fault = record { rose = subst (λ n. Rose n now.faults) all.quiet.same_count fault.rose; last = fault.last };
+  }
+  cause_of (load.Refused refused) never = absurd never
+  cause_of load.NoMemory free = tt
+
+  pub FailsLoad-at : (why : LoadFault) → FailsRead file why middle now → FailsLoad command why before now
+  FailsLoad-at why fails = record {
+    held = fails.held ∙ all.held;
+    later = subst (λ n. n ≤ now.faults) all.quiet.same_count fails.later;
+    cause = cause_of why fails.cause;
+  }
 
 -- the points were not read
-pub FailsLoad-points : (sources : SourcesOf) (why : LoadFault) (before now : ShelfState) → FailsRead most_bytes sources.points why before now → FailsLoad sources why before now
-FailsLoad-points sources why before now fails =
-    fails_load sources most_bytes sources.points why before before now refl (record { same_count = refl; same_last = refl }) (inl refl) (λ files told long. long_points sources files long) fails
+pub FailsLoad-points : (command : CommandOf) (why : LoadFault) (before now : ShelfState) → FailsRead (file_of command.sources kind.Points) why before now → FailsLoad command why before now
+FailsLoad-points command why before now fails =
+    FailsLoad-at command [] (file_of command.sources kind.Points) (file_of command.sources kind.Candidates ∷ more_read command) (files_read-tables command) before before now (ReadsAll-none before) why fails
 
--- the candidates were not
-pub FailsLoad-candidates : (sources : SourcesOf) (points : List ℕ) (why : LoadFault) (before middle now : ShelfState) → ReadsFile most_bytes sources.points points before middle → FailsRead most_bytes sources.candidates why middle now → FailsLoad sources why before now
-FailsLoad-candidates sources points why before middle now one fails =
-    fails_load sources most_bytes sources.candidates why before middle now one.held one.quiet (inr (inl refl))
-    (λ files told long. long_candidates sources files (within most_bytes sources.points points before.held one.has files told) long) fails
+module _ (command : CommandOf) (points : List ℕ) (before first : ShelfState) (one : ReadsFile (file_of command.sources kind.Points) points before first) where
+  one_read : ReadsAll (file_of command.sources kind.Points ∷ []) before first
+  one_read = ReadsAll-one [] (file_of command.sources kind.Points) points before before first (ReadsAll-none before) one
 
--- the log was not
-pub FailsLoad-log : (sources : SourcesOf) (points candidates : List ℕ) (why : LoadFault) (before first second now : ShelfState) → ReadsFile most_bytes sources.points points before first → ReadsFile most_bytes sources.candidates candidates first second → FailsLog sources.log why second now → FailsLoad sources why before now
-FailsLoad-log sources points candidates why before first second now one two (name, is, fails) =
-    fails_load sources most_log_bytes name why before second now (two.held ∙ one.held) (keeps before first second two.quiet one.quiet) (inr (inr is))
-    (λ files told long. long_log sources files (within most_bytes sources.points points before.held one.has files told)
-    (within most_bytes sources.candidates candidates first.held two.has files (one.held ∙ told)) name is long) fails
+  -- the candidates were not
+  pub FailsLoad-candidates : (why : LoadFault) (now : ShelfState) → FailsRead (file_of command.sources kind.Candidates) why first now → FailsLoad command why before now
+  FailsLoad-candidates why now fails =
+      FailsLoad-at command (file_of command.sources kind.Points ∷ []) (file_of command.sources kind.Candidates) (more_read command) (files_read-tables command) before first now one_read why fails
 
--- all were read, and the tables are judged
-pub Loads-judged : (sources : SourcesOf) (points candidates log : List ℕ) (given : Input) (before first second now : ShelfState) → ReadsFile most_bytes sources.points points before first → ReadsFile most_bytes sources.candidates candidates first second → ReadsLog sources.log log second now → input_view given ≡ judged_input sources.redundancy points candidates → IsGoodInput given → Loads sources given log before now
-Loads-judged sources points candidates log given before first second now one two three is good = record {
-  input = λ files told.
-      let was = two.held ∙ one.held ∙ told in
-      sym (none_long sources files (within most_bytes sources.points points before.held one.has files told)
-      (within most_bytes sources.candidates candidates first.held two.has files (one.held ∙ told)) (input_view given)
-      (rw (← one.has.1 files told, ← two.has.1 files (one.held ∙ told)) is) (short_log sources.log log second.held (input_view given) three.has files was));
-  good = good;
-  read = λ tables built name asked files told. log_held sources.log log second.held three.has name asked files (two.held ∙ one.held ∙ told);
-  held = three.held ∙ two.held ∙ one.held;
-  quiet = keeps before second now three.quiet (keeps before first second two.quiet one.quiet);
-}
+  module _ (candidates : List ℕ) (second : ShelfState) (two : ReadsFile (file_of command.sources kind.Candidates) candidates first second) where
+    two_read : ReadsAll (file_of command.sources kind.Points ∷ file_of command.sources kind.Candidates ∷ []) before second
+    two_read = ReadsAll-one (file_of command.sources kind.Points ∷ []) (file_of command.sources kind.Candidates) candidates before first second one_read two
+
+    -- the file after them was not
+    pub FailsLoad-more : (why : LoadFault) (now : ShelfState) → FailsMore command why second now → FailsLoad command why before now
+    FailsLoad-more why now more =
+        FailsLoad-at command (file_of command.sources kind.Points ∷ file_of command.sources kind.Candidates ∷ []) more.file []
+        (files_read-tables command ∙ ap (λ files. file_of command.sources kind.Points ∷ file_of command.sources kind.Candidates ∷ files) more.one) before second now two_read why more.fails
+
+    module _ (log : List ℕ) (now : ShelfState) (three : ReadsMore command log second now) where
+      all_read : ReadsAll (file_of command.sources kind.Points ∷ file_of command.sources kind.Candidates ∷ more_read command) before now
+      all_read = ReadsAll-more (file_of command.sources kind.Points ∷ file_of command.sources kind.Candidates ∷ []) (more_read command) before second now two_read three.all
+
+      -- what the files give is what the bytes that were read give
+      input_is : (files : Files) → before.held ≡ Some files → input_of command files ≡ tables_input command.sources.redundancy points candidates
+      input_is files told =
+          let short : AllByRecursion (IsWithin files) (files_read command) =
+          subst (λ read. AllByRecursion (IsWithin files) read) (sym (files_read-tables command)) (all_read.within files told) in
+          rw (one.has.1 files told, two.has.1 files (one.held ∙ told)) (input_of-short command files short)
+
+      -- all were read, and the tables are accepted
+      pub Loads-judged : (tables : TablesOf) → tables_input command.sources.redundancy points candidates ≡ built_input tables → IsGoodNetwork tables → Loads command tables log before now
+      Loads-judged tables is good = record {
+        input = λ files told. input_is files told ∙ is;
+        good = good;
+        read = λ asks files told. three.read asks files (two.held ∙ one.held ∙ told);
+        held = all_read.held;
+        quiet = all_read.quiet;
+      }
+
+      refused_as : (why : LoadFault) → IsRefusal (tables_input command.sources.redundancy points candidates) why → HasLoadFault command why before now
+      refused_as (load.TooLong name) never = absurd never
+      refused_as (load.Unread name) never = absurd never
+      refused_as (load.Refused refused) is = (λ files told. input_is files told ∙ is, all_read.quiet)
+      refused_as load.NoMemory free = tt
+
+      -- .. or are not
+      pub FailsLoad-judged : (why : LoadFault) → IsRefusal (tables_input command.sources.redundancy points candidates) why → FailsLoad command why before now
+      FailsLoad-judged why is = record { held = all_read.held; later = omega (arith, all_read.quiet.same_count); cause = refused_as why is }
 
 -- ---- the network
 
@@ -127,10 +181,9 @@ good_network redundancy points candidates bounds = record {
 -- so what is built is good
 pub good_tables : (redundancy : ℕ) (points : List PointRecord) (candidates : List CandidateRecord) (network : NetworkOf) (tables : TablesOf) →
     tables ≡ record { points = points; candidates = candidates; network = network } → network ≡ network_of points candidates redundancy → IsNetwork network →
-    IsGoodInput (input.Built tables)
-good_tables redundancy points candidates network tables are is bounds other same =
+    IsGoodNetwork tables
+good_tables redundancy points candidates network tables are is bounds =
     let good = good_network redundancy points candidates (subst IsNetwork is bounds) in
     let built : IsGoodNetwork (record { points = points; candidates = candidates; network = network }) =
     subst (λ (n : NetworkOf). IsGoodNetwork (record { points = points; candidates = candidates; network = n })) (sym is) good in
-    let e : tables ≡ other = cc in
-    subst IsGoodNetwork e (subst IsGoodNetwork (sym are) built)
+    subst IsGoodNetwork (sym are) built

@@ -14,8 +14,9 @@ use Rattle.branch_bound.specs.declared.search_fault.SearchFault.{SearchFault}
 use Rattle.branch_bound.specs.declared.search_fault.SearchFault.TheVariants as search
 use Rattle.shelf_io.specs.States.{ShelfState}
 use Rattle.branch_bound.specs.Logged.{Searches, BreaksLog}
+use Rattle.geoplan.specs.Outcomes.{BeganLog}
 use Rattle.geoplan.specs.Tables.{TablesOf}
-use Rattle.geoplan.specs.Solving.{Solves, HoldsBeginning, FailsSolve}
+use Rattle.geoplan.specs.Solving.{Solves, FailsSolve}
 
 -- Laws of a log that is started and then written.
 
@@ -45,7 +46,7 @@ FailsSolve-after tables log why before middle now started quiet found = record {
 }
 
 -- a log that could not be started stands as before, or empty
-started_or_not : (tables : TablesOf) (log : List ℕ) (before now : Option Files) → (now ≡ before) ⊎ (now ≡ with_bytes before log []) → (now ≡ before) ⊎ HoldsBeginning tables log before now
+started_or_not : (tables : TablesOf) (log : List ℕ) (before now : Option Files) → (now ≡ before) ⊎ (now ≡ with_bytes before log []) → (now ≡ before) ⊎ BeganLog tables log before now
 started_or_not tables log before now (inl same) = inl same
 started_or_not tables log before now (inr empty) = inr (record { tree = tip Cost; piece = []; rest = log_text (tip Cost); allowed = cost_allowed tables.network (root_of tables.network); begins = refl; written = empty })
 

@@ -1,13 +1,17 @@
--- What stands once the network of the tables is searched and its answer is reported.
-use Rattle.std.proofs.Common.{◌≡◌, ◌⊎◌, inl, inr, ℕ, Bool, List, [], refl, sym, ap, ◌∙◌, subst, arith}
+-- What stands once the files of a command are loaded and its answer is made.
+use Rattle.std.proofs.Common.{◌≡◌, ◌⊎◌, inl, inr, ◌≤◌, ℕ, Bool, List, [], refl, sym, ap, ◌∙◌, subst, arith, Option, Some}
 use Rattle.std.proofs.lemmas.List.{append-nil}
-use Rattle.shelf_io.specs.Files.{with_bytes}
-use Rattle.shelf_io.specs.Faults.{Rose}
+use Rattle.shelf_io.specs.Files.{Files, with_bytes}
+use Rattle.shelf_io.specs.Faults.{Rose, KeepsFaults}
+use Rattle.shelf_io.specs.States.{ShelfState}
 use Rattle.branch_bound.specs.declared.search_fault.SearchFault.{SearchFault}
 use Rattle.branch_bound.specs.declared.search_fault.SearchFault.TheVariants as search
+use Rattle.branch_bound.specs.Searched.{IsAnswer, IsCertified}
 use Rattle.geo_model.specs.Energy.{cost_of}
+use Rattle.geo_model.specs.Network.{IsNetwork}
 use Rattle.geo_model.specs.declared.answer.Answer.{Answer}
 use Rattle.geo_model.specs.declared.answer.Answer.TheVariants as answer
+use Rattle.geo_model.specs.declared.answer.Counts.{Counts}
 use Rattle.geo_model.specs.declared.answer.SearchDone.{SearchDone}
 use Rattle.bound_log.specs.declared.bound.Bound.{Bound}
 use Rattle.bound_log.specs.declared.bound.Bound.TheVariants.{NoPlan, AtLeast}
@@ -16,77 +20,81 @@ use Rattle.bound_log.specs.LogTree.{root_of, HasBound, bound_at}
 use Rattle.bound_log.proofs.SoundLemmas.{HasBound-below}
 use Rattle.bound_log.proofs.SpellLemmas.{spelled_text, text_spelled}
 use Rattle.pivot_chain.proofs.Verdicts.{certified_meets}
-use Rattle.shelf_io.specs.States.{ShelfState}
-use Rattle.branch_bound.specs.Searched.{IsAnswer, IsCertified}
+use Rattle.log_check.specs.declared.replaying.Replayed.{Replayed}
 use Rattle.log_check.specs.Replayed.{IsReplayed}
 use Rattle.log_check.specs.FirstFault.{IsFirstFault}
-use Rattle.geoplan.specs.CommandOf.{JobOf, planned_sources, checked_sources}
-use Rattle.geoplan.specs.Loading.{HasTables}
-use Rattle.geoplan.specs.Reporting.{CanReport, Ends, Reports, Replays, HasNoText}
-use Rattle.geoplan.specs.Solving.{Solves, HoldsBeginning, FailsSolve}
-use Rattle.geoplan.specs.Outcomes.{LeavesLog, KeepsOrBegan}
-use Rattle.geoplan.specs.Standing.{PlanStands, CheckStands}
-use Rattle.geoplan.specs.Tables.{TablesOf}
-use Rattle.geoplan.specs.Texts.{tables_plan_text, no_plan_text, tables_undecided_text}
+use Rattle.geoplan.specs.declared.load.LoadFault.{LoadFault}
+use Rattle.geoplan.specs.declared.load.LoadFault.TheVariants as load
 use Rattle.geoplan.specs.declared.status.Status.{Status}
 use Rattle.geoplan.specs.declared.status.Status.TheVariants as status
+use Rattle.geoplan.specs.declared.verb.Verb.{Verb}
+use Rattle.geoplan.specs.declared.verb.Verb.TheVariants as verb
+use Rattle.geoplan.specs.CommandOf.{SourcesOf, CommandOf}
+use Rattle.geoplan.specs.Ends.{Began}
+use Rattle.geoplan.specs.Loading.{refused_view, Loads, HasLoadFault, FailsLoad}
+use Rattle.geoplan.specs.Outcomes.{LeavesLog, BeganLog, FailsToWrite, priced}
+use Rattle.geoplan.specs.Reporting.{CanReport, Ends, Reports, Replays, Refused, HasNoText}
+use Rattle.geoplan.specs.Solving.{Solves, FailsSolve, RunsOutPlanning, Plans}
+use Rattle.geoplan.specs.Standing.{RunsOut, Stands}
+use Rattle.geoplan.specs.Tables.{TablesOf}
+use Rattle.geoplan.specs.Texts.{cannot_read_text, tables_plan_text, no_plan_text, tables_undecided_text, tables_rows_text}
+use Rattle.geoplan.proofs.LoadLemmas.{keeps}
+
+-- ---- a search and its report
 
 -- the log of a search that is done
-leaves_log : (job : JobOf) (tables : TablesOf) (read : List ℕ) (done : SearchDone) (before middle now : ShelfState) → HasTables (planned_sources job) tables read before middle → (solved : Solves tables job.log done middle now) → LeavesLog job before now tables (bound_at tables.network (root_of tables.network) solved.tree)
-leaves_log job tables read done before middle now has solved =
+leaves_log : (tables : TablesOf) (name : List ℕ) (done : SearchDone) (before now : ShelfState) → IsNetwork tables.network → (solved : Solves tables name done before now) → LeavesLog tables name (record { bound = bound_at tables.network (root_of tables.network) solved.tree; counts = done.counts }) before now
+leaves_log tables name done before now network solved =
     let shown : HasBound tables.network (log_text solved.tree) (bound_at tables.network (root_of tables.network) solved.tree) =
     record { tree = solved.tree; log = record { spells = text_spelled (log_text solved.tree) solved.tree refl; allowed = solved.searched.allowed }; least = refl } in
     record {
       log = log_text solved.tree;
-      input = has.input;
-      network = has.good.bounds;
-      shown = shown;
-      lower = HasBound-below tables.network (log_text solved.tree) (bound_at tables.network (root_of tables.network) solved.tree) has.good.bounds shown;
-      written = solved.written ∙ ap (λ held. with_bytes held job.log (log_text solved.tree)) has.held;
-      quiet = record { same_count = solved.quiet.same_count ∙ has.quiet.same_count; same_last = solved.quiet.same_last ∙ has.quiet.same_last };
+      network = network;
+      replayed = record { tree = solved.tree; log = shown.log; least = refl; counted = solved.searched.counted };
+      lower = HasBound-below tables.network (log_text solved.tree) (bound_at tables.network (root_of tables.network) solved.tree) network shown;
+      written = solved.written;
+      quiet = solved.quiet;
     }
 
 -- a whole log is a beginning of a log
-pub whole_began : (job : JobOf) (before now : ShelfState) (tables : TablesOf) (bound : Bound) → LeavesLog job before now tables bound → KeepsOrBegan job before.held now.held
-whole_began job before now tables bound leaves = inr (record {
-  tables = tables;
-  tree = leaves.shown.tree;
+pub whole_began : (tables : TablesOf) (name : List ℕ) (done : Replayed) (before now : ShelfState) → LeavesLog tables name done before now → BeganLog tables name before.held now.held
+whole_began tables name done before now leaves = record {
+  tree = leaves.replayed.tree;
   piece = leaves.log;
   rest = [];
-  input = leaves.input;
-  allowed = leaves.shown.log.allowed;
-  begins = sym (spelled_text leaves.log leaves.shown.tree leaves.shown.log.spells) ∙ sym (append-nil leaves.log);
+  allowed = leaves.replayed.log.allowed;
+  begins = sym (spelled_text leaves.log leaves.replayed.tree leaves.replayed.log.spells) ∙ sym (append-nil leaves.log);
   written = leaves.written;
-})
+}
 
--- with a whole log memory ran out
-out_after : (job : JobOf) (before now : ShelfState) (tables : TablesOf) (bound : Bound) (ends : Status) (text : List ℕ) → LeavesLog job before now tables bound → ends ≡ status.NoMemory → text ≡ [] → PlanStands job before now ends text
-out_after job before now tables bound ends text leaves is none = subst (λ s. PlanStands job before now s text) (sym is) (record {
-  held = whole_began job before now tables bound leaves;
-  later = omega (arith, leaves.quiet.same_count);
-  printed = none;
-})
+module _ (tables : TablesOf) (name : List ℕ) (before now : ShelfState) (bound : Bound) (counts : Counts) (leaves : LeavesLog tables name (record { bound = bound; counts = counts }) before now) (ends : Status) (text : List ℕ) where
+  -- with a whole log memory ran out
+  out_after : ends ≡ status.NoMemory → text ≡ [] → Plans tables name before now ends text
+  out_after is none = subst (λ s. Plans tables name before now s text) (sym is) (record {
+    held = inr (whole_began tables name (record { bound = bound; counts = counts }) before now leaves);
+    later = omega (arith, leaves.quiet.same_count);
+    printed = none;
+  })
 
-module _ (job : JobOf) (before now : ShelfState) (tables : TablesOf) (bound : Bound) (leaves : LeavesLog job before now tables bound) (ends : Status) (text : List ℕ) where
   -- a status with its text, or that memory ran out
-  ended : (meant : Status) (words : List ℕ) → (text ≡ words → PlanStands job before now meant text) → Ends meant words ends text → PlanStands job before now ends text
-  ended meant words stands (inl (is, said)) = subst (λ s. PlanStands job before now s text) (sym is) (stands said)
-  ended meant words stands (inr (is, none)) = out_after job before now tables bound ends text leaves is none
+  ended : (meant : Status) (words : List ℕ) → (text ≡ words → Plans tables name before now meant text) → Ends meant words ends text → Plans tables name before now ends text
+  ended meant words stands (inl (is, said)) = subst (λ s. Plans tables name before now s text) (sym is) (stands said)
+  ended meant words stands (inr (is, none)) = out_after is none
 
   -- the log with the bound of the answer
-  leaves_as : (other : Bound) → bound ≡ other → LeavesLog job before now tables other
-  leaves_as other is = subst (λ b. LeavesLog job before now tables b) is leaves
+  leaves_as : (other : Bound) → bound ≡ other → LeavesLog tables name (record { bound = other; counts = counts }) before now
+  leaves_as other is = subst (λ b. LeavesLog tables name (record { bound = b; counts = counts }) before now) is leaves
 
   -- no plan is certified where the bound says that none meets the limits
-  uncertified : LeavesLog job before now tables NoPlan → (plan : List Bool) → IsCertified tables.network plan → ⊥
+  uncertified : LeavesLog tables name (record { bound = NoPlan; counts = counts }) before now → (plan : List Bool) → IsCertified tables.network plan → ⊥
   uncertified none plan certified = none.lower plan certified.long (certified_meets tables.network plan none.network certified.certified)
 
-  by_answer : (given : Answer) → IsAnswer tables.network bound given → Reports tables given ends text → PlanStands job before now ends text
+  by_answer : (given : Answer) → IsAnswer tables.network bound given → Reports tables given ends text → Plans tables name before now ends text
   by_answer (answer.Best plan) is reports =
       ended status.Found (tables_plan_text tables plan)
       (λ said. record {
-        tables = tables;
         plan = plan;
+        counts = counts;
         leaves = leaves_as (AtLeast (cost_of tables.network.candidates plan)) is.price;
         certified = is.certified;
         meets = certified_meets tables.network plan leaves.network is.certified.certified;
@@ -94,16 +102,16 @@ module _ (job : JobOf) (before now : ShelfState) (tables : TablesOf) (bound : Bo
       }) reports
   by_answer answer.NoPlan is reports =
       ended status.NoPlan no_plan_text
-      (λ said. record { tables = tables; leaves = leaves_as NoPlan is; uncertified = uncertified (leaves_as NoPlan is); printed = said }) reports
+      (λ said. record { counts = counts; leaves = leaves_as NoPlan is; uncertified = uncertified (leaves_as NoPlan is); printed = said }) reports
   by_answer (answer.Undecided plan number step lo hi) is reports =
       ended status.Undecided (tables_undecided_text tables plan is.open_limit.here.limit.kind step lo hi)
       (λ said. record {
-        tables = tables;
         plan = plan;
         number = number;
         step = step;
         lo = lo;
         hi = hi;
+        counts = counts;
         leaves = leaves_as (AtLeast (cost_of tables.network.candidates plan)) is.price;
         unsettled = is.unsettled;
         dearer = is.dearer;
@@ -112,39 +120,21 @@ module _ (job : JobOf) (before now : ShelfState) (tables : TablesOf) (bound : Bo
       })
       (reports is.open_limit.here.limit is.open_limit.here.named)
 
--- what stands once the search is done and its answer is reported
-pub PlanStands-reported : (job : JobOf) (tables : TablesOf) (read : List ℕ) (done : SearchDone) (before middle now : ShelfState) (ends : Status) (text : List ℕ) → HasTables (planned_sources job) tables read before middle → Solves tables job.log done middle now → Reports tables done.answer ends text → PlanStands job before now ends text
-PlanStands-reported job tables read done before middle now ends text has solved reports =
-    by_answer job before now tables (bound_at tables.network (root_of tables.network) solved.tree) (leaves_log job tables read done before middle now has solved) ends text done.answer solved.searched.answered reports
+-- once the search is done and its answer is reported
+pub Plans-reported : (tables : TablesOf) (name : List ℕ) (done : SearchDone) (before now : ShelfState) (ends : Status) (text : List ℕ) → IsNetwork tables.network → Solves tables name done before now → Reports tables done.answer ends text → Plans tables name before now ends text
+Plans-reported tables name done before now ends text network solved reports =
+    by_answer tables name before now (bound_at tables.network (root_of tables.network) solved.tree) done.counts (leaves_log tables name done before now network solved) ends text done.answer solved.searched.answered reports
 
--- the beginning of a log that a search left
-began_log : (job : JobOf) (tables : TablesOf) (read : List ℕ) (before middle now : ShelfState) → HasTables (planned_sources job) tables read before middle → (now.held ≡ middle.held) ⊎ HoldsBeginning tables job.log middle.held now.held → KeepsOrBegan job before.held now.held
-began_log job tables read before middle now has (inl same) = inl (same ∙ has.held)
-began_log job tables read before middle now has (inr began) = inr (record {
-  tables = tables;
-  tree = began.tree;
-  piece = began.piece;
-  rest = began.rest;
-  input = has.input;
-  allowed = began.allowed;
-  begins = began.begins;
-  written = began.written ∙ ap (λ held. with_bytes held job.log began.piece) has.held;
-})
-
--- what stands once a write of the log failed
-pub PlanStands-unwritten : (job : JobOf) (tables : TablesOf) (read : List ℕ) (why : SearchFault) (before middle now : ShelfState) (ends : Status) (text : List ℕ) → HasTables (planned_sources job) tables read before middle → FailsSolve tables job.log why middle now → why ≡ search.WriteFault → ends ≡ status.WriteFault → text ≡ [] → PlanStands job before now ends text
-PlanStands-unwritten job tables read why before middle now ends text has failed is ended none =
+-- once a write of the log failed
+pub Plans-unwritten : (tables : TablesOf) (name : List ℕ) (why : SearchFault) (before now : ShelfState) (ends : Status) (text : List ℕ) → FailsSolve tables name why before now → why ≡ search.WriteFault → ends ≡ status.WriteFault → text ≡ [] → Plans tables name before now ends text
+Plans-unwritten tables name why before now ends text failed is ended none =
     let fault = failed.failed is in
-    subst (λ s. PlanStands job before now s text) (sym ended) (
-      record {
-        tables = tables;
-        input = has.input;
-        rose = subst (λ n. Rose n now.faults) has.quiet.same_count fault.0;
-        last = fault.1;
-        held = began_log job tables read before middle now has failed.held;
-      },
-      none,
-    )
+    subst (λ s. Plans tables name before now s text) (sym ended) (record { rose = fault.0; last = fault.1; held = failed.held }, none)
+
+-- once memory ran out
+pub Plans-out : (tables : TablesOf) (name : List ℕ) (why : SearchFault) (before now : ShelfState) (ends : Status) (text : List ℕ) → FailsSolve tables name why before now → ends ≡ status.NoMemory → text ≡ [] → Plans tables name before now ends text
+Plans-out tables name why before now ends text failed ended none =
+    subst (λ s. Plans tables name before now s text) (sym ended) (record { held = failed.held; later = failed.later; printed = none })
 
 -- the answer of a search can be reported
 can_report : (tables : TablesOf) (bound : Bound) (given : Answer) → IsAnswer tables.network bound given → CanReport tables given
@@ -155,35 +145,172 @@ can_report tables bound (answer.Undecided plan number step lo hi) is = (is.unset
 pub CanReport-solved : (tables : TablesOf) (log : List ℕ) (done : SearchDone) (before now : ShelfState) → Solves tables log done before now → CanReport tables done.answer
 CanReport-solved tables log done before now solved = can_report tables (bound_at tables.network (root_of tables.network) solved.tree) done.answer solved.searched.answered
 
--- ---- check
+-- ---- after the files were loaded
 
-module _ (job : JobOf) (tables : TablesOf) (log : List ℕ) (before now : ShelfState) (has : HasTables (checked_sources job) tables log before now) (ends : Status) (text : List ℕ) where
-  check_out : HasNoText ends text → CheckStands job before now ends text
-  check_out (is, none) = subst (λ s. CheckStands job before now s text) (sym is) (record { held = has.held; later = omega (arith, has.quiet.same_count); printed = none })
+-- what a search does is done to what the shelf held before the files were read
+module _ (tables : TablesOf) (name : List ℕ) (before middle now : ShelfState) (held : middle.held ≡ before.held) (quiet : KeepsFaults before middle) where
+  LeavesLog-before : (done : Replayed) → LeavesLog tables name done middle now → LeavesLog tables name done before now
+  LeavesLog-before done leaves = record {
+    log = leaves.log;
+    network = leaves.network;
+    replayed = leaves.replayed;
+    lower = leaves.lower;
+    written = leaves.written ∙ ap (λ files. with_bytes files name leaves.log) held;
+    quiet = keeps before middle now leaves.quiet quiet;
+  }
 
-  -- what stands once the log is replayed
-  pub CheckStands-replayed : Replays tables.network log ends text → CheckStands job before now ends text
-  CheckStands-replayed (inl (done, is, inl (e, said))) = subst (λ s. CheckStands job before now s text) (sym e) (record {
-    tables = tables;
-    done = done;
-    input = has.input;
-    network = has.good.bounds;
-    replayed = λ files told. subst (λ bytes. IsReplayed tables.network bytes done) (has.read job.log refl files told) is;
-    lower = HasBound-below tables.network log done.bound has.good.bounds (record { tree = is.tree; log = is.log; least = is.least });
-    held = has.held;
-    quiet = has.quiet;
-    printed = said;
-  })
-  CheckStands-replayed (inl (done, is, inr out)) = check_out out
-  CheckStands-replayed (inr (inl (fault, is, inl (e, said)))) = subst (λ s. CheckStands job before now s text) (sym e) (record {
-    tables = tables;
-    fault = fault;
-    input = has.input;
-    network = has.good.bounds;
-    first = λ files told. subst (λ bytes. IsFirstFault tables.network bytes fault) (has.read job.log refl files told) is;
-    held = has.held;
-    quiet = has.quiet;
-    printed = said;
-  })
-  CheckStands-replayed (inr (inl (fault, is, inr out))) = check_out out
-  CheckStands-replayed (inr (inr out)) = check_out out
+  held_before : (now.held ≡ middle.held) ⊎ BeganLog tables name middle.held now.held → (now.held ≡ before.held) ⊎ BeganLog tables name before.held now.held
+  held_before (inl same) = inl (same ∙ held)
+  held_before (inr began) = inr (subst (λ files. BeganLog tables name files now.held) held began)
+
+  Plans-before : (ends : Status) (text : List ℕ) → Plans tables name middle now ends text → Plans tables name before now ends text
+  Plans-before status.Found text found = record {
+    plan = found.plan;
+    counts = found.counts;
+    leaves = LeavesLog-before (priced (cost_of tables.network.candidates found.plan) found.counts) found.leaves;
+    certified = found.certified;
+    meets = found.meets;
+    printed = found.printed;
+  }
+  Plans-before status.NoPlan text found = record {
+    counts = found.counts;
+    leaves = LeavesLog-before (record { bound = NoPlan; counts = found.counts }) found.leaves;
+    uncertified = found.uncertified;
+    printed = found.printed;
+  }
+  Plans-before status.WordsRefused text never = absurd never
+  Plans-before status.TableRefused text never = absurd never
+  Plans-before status.Undecided text left = record {
+    plan = left.plan;
+    number = left.number;
+    step = left.step;
+    lo = left.lo;
+    hi = left.hi;
+    counts = left.counts;
+    leaves = LeavesLog-before (priced (cost_of tables.network.candidates left.plan) left.counts) left.leaves;
+    unsettled = left.unsettled;
+    dearer = left.dearer;
+    open_limit = left.open_limit;
+    printed = left.printed;
+  }
+  Plans-before status.ReadFault text never = absurd never
+  Plans-before status.WriteFault text (failed, none) =
+      (record { rose = subst (λ n. Rose n now.faults) quiet.same_count failed.rose; last = failed.last; held = held_before failed.held }, none)
+  Plans-before status.NoMemory text out = record { held = held_before out.held; later = subst (λ n. n ≤ now.faults) quiet.same_count out.later; printed = out.printed }
+  Plans-before status.LogRefused text never = absurd never
+  Plans-before status.FileTooLong text never = absurd never
+
+-- memory ran out after the files were loaded
+out_loaded : (command : CommandOf) (tables : TablesOf) (log : List ℕ) (before now : ShelfState) → Loads command tables log before now → (ends : Status) (text : List ℕ) → HasNoText ends text → Stands command before now ends text
+out_loaded command tables log before now has ends text (is, none) =
+    subst (λ s. Stands command before now s text) (sym is) (record { held = inl has.held; later = omega (arith, has.quiet.same_count); printed = none })
+
+-- `plan`
+module _ (sources : SourcesOf) (tables : TablesOf) (log : List ℕ) (before middle now : ShelfState) (has : Loads (record { verb = verb.Plan; sources = sources }) tables log before middle) where
+  planned : (ends : Status) (text : List ℕ) → Plans tables sources.log before now ends text → Stands (record { verb = verb.Plan; sources = sources }) before now ends text
+  planned status.Found text found = (tables, has.input, found)
+  planned status.NoPlan text found = (tables, has.input, found)
+  planned status.WordsRefused text never = absurd never
+  planned status.TableRefused text never = absurd never
+  planned status.Undecided text left = (tables, has.input, left)
+  planned status.ReadFault text never = absurd never
+  planned status.WriteFault text (failed, none) = ((tables, has.input, failed), none)
+  planned status.NoMemory text out = record { held = began out.held; later = out.later; printed = out.printed }
+    where
+      began : (now.held ≡ before.held) ⊎ BeganLog tables sources.log before.held now.held → (now.held ≡ before.held) ⊎ Began (record { verb = verb.Plan; sources = sources }) before.held now.held
+      began (inl same) = inl same
+      began (inr piece) = inr (tables, has.input, piece)
+  planned status.LogRefused text never = absurd never
+  planned status.FileTooLong text never = absurd never
+
+  pub Stands-planned : (ends : Status) (text : List ℕ) → Plans tables sources.log middle now ends text → Stands (record { verb = verb.Plan; sources = sources }) before now ends text
+  Stands-planned ends text plans = planned ends text (Plans-before tables sources.log before middle now has.held has.quiet ends text plans)
+
+-- `rows`
+pub Stands-listed : (sources : SourcesOf) (tables : TablesOf) (log : List ℕ) (before now : ShelfState) → Loads (record { verb = verb.Rows; sources = sources }) tables log before now → (ends : Status) (text : List ℕ) → Ends status.Found (tables_rows_text tables) ends text → Stands (record { verb = verb.Rows; sources = sources }) before now ends text
+Stands-listed sources tables log before now has ends text (inl (is, said)) =
+    subst (λ s. Stands (record { verb = verb.Rows; sources = sources }) before now s text) (sym is) (tables, has.input, record { held = has.held; quiet = has.quiet; printed = said })
+Stands-listed sources tables log before now has ends text (inr out) = out_loaded (record { verb = verb.Rows; sources = sources }) tables log before now has ends text out
+
+-- `check`
+module _ (sources : SourcesOf) (tables : TablesOf) (log : List ℕ) (before now : ShelfState) (has : Loads (record { verb = verb.Check; sources = sources }) tables log before now) (ends : Status) (text : List ℕ) where
+  pub Stands-replayed : Replays tables.network log ends text → Stands (record { verb = verb.Check; sources = sources }) before now ends text
+  Stands-replayed (inl (done, is, inl (e, said))) = subst (λ s. Stands (record { verb = verb.Check; sources = sources }) before now s text) (sym e) (
+    tables,
+    has.input,
+    (
+      log,
+      has.read refl,
+      record {
+        done = done;
+        network = has.good.bounds;
+        replayed = is;
+        lower = HasBound-below tables.network log done.bound has.good.bounds (record { tree = is.tree; log = is.log; least = is.least });
+        held = has.held;
+        quiet = has.quiet;
+        printed = said;
+      },
+    ),
+  )
+  Stands-replayed (inl (done, is, inr out)) = out_loaded (record { verb = verb.Check; sources = sources }) tables log before now has ends text out
+  Stands-replayed (inr (inl (fault, is, inl (e, said)))) = subst (λ s. Stands (record { verb = verb.Check; sources = sources }) before now s text) (sym e) (
+    tables,
+    has.input,
+    (log, has.read refl, record { fault = fault; network = has.good.bounds; first = is; held = has.held; quiet = has.quiet; printed = said }),
+  )
+  Stands-replayed (inr (inl (fault, is, inr out))) = out_loaded (record { verb = verb.Check; sources = sources }) tables log before now has ends text out
+  Stands-replayed (inr (inr out)) = out_loaded (record { verb = verb.Check; sources = sources }) tables log before now has ends text out
+
+-- .. of the command that it is known to be
+pub Stands-plan : (which : Verb) (sources : SourcesOf) (tables : TablesOf) (log : List ℕ) (before middle now : ShelfState) (ends : Status) (text : List ℕ) → which ≡ verb.Plan →
+    Loads (record { verb = which; sources = sources }) tables log before middle → Plans tables sources.log middle now ends text → Stands (record { verb = which; sources = sources }) before now ends text
+Stands-plan which sources tables log before middle now ends text is has plans =
+    let known : Loads (record { verb = verb.Plan; sources = sources }) tables log before middle =
+    subst (λ v. Loads (record { verb = v; sources = sources }) tables log before middle) is has in
+    subst (λ v. Stands (record { verb = v; sources = sources }) before now ends text) (sym is) (Stands-planned sources tables log before middle now known ends text plans)
+
+pub Stands-rows : (which : Verb) (sources : SourcesOf) (tables : TablesOf) (log : List ℕ) (before now : ShelfState) (ends : Status) (text : List ℕ) → which ≡ verb.Rows →
+    Loads (record { verb = which; sources = sources }) tables log before now → Ends status.Found (tables_rows_text tables) ends text → Stands (record { verb = which; sources = sources }) before now ends text
+Stands-rows which sources tables log before now ends text is has listed =
+    let known : Loads (record { verb = verb.Rows; sources = sources }) tables log before now =
+    subst (λ v. Loads (record { verb = v; sources = sources }) tables log before now) is has in
+    subst (λ v. Stands (record { verb = v; sources = sources }) before now ends text) (sym is) (Stands-listed sources tables log before now known ends text listed)
+
+pub Stands-check : (which : Verb) (sources : SourcesOf) (tables : TablesOf) (log : List ℕ) (before now : ShelfState) (ends : Status) (text : List ℕ) → which ≡ verb.Check →
+    Loads (record { verb = which; sources = sources }) tables log before now → Replays tables.network log ends text → Stands (record { verb = which; sources = sources }) before now ends text
+Stands-check which sources tables log before now ends text is has replayed =
+    let known : Loads (record { verb = verb.Check; sources = sources }) tables log before now =
+    subst (λ v. Loads (record { verb = v; sources = sources }) tables log before now) is has in
+    subst (λ v. Stands (record { verb = v; sources = sources }) before now ends text) (sym is) (Stands-replayed sources tables log before now known ends text replayed)
+
+-- ---- the files were not loaded
+
+module _ (command : CommandOf) (before now : ShelfState) (held : now.held ≡ before.held) (later : before.faults ≤ now.faults) (ends : Status) (text : List ℕ) where
+  refused_out : HasNoText ends text → Stands command before now ends text
+  refused_out (is, none) = subst (λ s. Stands command before now s text) (sym is) (record { held = inl held; later = later; printed = none })
+
+  said_or_out : (meant : Status) (words : List ℕ) → (text ≡ words → Stands command before now meant text) → Ends meant words ends text → Stands command before now ends text
+  said_or_out meant words stands (inl (is, said)) = subst (λ s. Stands command before now s text) (sym is) (stands said)
+  said_or_out meant words stands (inr out) = refused_out out
+
+  refused_for : (why : LoadFault) → HasLoadFault command why before now → Refused why ends text → Stands command before now ends text
+  refused_for (load.TooLong name) (is, quiet) ended =
+      said_or_out status.FileTooLong _ (λ said. record { name = name.now; refuses = record { input = is; held = held; quiet = quiet }; printed = said }) ended
+  refused_for (load.Unread name) failed ended =
+      said_or_out status.ReadFault _ (λ said. record {
+        earlier = failed.earlier;
+        file = failed.file;
+        later = failed.later;
+        order = failed.order;
+        within = failed.within;
+        rose = failed.fault.rose;
+        last = failed.fault.last;
+        held = held;
+        printed = subst (λ n. text ≡ cannot_read_text n) failed.same_name said;
+      }) ended
+  refused_for (load.Refused refused) (is, quiet) ended =
+      said_or_out status.TableRefused _ (λ said. record { fault = refused_view refused; refuses = record { input = is; held = held; quiet = quiet }; printed = said }) ended
+  refused_for load.NoMemory free out = refused_out out
+
+pub Stands-refused : (command : CommandOf) (why : LoadFault) (before now : ShelfState) (ends : Status) (text : List ℕ) → FailsLoad command why before now → Refused why ends text → Stands command before now ends text
+Stands-refused command why before now ends text fails said = refused_for command before now fails.held fails.later ends text why fails.cause said

@@ -1,108 +1,158 @@
-use Rattle.std.specs.Prelude.{◌≡◌, ℕ, List, [], ◌∷◌, drop, Bool, false, not, ◌||◌, ◌==◌, if◌then◌else◌, Option, Some, None, option_map, bytes_eq, codes}
-use Rattle.std.specs.List.{list_all}
+use Rattle.std.specs.Prelude.{◌≡◌, ℕ, List, [], ◌∷◌, drop, map, Bool, true, false, not, ◌&&◌, ◌==◌, if◌then◌else◌, Option, Some, None, option_map, bytes_eq, codes}
+use Rattle.std.specs.List.{list_all, list_any}
+use Rattle.std.specs.Option.{option_and_then}
 use Rattle.text_num.specs.Digits.{digits_of}
+use Rattle.geoplan.specs.declared.file_kind.FileKind.{FileKind}
+use Rattle.geoplan.specs.declared.file_kind.FileKind.TheVariants as kind
+use Rattle.geoplan.specs.declared.verb.Verb.{Verb}
+use Rattle.geoplan.specs.declared.verb.Verb.TheVariants as verb
 
--- The words of a command line, the program's name first. This project's own.
+-- The words of a command line, the program's name first, and what each command reads and writes. This project's own.
 
--- what a command reads: its two tables, by their names, and the redundancy that is asked of their network, in
--- thousandths; and the name of a log, if it reads one
+-- what a further word of a command stands for: the name of a file, or the redundancy in thousandths, of 1 to 3 digits
+pub data RoleOf : Type 0 where
+  file_role : FileKind → RoleOf
+  redundancy_role : RoleOf
+
+-- what the further words of a command give: names of files, and the redundancy. What none of them stands for is empty, or 0
 pub record SourcesOf : Type 0 where
-  pub points : List ℕ
-  pub candidates : List ℕ
-  pub redundancy : ℕ
-  pub log : Option (List ℕ)
-
--- what the commands `plan` and `check` are asked for: their tables, the redundancy, and the name of the log that `plan`
--- writes and `check` reads
-pub record JobOf : Type 0 where
   pub points : List ℕ
   pub candidates : List ℕ
   pub redundancy : ℕ
   pub log : List ℕ
 
--- a command: `plan`, `check`, or `rows` with the names of its two tables
-pub data CommandOf : Type 0 where
-  plan_command : JobOf → CommandOf
-  rows_command : List ℕ → List ℕ → CommandOf
-  check_command : JobOf → CommandOf
+-- a command: which one, and what its words give
+pub record CommandOf : Type 0 where
+  pub verb : Verb
+  pub sources : SourcesOf
 
--- the tables of `rows`, of whose network no redundancy is asked
-abbrev pub plain_sources : List ℕ → List ℕ → SourcesOf
-plain_sources points candidates = record { points = points; candidates = candidates; redundancy = 0; log = None }
+-- a file that is read: its name, and the most bytes that it may have
+pub record FileOf : Type 0 where
+  pub name : List ℕ
+  pub most : ℕ
 
--- the tables of `plan`, which reads no log
-abbrev pub planned_sources : JobOf → SourcesOf
-planned_sources job = record { points = job.points; candidates = job.candidates; redundancy = job.redundancy; log = None }
+-- ---- the tables of commands
 
--- the tables of `check`, and its log
-abbrev pub checked_sources : JobOf → SourcesOf
-checked_sources job = record { points = job.points; candidates = job.candidates; redundancy = job.redundancy; log = Some job.log }
+-- the command of a word
+abbrev pub verb_of : List ℕ → Option Verb
+verb_of word =
+    if bytes_eq word (codes "plan") then Some verb.Plan
+    else (if bytes_eq word (codes "rows") then Some verb.Rows
+    else (if bytes_eq word (codes "check") then Some verb.Check
+    else None))
 
--- what a command reads
-abbrev pub sources_of : CommandOf → SourcesOf
-sources_of (plan_command job) = planned_sources job
-sources_of (rows_command points candidates) = plain_sources points candidates
-sources_of (check_command job) = checked_sources job
+-- what its further words stand for
+abbrev pub roles_of : Verb → List RoleOf
+roles_of verb.Plan = file_role kind.Points ∷ file_role kind.Candidates ∷ redundancy_role ∷ file_role kind.Log ∷ []
+roles_of verb.Rows = file_role kind.Points ∷ file_role kind.Candidates ∷ []
+roles_of verb.Check = file_role kind.Points ∷ file_role kind.Candidates ∷ redundancy_role ∷ file_role kind.Log ∷ []
+
+-- the files that it reads, in this order
+abbrev pub reads : Verb → List FileKind
+reads verb.Plan = kind.Points ∷ kind.Candidates ∷ []
+reads verb.Rows = kind.Points ∷ kind.Candidates ∷ []
+reads verb.Check = kind.Points ∷ kind.Candidates ∷ kind.Log ∷ []
+
+-- the files that it may write
+abbrev pub writes : Verb → List FileKind
+writes verb.Plan = kind.Log ∷ []
+writes verb.Rows = []
+writes verb.Check = []
+
+-- the most bytes of a file that is read
+abbrev pub most_of : FileKind → ℕ
+most_of kind.Points = 1048576
+most_of kind.Candidates = 1048576
+most_of kind.Log = 268435456
+
+-- ---- the words of a command line
 
 -- whether a word after the program's name may stand: it isn't empty, and doesn't begin with `-`
 abbrev pub is_plain : List ℕ → Bool
 is_plain [] = false
 is_plain (first ∷ rest) = not (first == 45)
 
--- whether two of three names are one
-abbrev pub are_shared : List ℕ → List ℕ → List ℕ → Bool
-are_shared points candidates log = bytes_eq points candidates || (bytes_eq points log || bytes_eq candidates log)
+-- whether names differ from one another
+abbrev pub are_distinct : List (List ℕ) → Bool
+are_distinct [] = true
+are_distinct (name ∷ names) = not (list_any (bytes_eq name) names) && are_distinct names
 
--- the job of its words, where the word for the redundancy is 1 to 3 digits and the names differ
-abbrev pub job_of : List ℕ → List ℕ → List ℕ → List ℕ → Option JobOf
-job_of points candidates redundancy log =
-    if are_shared points candidates log then None
-    else option_map (λ q. record { points = points; candidates = candidates; redundancy = q; log = log }) (digits_of 3 redundancy)
+-- the words that are names of files
+abbrev pub names_among : List RoleOf → List (List ℕ) → List (List ℕ)
+names_among (file_role kind ∷ roles) (word ∷ words) = word ∷ names_among roles words
+names_among (redundancy_role ∷ roles) (word ∷ words) = names_among roles words
+names_among roles words = []
+
+-- no word gives anything
+abbrev pub no_sources : SourcesOf
+no_sources = record { points = []; candidates = []; redundancy = 0; log = [] }
+
+-- .. and what one word gives besides
+abbrev pub with_name : FileKind → List ℕ → SourcesOf → SourcesOf
+with_name kind.Points name given = record { points = name; candidates = given.candidates; redundancy = given.redundancy; log = given.log }
+with_name kind.Candidates name given = record { points = given.points; candidates = name; redundancy = given.redundancy; log = given.log }
+with_name kind.Log name given = record { points = given.points; candidates = given.candidates; redundancy = given.redundancy; log = name }
+
+abbrev pub with_redundancy : ℕ → SourcesOf → SourcesOf
+with_redundancy redundancy given = record { points = given.points; candidates = given.candidates; redundancy = redundancy; log = given.log }
+
+abbrev pub with_word : RoleOf → List ℕ → SourcesOf → Option SourcesOf
+with_word (file_role kind) word given = Some (with_name kind word given)
+with_word redundancy_role word given = option_map (λ redundancy. with_redundancy redundancy given) (digits_of 3 word)
+
+-- what words give that are as many as the roles, besides what was given before
+abbrev pub given_by : List RoleOf → List (List ℕ) → SourcesOf → Option SourcesOf
+given_by [] [] given = Some given
+given_by [] (word ∷ words) given = None
+given_by (role ∷ roles) [] given = None
+given_by (role ∷ roles) (word ∷ words) given = option_and_then (λ now. given_by roles words now) (with_word role word given)
+
+-- what the further words of a command give, where its files have different names
+abbrev pub sources_from : List RoleOf → List (List ℕ) → Option SourcesOf
+sources_from roles words = if are_distinct (names_among roles words) then given_by roles words no_sources else None
+
+-- the command of a verb and its further words
+abbrev pub command_by : List (List ℕ) → Verb → Option CommandOf
+command_by words verb = option_map (λ sources. record { verb = verb; sources = sources }) (sources_from (roles_of verb) words)
 
 -- the command of words that are all plain
 abbrev pub command_from : List (List ℕ) → Option CommandOf
-command_from (program ∷ command ∷ points ∷ candidates ∷ redundancy ∷ log ∷ []) =
-    if bytes_eq command (codes "plan") then option_map plan_command (job_of points candidates redundancy log)
-    else (if bytes_eq command (codes "check") then option_map check_command (job_of points candidates redundancy log) else None)
-command_from (program ∷ command ∷ points ∷ candidates ∷ []) =
-    if bytes_eq command (codes "rows") then (if bytes_eq points candidates then None else Some (rows_command points candidates)) else None
-command_from words = None
+command_from [] = None
+command_from (program ∷ []) = None
+command_from (program ∷ word ∷ words) = option_and_then (command_by words) (verb_of word)
 
 -- the command of a command line, where its words are accepted
 unfoldable pub command_of : List (List ℕ) → Option CommandOf
 command_of words = if list_all is_plain (drop 1 words) then command_from words else None
 
--- the name that a command writes, if there is one
-abbrev pub name_written : Option CommandOf → Option (List ℕ)
-name_written None = None
-name_written (Some (plan_command job)) = Some job.log
-name_written (Some (rows_command points candidates)) = None
-name_written (Some (check_command job)) = None
-
--- the name that a command line writes, if there is one
-abbrev pub written_by : List (List ℕ) → Option (List ℕ)
-written_by words = name_written (command_of words)
-
 -- the words are those of a command, and P holds of it
 abbrev pub OnCommand : List (List ℕ) → (CommandOf → Type 0) → Type 0
 OnCommand words P = (command : CommandOf) × (command_of words ≡ Some command) × P command
 
--- the words are those of `plan`, and P holds of its job
-abbrev pub OnPlan : List (List ℕ) → (JobOf → Type 0) → Type 0
-OnPlan words P = (job : JobOf) × (command_of words ≡ Some (plan_command job)) × P job
+-- ---- the files of a command
 
--- where the words are those of `plan`, P holds of its job
-abbrev pub IfPlan : List (List ℕ) → (JobOf → Type 0) → Type 0
-IfPlan words P = (job : JobOf) → command_of words ≡ Some (plan_command job) → P job
+-- the name of a file
+abbrev pub name_of : SourcesOf → FileKind → List ℕ
+name_of sources kind.Points = sources.points
+name_of sources kind.Candidates = sources.candidates
+name_of sources kind.Log = sources.log
 
--- where the words are those of `rows`, P holds of its tables
-abbrev pub IfRows : List (List ℕ) → (SourcesOf → Type 0) → Type 0
-IfRows words P = (points candidates : List ℕ) → command_of words ≡ Some (rows_command points candidates) → P (plain_sources points candidates)
+-- .. with the most bytes that it may have
+abbrev pub file_of : SourcesOf → FileKind → FileOf
+file_of sources kind = record { name = name_of sources kind; most = most_of kind }
 
--- the words are those of `check`, and P holds of its job
-abbrev pub OnCheck : List (List ℕ) → (JobOf → Type 0) → Type 0
-OnCheck words P = (job : JobOf) × (command_of words ≡ Some (check_command job)) × P job
+-- the files that a command reads, in this order
+abbrev pub files_read : CommandOf → List FileOf
+files_read command = map (file_of command.sources) (reads command.verb)
 
--- where the words are those of `check`, P holds of its job
-abbrev pub IfCheck : List (List ℕ) → (JobOf → Type 0) → Type 0
-IfCheck words P = (job : JobOf) → command_of words ≡ Some (check_command job) → P job
+-- the names that a command may write
+abbrev pub names_written : CommandOf → List (List ℕ)
+names_written command = map (name_of command.sources) (writes command.verb)
+
+-- the names that a command line may write: those of its command, where its words are accepted
+abbrev pub written_for : Option CommandOf → List (List ℕ)
+written_for None = []
+written_for (Some command) = names_written command
+
+abbrev pub written_by : List (List ℕ) → List (List ℕ)
+written_by words = written_for (command_of words)

@@ -1,7 +1,6 @@
-use Rattle.std.specs.Prelude.{ℕ, List, length, nat_lt, if◌then◌else◌, Option, Some, None}
+use Rattle.std.specs.Prelude.{ℕ, ◌≤◌, List, [], ◌∷◌, length, nat_lt, if◌then◌else◌, Option, Some, None, option_map}
 use Rattle.shelf_io.specs.Files.{Files, bytes_of}
 use Rattle.point_tables.specs.declared.fault.FaultKind.{FaultKind}
-use Rattle.point_tables.specs.declared.fault.TableFault.{TableFault}
 use Rattle.point_tables.specs.declared.fault.TableName.{TableName}
 use Rattle.point_tables.specs.declared.fault.TableName.TheVariants as fault_table
 use Rattle.point_tables.specs.declared.record.PointRecord.{PointRecord}
@@ -9,8 +8,11 @@ use Rattle.point_tables.specs.PointTable.{points_fault, points_of}
 use Rattle.candidate_tables.specs.declared.record.CandidateRecord.{CandidateRecord}
 use Rattle.candidate_tables.specs.CandidateTable.{candidates_fault, candidates_of}
 use Rattle.net_build.specs.Build.{network_fault, network_of}
-use Rattle.geoplan.specs.CommandOf.{SourcesOf}
-use Rattle.geoplan.specs.Tables.{TablesOf}
+use Rattle.geoplan.specs.declared.file_kind.FileKind.{FileKind}
+use Rattle.geoplan.specs.declared.file_kind.FileKind.TheVariants as kind
+use Rattle.geoplan.specs.CommandOf.{CommandOf, FileOf, name_of, files_read, reads}
+use Rattle.geoplan.specs.Tables.{TablesOf, RefusedOf}
+use Rattle.geoplan.specs.Texts.{table_word, kind_word}
 
 -- What the files of a command give. This project's own.
 
@@ -18,50 +20,57 @@ use Rattle.geoplan.specs.Tables.{TablesOf}
 -- with their network
 pub data InputOf : Type 0 where
   too_long_input : List ℕ → InputOf
-  refused_input : TableFault → InputOf
+  refused_input : RefusedOf → InputOf
   built_input : TablesOf → InputOf
 
--- the most bytes of a table
-abbrev pub most_bytes : ℕ
-most_bytes = 1048576
+-- a file has no more bytes than it may have
+abbrev pub IsWithin : Files → FileOf → Type 0
+IsWithin files file = length (bytes_of files file.name) ≤ file.most
 
--- the most bytes of a log that is read
-abbrev pub most_log_bytes : ℕ
-most_log_bytes = 268435456
+-- the name of the first of these files that is too long, and where none is what is given then
+abbrev pub too_long_or : Files → List FileOf → InputOf → InputOf
+too_long_or files [] given = given
+too_long_or files (file ∷ later) given =
+    if nat_lt file.most (length (bytes_of files file.name)) then too_long_input file.name else too_long_or files later given
 
--- the name of a file that is too long, and where it isn't what is given then
-abbrev pub too_long_or : ℕ → List ℕ → List ℕ → InputOf → InputOf
-too_long_or most name bytes given = if nat_lt most (length bytes) then too_long_input name else given
+-- a table is refused for a fault
+abbrev pub refused_table : TableName → ℕ × FaultKind → RefusedOf
+refused_table name fault = record { table = table_word name; number = fault.0; kind = kind_word fault.1 }
 
--- the same of the log, if one is read
-abbrev pub long_log_or : Option (List ℕ) → Files → InputOf → InputOf
-long_log_or None files given = given
-long_log_or (Some name) files given = too_long_or most_log_bytes name (bytes_of files name) given
+-- the first fault of a file that is a table, by the bytes of each file. A log is no table
+abbrev pub fault_of : (FileKind → List ℕ) → FileKind → Option RefusedOf
+fault_of bytes kind.Points = option_map (refused_table fault_table.Points) (points_fault (bytes kind.Points))
+fault_of bytes kind.Candidates = option_map (refused_table fault_table.Candidates) (candidates_fault (points_of (bytes kind.Points)) (bytes kind.Candidates))
+fault_of bytes kind.Log = None
 
--- the refusal for the first fault of a table or of the network, and where there is none what is given then
-abbrev pub refused_for : TableName → Option (ℕ × FaultKind) → InputOf → InputOf
-refused_for name None given = given
-refused_for name (Some fault) given = refused_input (record { table = name; number = fault.0; kind = fault.1 })
+-- a refusal, and where there is none what is given then
+abbrev pub refused_or : Option RefusedOf → InputOf → InputOf
+refused_or None given = given
+refused_or (Some refused) given = refused_input refused
+
+-- the refusal of the first of these files that is a table with a fault, and where there is none what is given then
+abbrev pub faulty_or : (FileKind → List ℕ) → List FileKind → InputOf → InputOf
+faulty_or bytes [] given = given
+faulty_or bytes (kind ∷ later) given = refused_or (fault_of bytes kind) (faulty_or bytes later given)
 
 -- what two tables give where neither has a fault: the fault of their network, or the network for the redundancy
 unfoldable pub accepted_input : ℕ → List PointRecord → List CandidateRecord → InputOf
 accepted_input redundancy points candidates =
-    refused_for fault_table.Network (network_fault points candidates)
+    refused_or (option_map (refused_table fault_table.Network) (network_fault points candidates))
     (built_input (record { points = points; candidates = candidates; network = network_of points candidates redundancy }))
 
--- what two tables give that aren't too long: the first fault of the points, else that of the candidates, else what they
--- give where neither has a fault
-unfoldable pub judged_input : ℕ → List ℕ → List ℕ → InputOf
-judged_input redundancy points candidates =
-    refused_for fault_table.Points (points_fault points)
-    (refused_for fault_table.Candidates (candidates_fault (points_of points) candidates)
-    (accepted_input redundancy (points_of points) (candidates_of (points_of points) candidates)))
+-- what files give of which none is too long, by the bytes of each: the first fault of a table in the order of reading, else
+-- what the two tables give
+unfoldable pub judged_input : ℕ → (FileKind → List ℕ) → List FileKind → InputOf
+judged_input redundancy bytes kinds =
+    faulty_or bytes kinds
+    (accepted_input redundancy (points_of (bytes kind.Points)) (candidates_of (points_of (bytes kind.Points)) (bytes kind.Candidates)))
 
--- what the files that a command reads give, as they are held: too long points come first, then too long candidates, then
--- a log that is too long, then what the two tables give
-unfoldable pub input_of : SourcesOf → Files → InputOf
-input_of sources files =
-    too_long_or most_bytes sources.points (bytes_of files sources.points)
-    (too_long_or most_bytes sources.candidates (bytes_of files sources.candidates)
-    (long_log_or sources.log files
-    (judged_input sources.redundancy (bytes_of files sources.points) (bytes_of files sources.candidates))))
+-- the bytes of each file of a command, as they are held
+abbrev pub bytes_held : CommandOf → Files → FileKind → List ℕ
+bytes_held command files kind = bytes_of files (name_of command.sources kind)
+
+-- what the files that a command reads give, as they are held: the first one that is too long, else what they give then
+unfoldable pub input_of : CommandOf → Files → InputOf
+input_of command files =
+    too_long_or files (files_read command) (judged_input command.sources.redundancy (bytes_held command files) (reads command.verb))

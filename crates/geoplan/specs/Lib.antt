@@ -1,10 +1,11 @@
--- What the contract of the top call says, in the order of reading: CommandOf, Input, Tables, Texts, Outcomes, Printing,
+-- What the contract of the top call says, in the order of reading: CommandOf, Input, Tables, Texts, Outcomes, Ends, Printing,
 -- Promises, and Checked for the law beside it. The other modules are for private clauses and proofs.
 pub mod CommandOf
 pub mod Tables
 pub mod Input
 pub mod Texts
 pub mod Outcomes
+pub mod Ends
 pub mod Printing
 pub mod Promises
 pub mod Checked

@@ -1,19 +1,26 @@
-use Rattle.std.specs.Prelude.{◌≡◌, ℕ, ◌<◌, ◌≤◌, List, [], length, All, Option, Some, None}
+use Rattle.std.specs.Prelude.{◌≡◌, ℕ, ◌<◌, ◌≤◌, ◌∷◌, ◌++◌, List, [], length, drop, All, Option, Some, None, option_map}
+use Rattle.std.specs.List.{AllByRecursion}
 use Rattle.std.specs.Option.{ForSome}
 use Rattle.shelf_io.specs.Files.{Files, bytes_of}
-use Rattle.shelf_io.specs.Faults.{Rose, read_of}
+use Rattle.shelf_io.specs.Faults.{Rose, KeepsFaults, read_of}
 use Rattle.shelf_io.specs.States.{ShelfState}
-use Rattle.geoplan.specs.CommandOf.{SourcesOf}
-use Rattle.geoplan.specs.Input.{InputOf, too_long_input, refused_input, built_input, most_log_bytes, input_of}
-use Rattle.geoplan.specs.Tables.{TablesOf}
 use Rattle.geo_model.specs.Network.{IsNetwork}
-use Rattle.geoplan.specs.Outcomes.{AreTables, IsQuiet, IsOfCommand}
+use Rattle.point_tables.specs.declared.fault.TableName.TheVariants as fault_table
+use Rattle.point_tables.specs.PointTable.{points_fault, points_of}
+use Rattle.candidate_tables.specs.CandidateTable.{candidates_fault, candidates_of}
 use Rattle.geoplan.specs.declared.load.LoadFault.{LoadFault}
 use Rattle.geoplan.specs.declared.load.LoadFault.TheVariants as load
-use Rattle.geoplan.specs.declared.input.Input.{Input}
-use Rattle.geoplan.specs.declared.input.Input.TheVariants as input
+use Rattle.geoplan.specs.declared.refused_table.RefusedTable.{RefusedTable}
+use Rattle.geoplan.specs.declared.verb.Verb.TheVariants as verb
+use Rattle.geoplan.specs.CommandOf.{CommandOf, FileOf, files_read}
+use Rattle.geoplan.specs.Ends.{AreTables, AreBytes}
+use Rattle.geoplan.specs.Input.{InputOf, too_long_input, refused_input, built_input, refused_table, refused_or, IsWithin, accepted_input, input_of}
+use Rattle.geoplan.specs.Tables.{TablesOf, RefusedOf}
 
 -- What reading the files of a command does. Only private clauses and proofs cite it. This project's own.
+
+abbrev pub refused_view : RefusedTable → RefusedOf
+refused_view refused = record { table = refused.table.now; number = refused.number; kind = refused.kind.now }
 
 -- the network of the tables keeps the bounds of networks, has their candidates, and its unknowns are of their points
 pub record IsGoodNetwork (tables : TablesOf) : Type 0 where
@@ -21,31 +28,17 @@ pub record IsGoodNetwork (tables : TablesOf) : Type 0 where
   pub named : length tables.candidates ≡ length tables.network.candidates
   pub placed : All (λ unknown. unknown.point < length tables.points) tables.network.unknowns
 
--- what two tables give, as its meaning
-abbrev pub input_view : Input → InputOf
-input_view (input.Refused fault) = refused_input fault
-input_view (input.Built tables) = built_input tables
+-- ---- one file
 
 -- the bytes that were read are those that the shelf holds, within the limit
-abbrev pub HasBytes : ℕ → List ℕ → List ℕ → Option Files → Type 0
-HasBytes most name bytes held = (length bytes ≤ most) × ForSome held (λ files. bytes ≡ bytes_of files name)
+abbrev pub HasBytes : FileOf → List ℕ → Option Files → Type 0
+HasBytes file bytes held = (length bytes ≤ file.most) × ForSome held (λ files. bytes ≡ bytes_of files file.name)
 
 -- a file was read, and no fault was counted
-pub record ReadsFile (most : ℕ) (name bytes : List ℕ) (before now : ShelfState) : Type 0 where
-  pub has : HasBytes most name bytes before.held
+pub record ReadsFile (file : FileOf) (bytes : List ℕ) (before now : ShelfState) : Type 0 where
+  pub has : HasBytes file bytes before.held
   pub held : now.held ≡ before.held
-  pub quiet : IsQuiet before now
-
--- the bytes of a log that is read, none where none is
-abbrev pub HasLog : Option (List ℕ) → List ℕ → Option Files → Type 0
-HasLog None bytes held = bytes ≡ []
-HasLog (Some name) bytes held = HasBytes most_log_bytes name bytes held
-
--- a log was read, if one is, and no fault was counted
-pub record ReadsLog (log : Option (List ℕ)) (bytes : List ℕ) (before now : ShelfState) : Type 0 where
-  pub has : HasLog log bytes before.held
-  pub held : now.held ≡ before.held
-  pub quiet : IsQuiet before now
+  pub quiet : KeepsFaults before now
 
 -- the read of the name failed
 pub record FailsAt (name : List ℕ) (before now : ShelfState) : Type 0 where
@@ -53,58 +46,89 @@ pub record FailsAt (name : List ℕ) (before now : ShelfState) : Type 0 where
   pub last : now.last_fault ≡ Some (read_of name)
 
 -- why a file was not read
-abbrev pub HasReadFault : ℕ → List ℕ → LoadFault → ShelfState → ShelfState → Type 0
-HasReadFault most name (load.TooLong other) before now = (other.now ≡ name) × ForSome before.held (λ files. most < length (bytes_of files name)) × IsQuiet before now
-HasReadFault most name (load.Unread other) before now = (other.now ≡ name) × FailsAt name before now
-HasReadFault most name load.NoMemory before now = Unit {0}
+abbrev pub HasReadFault : FileOf → LoadFault → ShelfState → ShelfState → Type 0
+HasReadFault file (load.TooLong other) before now = (other.now ≡ file.name) × ForSome before.held (λ files. file.most < length (bytes_of files file.name)) × KeepsFaults before now
+HasReadFault file (load.Unread other) before now = (other.now ≡ file.name) × FailsAt file.name before now
+HasReadFault file (load.Refused refused) before now = ⊥
+HasReadFault file load.NoMemory before now = Unit {0}
 
 -- a file was not read: it is too long, its read failed, or memory ran out
-pub record FailsRead (most : ℕ) (name : List ℕ) (why : LoadFault) (before now : ShelfState) : Type 0 where
+pub record FailsRead (file : FileOf) (why : LoadFault) (before now : ShelfState) : Type 0 where
   pub held : now.held ≡ before.held
   pub later : before.faults ≤ now.faults
-  pub cause : HasReadFault most name why before now
+  pub cause : HasReadFault file why before now
 
--- a log was not read
-abbrev pub FailsLog : Option (List ℕ) → LoadFault → ShelfState → ShelfState → Type 0
-FailsLog log why before now = (name : List ℕ) × (log ≡ Some name) × FailsRead most_log_bytes name why before now
+-- ---- the files of a command
 
--- the network of built tables keeps its bounds
-abbrev pub IsGoodInput : Input → Type 0
-IsGoodInput given = (tables : TablesOf) → given ≡ input.Built tables → IsGoodNetwork tables
-
--- the log is that which the shelf holds, where one is read
-abbrev pub IsReadLog : SourcesOf → List ℕ → Option Files → Type 0
-IsReadLog sources log held = (name : List ℕ) → sources.log ≡ Some name → ForSome held (λ files. log ≡ bytes_of files name)
-
--- .. and where the tables are accepted
-abbrev pub IsLogOf : SourcesOf → Input → List ℕ → Option Files → Type 0
-IsLogOf sources given log held = (tables : TablesOf) → given ≡ input.Built tables → IsReadLog sources log held
-
--- the files were read as far as they are asked for, and no fault was counted
-pub record Loads (sources : SourcesOf) (given : Input) (log : List ℕ) (before now : ShelfState) : Type 0 where
-  pub input : ForSome before.held (λ files. input_view given ≡ input_of sources files)
-  pub good : IsGoodInput given
-  pub read : IsLogOf sources given log before.held
+-- files were read one after another, and no fault was counted
+pub record ReadsAll (files : List FileOf) (before now : ShelfState) : Type 0 where
+  pub within : ForSome before.held (λ held. AllByRecursion (IsWithin held) files)
   pub held : now.held ≡ before.held
-  pub quiet : IsQuiet before now
+  pub quiet : KeepsFaults before now
+
+-- the files that are read after the two tables
+abbrev pub more_read : CommandOf → List FileOf
+more_read command = drop 2 (files_read command)
+
+-- the bytes of the log are those that the shelf holds, where it is read
+abbrev pub IsReadLog : CommandOf → List ℕ → Option Files → Type 0
+IsReadLog command log held = command.verb ≡ verb.Check → AreBytes command.sources.log held log
+
+-- the files after the two tables were read
+pub record ReadsMore (command : CommandOf) (log : List ℕ) (before now : ShelfState) : Type 0 where
+  pub read : IsReadLog command log before.held
+  pub all : ReadsAll (more_read command) before now
+
+-- the one file after the two tables was not read
+pub record FailsMore (command : CommandOf) (why : LoadFault) (before now : ShelfState) : Type 0 where
+  pub file : FileOf
+  pub one : more_read command ≡ file ∷ []
+  pub fails : FailsRead file why before now
 
 -- the tables were read and are accepted, these are they with their network, the log was read besides, and no fault was
 -- counted
-pub record HasTables (sources : SourcesOf) (tables : TablesOf) (log : List ℕ) (before now : ShelfState) : Type 0 where
-  pub input : AreTables sources before.held tables
+pub record Loads (command : CommandOf) (tables : TablesOf) (log : List ℕ) (before now : ShelfState) : Type 0 where
+  pub input : AreTables command before.held tables
   pub good : IsGoodNetwork tables
-  pub read : IsReadLog sources log before.held
+  pub read : IsReadLog command log before.held
   pub held : now.held ≡ before.held
-  pub quiet : IsQuiet before now
+  pub quiet : KeepsFaults before now
+
+-- the read of a file of this name failed, and those before it in the order of reading are not too long
+pub record FailsInOrder (files : List FileOf) (name : List ℕ) (before now : ShelfState) : Type 0 where
+  pub earlier : List FileOf
+  pub file : FileOf
+  pub later : List FileOf
+  pub order : files ≡ earlier ++ file ∷ later
+  pub within : ForSome before.held (λ held. All (IsWithin held) earlier)
+  pub same_name : name ≡ file.name
+  pub fault : FailsAt file.name before now
 
 -- why the files of a command were not loaded
-abbrev pub HasLoadFault : SourcesOf → LoadFault → ShelfState → ShelfState → Type 0
-HasLoadFault sources (load.TooLong name) before now = ForSome before.held (λ files. input_of sources files ≡ too_long_input name.now) × IsQuiet before now
-HasLoadFault sources (load.Unread name) before now = IsOfCommand sources name.now × FailsAt name.now before now
-HasLoadFault sources load.NoMemory before now = Unit {0}
+abbrev pub HasLoadFault : CommandOf → LoadFault → ShelfState → ShelfState → Type 0
+HasLoadFault command (load.TooLong name) before now = ForSome before.held (λ files. input_of command files ≡ too_long_input name.now) × KeepsFaults before now
+HasLoadFault command (load.Unread name) before now = FailsInOrder (files_read command) name.now before now
+HasLoadFault command (load.Refused refused) before now = ForSome before.held (λ files. input_of command files ≡ refused_input (refused_view refused)) × KeepsFaults before now
+HasLoadFault command load.NoMemory before now = Unit {0}
 
--- the files were not loaded: one is too long, a read of one failed, or memory ran out
-pub record FailsLoad (sources : SourcesOf) (why : LoadFault) (before now : ShelfState) : Type 0 where
+-- the files were not loaded: one is too long, a read of one failed, a table is refused, or memory ran out
+pub record FailsLoad (command : CommandOf) (why : LoadFault) (before now : ShelfState) : Type 0 where
   pub held : now.held ≡ before.held
   pub later : before.faults ≤ now.faults
-  pub cause : HasLoadFault sources why before now
+  pub cause : HasLoadFault command why before now
+
+-- ---- the tables
+
+-- what the bytes of two tables give
+unfoldable pub tables_input : ℕ → List ℕ → List ℕ → InputOf
+tables_input redundancy points candidates =
+    refused_or (option_map (refused_table fault_table.Points) (points_fault points))
+    (refused_or (option_map (refused_table fault_table.Candidates) (candidates_fault (points_of points) candidates))
+    (accepted_input redundancy (points_of points) (candidates_of (points_of points) candidates)))
+
+-- why tables were not accepted: the refusal that they give, or memory ran out
+abbrev pub IsRefusal : InputOf → LoadFault → Type 0
+IsRefusal given (load.TooLong name) = ⊥
+IsRefusal given (load.Unread name) = ⊥
+IsRefusal given (load.Refused refused) = given ≡ refused_input (refused_view refused)
+IsRefusal given load.NoMemory = Unit {0}

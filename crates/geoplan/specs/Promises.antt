@@ -1,4 +1,4 @@
-use Rattle.std.specs.Prelude.{◌≡◌, ◌≢◌, ◌⊎◌, ℕ, List, [], ◌∷◌, nat_eq, IsTrue, Option, Some}
+use Rattle.std.specs.Prelude.{◌≡◌, ◌⊎◌, ℕ, List, [], ◌∷◌, nat_eq, IsTrue, Contains, Option, Some}
 use Rattle.std.specs.List.{list_any}
 use Rattle.std.specs.FinMap.{get}
 use Rattle.shelf_io.specs.Files.{Files, bytes_of}
@@ -9,9 +9,11 @@ use Rattle.log_check.specs.declared.fault.LogFault.{LogFault}
 use Rattle.log_check.specs.declared.replaying.Replayed.{Replayed}
 use Rattle.log_check.specs.FirstFault.{IsFirstFault}
 use Rattle.log_check.specs.Replayed.{IsReplayed}
-use Rattle.geoplan.specs.CommandOf.{CommandOf, plan_command, rows_command, check_command, sources_of, written_by, OnPlan}
+use Rattle.geoplan.specs.declared.verb.Verb.{Verb}
+use Rattle.geoplan.specs.declared.verb.Verb.TheVariants as verb
+use Rattle.geoplan.specs.CommandOf.{SourcesOf, CommandOf, written_by, OnCommand}
+use Rattle.geoplan.specs.Ends.{EndsUnwritten, Began, HasReport, HasText}
 use Rattle.geoplan.specs.Input.{InputOf, too_long_input, refused_input, built_input, input_of}
-use Rattle.geoplan.specs.Outcomes.{BeganLog, FailsToWrite, HasReport, HasText}
 use Rattle.geoplan.specs.Printing.{WritesPrefix, FailsToPut}
 use Rattle.geoplan.specs.Tables.{TablesOf}
 
@@ -23,20 +25,15 @@ IsStatus status = IsTrue (list_any (nat_eq status) (0 ∷ 1 ∷ 2 ∷ 3 ∷ 4 �
 
 -- ---- failed writes, and want of memory
 
--- a write of the log of `plan` failed, and nothing was printed
-abbrev pub IsLogUnwritten : CommandOf → ShelfState → ShelfState → SinkState → SinkState → Type 0
-IsLogUnwritten (plan_command job) before now sink sink_now = FailsToWrite job before now × (sink_now.written ≡ sink.written)
-IsLogUnwritten command before now sink sink_now = ⊥
-
--- a write of the log failed, or the put of a report did
+-- a write of a file of the command failed, and nothing was printed; or the put of a report failed
 abbrev pub IsUnwritten : CommandOf → ShelfState → ShelfState → SinkState → SinkState → Type 0
 IsUnwritten command before now sink sink_now =
-    IsLogUnwritten command before now sink sink_now ⊎ FailsToPut (HasReport command before now) sink sink_now
+    (EndsUnwritten command before now × (sink_now.written ≡ sink.written)) ⊎ FailsToPut (HasReport command before now) sink sink_now
 
--- memory ran out: the shelf holds what it held, or of `plan` the beginning of a log besides, and nothing was printed, or
--- the beginning of the text of the outcome that stands
+-- memory ran out: the shelf holds what it held, or the beginning of what the command writes besides, and nothing was
+-- printed, or the beginning of the text of the outcome that stands
 pub record RanOut (words : List (List ℕ)) (before now : ShelfState) (sink sink_now : SinkState) : Type 0 where
-  pub held : (now.held ≡ before.held) ⊎ OnPlan words (λ job. BeganLog job before.held now.held)
+  pub held : (now.held ≡ before.held) ⊎ OnCommand words (λ command. Began command before.held now.held)
   pub printed : (sink_now.written ≡ sink.written) ⊎ ((text : List ℕ) × HasText words before now text × WritesPrefix text sink sink_now)
 
 -- ---- what stays
@@ -45,9 +42,9 @@ pub record RanOut (words : List (List ℕ)) (before now : ShelfState) (sink sink
 abbrev pub WhereHeld : Option Files → Option Files → (Files → Files → Type 0) → Type 0
 WhereHeld before now P = (files after : Files) → before ≡ Some files → now ≡ Some after → P files after
 
--- every name but the one that the command writes holds what it held
+-- every name but those that the command may write holds what it held
 abbrev pub OthersStay : List (List ℕ) → Files → Files → Type 0
-OthersStay words files after = (name : List ℕ) → written_by words ≢ Some name → get after name ≡ get files name
+OthersStay words files after = (name : List ℕ) → (Contains (written_by words) name → ⊥) → get after name ≡ get files name
 
 -- ---- which status comes
 
@@ -63,25 +60,25 @@ pub record IsWrongLog (tables : TablesOf) (log : List ℕ) : Type 0 where
   pub first : IsFirstFault tables.network log fault
   pub no_log : (tree : Tree) → IsLog tables.network log tree → ⊥
 
--- the status of `check`: 0 exactly where the text is a log, 8 exactly where it is none, or want of memory
+-- the status of a replay: 0 exactly where the text is a log, 8 exactly where it is none, or want of memory
 abbrev pub IsCheckStatus : TablesOf → List ℕ → ℕ → Type 0
 IsCheckStatus tables log status = ((status ≡ 0) × IsRightLog tables log) ⊎ (((status ≡ 8) × IsWrongLog tables log) ⊎ (status ≡ 7))
 
 -- the status of a command for accepted tables, or want of memory
-abbrev pub IsAnswerStatus : CommandOf → TablesOf → Files → ℕ → Type 0
-IsAnswerStatus (plan_command job) tables files status = (status ≡ 0) ⊎ ((status ≡ 1) ⊎ ((status ≡ 4) ⊎ (status ≡ 7)))
-IsAnswerStatus (rows_command points candidates) tables files status = (status ≡ 0) ⊎ (status ≡ 7)
-IsAnswerStatus (check_command job) tables files status = IsCheckStatus tables (bytes_of files job.log) status
+abbrev pub IsAnswerStatus : Verb → SourcesOf → TablesOf → Files → ℕ → Type 0
+IsAnswerStatus verb.Plan sources tables files status = (status ≡ 0) ⊎ ((status ≡ 1) ⊎ ((status ≡ 4) ⊎ (status ≡ 7)))
+IsAnswerStatus verb.Rows sources tables files status = (status ≡ 0) ⊎ (status ≡ 7)
+IsAnswerStatus verb.Check sources tables files status = IsCheckStatus tables (bytes_of files sources.log) status
 
 -- the status that the files give, or want of memory
 abbrev pub IsStatusOf : CommandOf → InputOf → Files → ℕ → Type 0
 IsStatusOf command (too_long_input name) files status = (status ≡ 9) ⊎ (status ≡ 7)
 IsStatusOf command (refused_input fault) files status = (status ≡ 3) ⊎ (status ≡ 7)
-IsStatusOf command (built_input tables) files status = IsAnswerStatus command tables files status
+IsStatusOf command (built_input tables) files status = IsAnswerStatus command.verb command.sources tables files status
 
 -- the status of accepted words where no fault was counted: by what the files give
 abbrev pub IsComplete : CommandOf → Files → ℕ → Type 0
-IsComplete command files status = IsStatusOf command (input_of (sources_of command) files) files status
+IsComplete command files status = IsStatusOf command (input_of command files) files status
 
 -- the status of accepted words whatever faults were counted: a file that is too long or a table with a fault is refused,
 -- but for a failed read and want of memory

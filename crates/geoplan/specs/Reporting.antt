@@ -8,11 +8,14 @@ use Rattle.log_check.specs.declared.replaying.Replayed.{Replayed}
 use Rattle.log_check.specs.FirstFault.{IsFirstFault}
 use Rattle.log_check.specs.Replayed.{IsReplayed}
 use Rattle.geoplan.specs.Tables.{TablesOf}
-use Rattle.geoplan.specs.Texts.{tables_plan_text, no_plan_text, tables_undecided_text, checked_text, log_fault_text}
+use Rattle.geoplan.specs.Loading.{refused_view}
+use Rattle.geoplan.specs.Texts.{cannot_read_text, too_long_text, table_text, tables_plan_text, no_plan_text, tables_undecided_text, checked_text, log_fault_text}
+use Rattle.geoplan.specs.declared.load.LoadFault.{LoadFault}
+use Rattle.geoplan.specs.declared.load.LoadFault.TheVariants as load
 use Rattle.geoplan.specs.declared.status.Status.{Status}
 use Rattle.geoplan.specs.declared.status.Status.TheVariants as status
 
--- The report of an answer. Only private clauses and proofs cite it. This project's own.
+-- The text of an answer. Only private clauses and proofs cite it. This project's own.
 
 -- the limit of a number is one of the network's
 pub record HasLimit (tables : TablesOf) (number : ℕ) : Type 0 where
@@ -47,3 +50,10 @@ Replays network log ends text =
     ((done : Replayed) × IsReplayed network log done × Ends status.Found (checked_text done) ends text)
     ⊎ (((fault : LogFault) × IsFirstFault network log fault × Ends status.LogRefused (log_fault_text fault) ends text)
     ⊎ HasNoText ends text)
+
+-- the status and the text of a command whose files were not loaded
+abbrev pub Refused : LoadFault → Status → List ℕ → Type 0
+Refused (load.TooLong name) ends text = Ends status.FileTooLong (too_long_text name.now) ends text
+Refused (load.Unread name) ends text = Ends status.ReadFault (cannot_read_text name.now) ends text
+Refused (load.Refused refused) ends text = Ends status.TableRefused (table_text (refused_view refused)) ends text
+Refused load.NoMemory ends text = HasNoText ends text

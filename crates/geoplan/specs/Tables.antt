@@ -1,4 +1,4 @@
-use Rattle.std.specs.Prelude.{List}
+use Rattle.std.specs.Prelude.{ℕ, List}
 use Rattle.geo_model.specs.Network.{NetworkOf}
 use Rattle.point_tables.specs.declared.record.PointRecord.{PointRecord}
 use Rattle.candidate_tables.specs.declared.record.CandidateRecord.{CandidateRecord}
@@ -8,3 +8,9 @@ pub record TablesOf : Type 0 where
   pub points : List PointRecord
   pub candidates : List CandidateRecord
   pub network : NetworkOf
+
+-- a table that is refused: its word, the number of a record, and the word of what is wrong with it
+pub record RefusedOf : Type 0 where
+  pub table : List ℕ
+  pub number : ℕ
+  pub kind : List ℕ

@@ -7,7 +7,6 @@ use Rattle.geo_model.specs.declared.limit.LimitKind.{LimitKind}
 use Rattle.geo_model.specs.declared.limit.LimitKind.TheVariants as limit
 use Rattle.point_tables.specs.declared.fault.FaultKind.{FaultKind}
 use Rattle.point_tables.specs.declared.fault.FaultKind.TheVariants as kind
-use Rattle.point_tables.specs.declared.fault.TableFault.{TableFault}
 use Rattle.point_tables.specs.declared.fault.TableName.{TableName}
 use Rattle.point_tables.specs.declared.fault.TableName.TheVariants as table
 use Rattle.point_tables.specs.PointTable as point
@@ -20,7 +19,7 @@ use Rattle.log_check.specs.declared.fault.LogFault.{LogFault}
 use Rattle.bound_log.specs.declared.log_kind.LogKind.{LogKind}
 use Rattle.bound_log.specs.declared.log_kind.LogKind.TheVariants as log_kind
 use Rattle.log_check.specs.declared.replaying.Replayed.{Replayed}
-use Rattle.geoplan.specs.Tables.{TablesOf}
+use Rattle.geoplan.specs.Tables.{TablesOf, RefusedOf}
 
 -- What is printed. Each line ends with LF. This project's own.
 
@@ -64,10 +63,10 @@ kind_word kind.Far = codes "Far"
 kind_word kind.TooManyUnknowns = codes "TooManyUnknowns"
 kind_word kind.TooManyRows = codes "TooManyRows"
 
--- a table is refused for a fault: the table, the number of the record, the kind
-abbrev pub table_text : TableFault → List ℕ
-table_text fault =
-    codes "table," ++ (table_word fault.table ++ (codes "," ++ (decimal fault.number ++ (codes "," ++ (kind_word fault.kind ++ codes "\n")))))
+-- a table is refused: its word, the number of the record, the word of the kind
+abbrev pub table_text : RefusedOf → List ℕ
+table_text refused =
+    codes "table," ++ (refused.table ++ (codes "," ++ (decimal refused.number ++ (codes "," ++ (refused.kind ++ codes "\n")))))
 
 -- the line of a chosen candidate
 abbrev pub take_text : List ℕ → List ℕ

@@ -1,20 +1,40 @@
-//! What `check` says of a log that `plan` left. The function is its contract: it does nothing.
+//! Laws of what the top call promises. Each function is its contract: it does nothing.
 ghost use Rattle.std.specs.Prelude.{◌≡◌, ℕ, List, Some};
 ghost use Rattle.std.specs.Option.{ForSome};
-ghost use Rattle.shelf_io.specs.States.{ShelfState};
+ghost use Rattle.shelf_io.specs.States.{ShelfState, SinkState};
 ghost use Rattle.geo_model.specs.Energy.{cost_of};
-ghost use Rattle.bound_log.specs.declared.bound.Bound.TheVariants.{NoPlan, AtLeast};
-ghost use Rattle.geoplan.specs.Checked.{ChecksWith};
-ghost use Rattle.geoplan.specs.CommandOf.{JobOf, plan_command, command_of};
-ghost use Rattle.geoplan.specs.Outcomes.{FindsPlan, FindsNone, LeavesOpen};
+ghost use Rattle.bound_log.specs.declared.bound.Bound.TheVariants.{NoPlan};
+ghost use Rattle.geoplan.specs.Checked.{planning, ChecksWith};
+ghost use Rattle.geoplan.specs.CommandOf.{SourcesOf, CommandOf, FileOf, command_of};
+ghost use Rattle.geoplan.specs.Ends.{AreTables};
+ghost use Rattle.geoplan.specs.Outcomes.{priced, FindsPlan, FindsNone, LeavesOpen, FailsToRead};
+ghost use Rattle.geoplan.specs.Promises.{IsUnwritten};
+ghost use Rattle.geoplan.specs.Tables.{TablesOf};
 
-/// Whatever `plan` left, `check` over the same files accepts its log, and with the printed bound: the
-/// price of the plan, or none. `check` reads logs of up to 268435456 bytes.
+use shelf_io::{Shelf, Sink, SureShelf, SureSink};
+
+/// Whatever `plan` left, `check` over the same files accepts its log, with the counts of its lines and
+/// with the printed bound: the price of the plan, or none. `check` reads logs of up to 268435456 bytes.
 pub fn what_plan_writes_check_accepts()
-    ensures plan { (words : List (List ℕ)) (job : JobOf) (before now : ShelfState) (text : List ℕ) → command_of words ≡ Some (plan_command job) →
-        (found : FindsPlan job before now text) → ForSome now.held (ChecksWith job found.tables (AtLeast (cost_of found.tables.network.candidates found.plan))) }
-    ensures none { (words : List (List ℕ)) (job : JobOf) (before now : ShelfState) (text : List ℕ) → command_of words ≡ Some (plan_command job) →
-        (found : FindsNone job before now text) → ForSome now.held (ChecksWith job found.tables NoPlan) }
-    ensures undecided { (words : List (List ℕ)) (job : JobOf) (before now : ShelfState) (text : List ℕ) → command_of words ≡ Some (plan_command job) →
-        (left : LeavesOpen job before now text) → ForSome now.held (ChecksWith job left.tables (AtLeast (cost_of left.tables.network.candidates left.plan))) }
+    ensures plan { (words : List (List ℕ)) (sources : SourcesOf) (tables : TablesOf) (before now : ShelfState) (text : List ℕ) →
+        command_of words ≡ Some (planning sources) → AreTables (planning sources) before.held tables →
+        (found : FindsPlan tables sources.log before now text) →
+        ForSome now.held (ChecksWith sources tables (priced (cost_of tables.network.candidates found.plan) found.counts)) }
+    ensures none { (words : List (List ℕ)) (sources : SourcesOf) (tables : TablesOf) (before now : ShelfState) (text : List ℕ) →
+        command_of words ≡ Some (planning sources) → AreTables (planning sources) before.held tables →
+        (found : FindsNone tables sources.log before now text) →
+        ForSome now.held (ChecksWith sources tables (record { bound = NoPlan; counts = found.counts })) }
+    ensures undecided { (words : List (List ℕ)) (sources : SourcesOf) (tables : TablesOf) (before now : ShelfState) (text : List ℕ) →
+        command_of words ≡ Some (planning sources) → AreTables (planning sources) before.held tables →
+        (left : LeavesOpen tables sources.log before now text) →
+        ForSome now.held (ChecksWith sources tables (priced (cost_of tables.network.candidates left.plan) left.counts)) }
+{}
+
+/// Over a shelf and a sink of which no call fails, what statuses 5 and 6 say doesn't come.
+pub fn sure_calls_do_not_fail()
+    ensures reads { (files : List FileOf) (before now : SureShelf) (text : List ℕ) →
+        FailsToRead files (⟦<SureShelf as Shelf>⟧.state before) (⟦<SureShelf as Shelf>⟧.state now) text → ⊥ }
+    ensures writes { (command : CommandOf) (before now : SureShelf) (sink sink_now : SureSink) →
+        IsUnwritten command (⟦<SureShelf as Shelf>⟧.state before) (⟦<SureShelf as Shelf>⟧.state now)
+        (⟦<SureSink as Sink>⟧.state sink) (⟦<SureSink as Sink>⟧.state sink_now) → ⊥ }
 {}

@@ -1,15 +1,17 @@
 //! The texts that are printed.
 ghost use Rattle.std.specs.Prelude.{◌≡◌, ◌++◌, length, IfOk, OnOk};
 ghost use Rattle.candidate_tables.specs.CandidateTable.{names_of};
+ghost use Rattle.geoplan.specs.Loading.{refused_view};
 ghost use Rattle.geoplan.specs.Texts.{words_text, cannot_read_text, too_long_text, table_word, kind_word, table_text, take_text, takes_text, price_text, plan_text, no_plan_text, undecided_text, log_kind_word, log_fault_text, count_text, counts_text, bound_text, checked_text};
 
+use crate::refused_table::RefusedTable;
 use bound_log::Bound;
 use candidate_tables::Candidates;
 use geo_base::NoMemory;
 use geo_model::{Counts, Network, Plan, cost};
 use itoa::Buffer;
 use log_check::{LogFault, LogKind, Replayed};
-use point_tables::{FaultKind, Name, TableFault, TableName};
+use point_tables::{FaultKind, Name, TableName};
 use std::alloc::Global;
 
 /// Appends the line of a chosen candidate.
@@ -125,7 +127,7 @@ pub fn too_long_refusal(alloc: Global, name: &str) -> Result<Vec<u8>, NoMemory>
 
 /// The word for a table.
 #[tactic(auto, unfolding(crate::specs::Texts::table_word))]
-fn table_word(table: TableName) -> &'static str
+pub fn table_word(table: TableName) -> &'static str
     ensures { result.now ≡ table_word table }
 {
     match table {
@@ -137,7 +139,7 @@ fn table_word(table: TableName) -> &'static str
 
 /// The word for a kind of fault.
 #[tactic(auto, unfolding(crate::specs::Texts::kind_word))]
-fn kind_word(kind: FaultKind) -> &'static str
+pub fn kind_word(kind: FaultKind) -> &'static str
     ensures { result.now ≡ kind_word kind }
 {
     match kind {
@@ -163,17 +165,17 @@ fn kind_word(kind: FaultKind) -> &'static str
     }
 }
 
-/// What is printed where a table is refused for a fault.
-pub fn table_refusal(alloc: Global, fault: TableFault) -> Result<Vec<u8>, NoMemory>
-    ensures { IfOk result (λ text. text.items ≡ table_text fault) }
+/// What is printed where a table is refused.
+pub fn table_refusal(alloc: Global, refused: RefusedTable) -> Result<Vec<u8>, NoMemory>
+    ensures { IfOk result (λ text. text.items ≡ table_text (refused_view refused)) }
 {
     let mut buffer = Buffer::new();
     let mut text = Vec::from_slice(alloc, b"table,")?;
-    text.extend_from_slice(table_word(fault.table).as_bytes())?;
+    text.extend_from_slice(refused.table.as_bytes())?;
     text.extend_from_slice(b",")?;
-    text.extend_from_slice(buffer.format(fault.number).as_bytes())?;
+    text.extend_from_slice(buffer.format(refused.number).as_bytes())?;
     text.extend_from_slice(b",")?;
-    text.extend_from_slice(kind_word(fault.kind).as_bytes())?;
+    text.extend_from_slice(refused.kind.as_bytes())?;
     text.extend_from_slice(b"\n")?;
     Ok(text)
 }

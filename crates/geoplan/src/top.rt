@@ -1,10 +1,11 @@
 //! The top call.
-ghost use Rattle.std.specs.Prelude.{◌≡◌, ◌⊎◌, Some, None, is_some};
+ghost use Rattle.std.specs.Prelude.{◌≡◌, ◌⊎◌, [], Some, None, is_some};
 ghost use Rattle.std.specs.Option.{ForSome};
 ghost use Rattle.shelf_io.specs.Faults.{Rose};
-ghost use Rattle.geoplan.specs.CommandOf.{CommandOf, command_of, sources_of, written_by, OnCommand, OnPlan, IfPlan, IfRows, OnCheck, IfCheck};
+ghost use Rattle.geoplan.specs.CommandOf.{CommandOf, command_of, files_read, written_by, OnCommand};
+ghost use Rattle.geoplan.specs.Ends.{Completes, EndsWithNone, EndsOpen, EndsAtLog};
 ghost use Rattle.geoplan.specs.Input.{input_of};
-ghost use Rattle.geoplan.specs.Outcomes.{FindsPlan, FindsNone, LeavesOpen, ListsRows, AcceptsLog, RefusesLog, RefusesWords, RefusesTable, RefusesLength, FailsToRead};
+ghost use Rattle.geoplan.specs.Outcomes.{RefusesWords, RefusesTable, RefusesLength, FailsToRead};
 ghost use Rattle.geoplan.specs.Printing.{PrintsAll, Says};
 ghost use Rattle.geoplan.specs.Promises.{WhereHeld, IsStatus, IsUnwritten, RanOut, OthersStay, IsComplete, IsRefusedBy};
 
@@ -19,73 +20,68 @@ use std::alloc::Global;
 pub fn geoplan<H: Shelf, O: Sink>(alloc: Global, words: &Words, shelf: &mut H, out: &mut O) -> u8
     ensures status { IsStatus result }
 
-    // 0 of `plan`: the printed plan meets every limit for all whole-number displacements, and every
-    // plan that meets them costs at least as much, which the log proves.
-    ensures found { result ≡ 0 → IfPlan words.now (λ job. PrintsAll (FindsPlan job (H.state shelf.old)
-        (H.state shelf.new)) (O.state out.old) (O.state out.new)) }
-
-    // 0 of `rows`: the unknowns and rows of the network of the two tables were printed.
-    ensures rows { result ≡ 0 → IfRows words.now (λ sources. PrintsAll (ListsRows sources (H.state shelf.old)
-        (H.state shelf.new)) (O.state out.old) (O.state out.new)) }
-
-    // 0 of `check`: the text under the log's name is a log of the network, its lines were counted and
-    // its bound printed, and every plan that meets the limits costs at least the bound.
-    ensures checked { result ≡ 0 → IfCheck words.now (λ job. PrintsAll (AcceptsLog job (H.state shelf.old)
-        (H.state shelf.new)) (O.state out.old) (O.state out.new)) }
+    // 0: the command is done, and its text was printed. Of `plan`: the printed plan meets every limit
+    // for all whole-number displacements, and every plan that meets them costs at least as much, which
+    // the log proves. Of `check`: the text under the log's name is a log of the network, and every plan
+    // that meets the limits costs at least its bound. Of `rows`: unknowns and rows.
+    ensures done { result ≡ 0 → OnCommand words.now (λ command. PrintsAll
+        (Completes command (H.state shelf.old) (H.state shelf.new)) (O.state out.old) (O.state out.new)) }
 
     // 1: no plan meets the limits, which the log proves.
-    ensures none { result ≡ 1 → OnPlan words.now (λ job. PrintsAll (FindsNone job (H.state shelf.old)
-        (H.state shelf.new)) (O.state out.old) (O.state out.new)) }
+    ensures none { result ≡ 1 → OnCommand words.now (λ command. PrintsAll
+        (EndsWithNone command (H.state shelf.old) (H.state shelf.new)) (O.state out.old) (O.state out.new)) }
 
     // 2: exactly where the words aren't accepted, but for want of memory.
-    ensures words { result ≡ 2 → Says (RefusesWords words.now (H.state shelf.old) (H.state shelf.new))
-        (O.state out.old) (O.state out.new) }
+    ensures words { result ≡ 2 → Says
+        (RefusesWords words.now (H.state shelf.old) (H.state shelf.new)) (O.state out.old) (O.state out.new) }
     ensures refused { command_of words.now ≡ None → (result ≡ 2) ⊎ (result ≡ 7) }
 
-    // 3: the shown fault is the first one of the points table, or of the candidates table where the
-    // points table has none, or of their network where neither has one.
-    ensures refused_table { result ≡ 3 → OnCommand words.now (λ command. Says (RefusesTable (sources_of command)
-        (H.state shelf.old) (H.state shelf.new)) (O.state out.old) (O.state out.new)) }
+    // 3: the shown fault is the first one of the tables in the order of reading, or of their network
+    // where no table has one.
+    ensures refused_table { result ≡ 3 → OnCommand words.now (λ command. Says
+        (RefusesTable command (H.state shelf.old) (H.state shelf.new)) (O.state out.old) (O.state out.new)) }
 
     // 4: the printed plan costs no more than any that meets the limits, which the log proves. It is
     // not decided: the interval of the printed limit contains 0.
-    ensures undecided { result ≡ 4 → OnPlan words.now (λ job. PrintsAll (LeavesOpen job (H.state shelf.old)
-        (H.state shelf.new)) (O.state out.old) (O.state out.new)) }
+    ensures undecided { result ≡ 4 → OnCommand words.now (λ command. PrintsAll
+        (EndsOpen command (H.state shelf.old) (H.state shelf.new)) (O.state out.old) (O.state out.new)) }
 
-    // 5: a read of a file of the command failed in this call.
-    ensures unread { result ≡ 5 → OnCommand words.now (λ command. Says (FailsToRead (sources_of command)
-        (H.state shelf.old) (H.state shelf.new)) (O.state out.old) (O.state out.new)) }
+    // 5: a read of a file of the command failed in this call, and no file before it is too long.
+    ensures unread { result ≡ 5 → OnCommand words.now (λ command. Says
+        (FailsToRead (files_read command) (H.state shelf.old) (H.state shelf.new))
+        (O.state out.old) (O.state out.new)) }
 
-    // 6: a write of the log failed in this call, or the put of a report did.
-    ensures unwritten { result ≡ 6 → OnCommand words.now (λ command. IsUnwritten command (H.state shelf.old)
-        (H.state shelf.new) (O.state out.old) (O.state out.new)) }
+    // 6: a write of a file of the command failed in this call, or the put of a report did.
+    ensures unwritten { result ≡ 6 → OnCommand words.now (λ command. IsUnwritten command
+        (H.state shelf.old) (H.state shelf.new) (O.state out.old) (O.state out.new)) }
 
     // 7: memory ran out, for which no cause is said.
-    ensures out_of_memory { result ≡ 7 → RanOut words.now (H.state shelf.old) (H.state shelf.new)
-        (O.state out.old) (O.state out.new) }
+    ensures out_of_memory { result ≡ 7 → RanOut words.now
+        (H.state shelf.old) (H.state shelf.new) (O.state out.old) (O.state out.new) }
 
-    // 8 of `check`: the shown fault is the first one of the text under the log's name.
-    ensures log_refused { result ≡ 8 → OnCheck words.now (λ job. Says (RefusesLog job (H.state shelf.old)
-        (H.state shelf.new)) (O.state out.old) (O.state out.new)) }
+    // 8: the shown fault is the first one of the text under the log's name.
+    ensures log_refused { result ≡ 8 → OnCommand words.now (λ command. Says
+        (EndsAtLog command (H.state shelf.old) (H.state shelf.new)) (O.state out.old) (O.state out.new)) }
 
     // 9: the shown file is the first one, in the order of reading, that is too long.
-    ensures too_long { result ≡ 9 → OnCommand words.now (λ command. Says (RefusesLength (sources_of command)
-        (H.state shelf.old) (H.state shelf.new)) (O.state out.old) (O.state out.new)) }
+    ensures too_long { result ≡ 9 → OnCommand words.now (λ command. Says
+        (RefusesLength command (H.state shelf.old) (H.state shelf.new)) (O.state out.old) (O.state out.new)) }
 
     // Accepted words and no fault counted: the status is what the files give, or want of memory.
     ensures complete { (command : CommandOf) → command_of words.now ≡ Some command →
-        (Rose (H.state shelf.old).faults (H.state shelf.new).faults → ⊥) → (Rose (O.state out.old).faults (O.state out.new).faults → ⊥) →
+        (Rose (H.state shelf.old).faults (H.state shelf.new).faults → ⊥) →
+        (Rose (O.state out.old).faults (O.state out.new).faults → ⊥) →
         ForSome (H.state shelf.old).held (λ files. IsComplete command files result) }
 
     // Whatever faults were counted: a file that is too long or a table with a fault is refused, but
     // for a failed read and want of memory.
     ensures refusals { (command : CommandOf) → command_of words.now ≡ Some command →
-        ForSome (H.state shelf.old).held (λ files. IsRefusedBy (input_of (sources_of command) files) result) }
+        ForSome (H.state shelf.old).held (λ files. IsRefusedBy (input_of command files) result) }
 
-    // Every name but the log's of `plan` holds what it held; `rows`, `check`, and words that aren't
-    // accepted, change nothing.
+    // Every name but those that the command may write holds what it held. A command that writes none,
+    // and words that aren't accepted, change nothing.
     ensures others { WhereHeld (H.state shelf.old).held (H.state shelf.new).held (OthersStay words.now) }
-    ensures untouched { written_by words.now ≡ None → (H.state shelf.new).held ≡ (H.state shelf.old).held }
+    ensures untouched { written_by words.now ≡ [] → (H.state shelf.new).held ≡ (H.state shelf.old).held }
 
     // Whether the bytes are told doesn't change.
     ensures shelf_told { is_some (H.state shelf.new).held ≡ is_some (H.state shelf.old).held }

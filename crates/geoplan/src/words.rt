@@ -1,4 +1,4 @@
-ghost use Rattle.std.specs.Prelude.{◌≡◌, ◌+◌, ◌<◌, ◌^◌, [], ◌∷◌, ◌++◌, Some, length, slice_get, OnOk, OnErr};
+ghost use Rattle.std.specs.Prelude.{◌≡◌, ◌+◌, ◌<◌, ◌^◌, [], ◌∷◌, ◌++◌, Some, length, slice_get, OnOk, OnErr, bytes_eq};
 
 use geo_base::NoMemory;
 use std::alloc::Global;
@@ -58,4 +58,11 @@ impl Words {
     {
         self.words[k as usize].as_str()
     }
+}
+
+/// Whether two words are the same.
+pub fn is_same(one: &str, other: &str) -> bool
+    ensures { result ≡ bytes_eq one.now other.now }
+{
+    one.as_bytes() == other.as_bytes()
 }

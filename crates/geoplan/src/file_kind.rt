@@ -1,0 +1,22 @@
+ghost use Rattle.std.specs.Prelude.{◌≡◌};
+ghost use Rattle.geoplan.specs.CommandOf.{most_of};
+
+/// What a file of a command holds.
+#[derive(Clone, Copy, Debug, PartialEq, Eq)]
+pub enum FileKind {
+    Points,
+    Candidates,
+    Log,
+}
+
+impl FileKind {
+    /// The most bytes of such a file, where it is read.
+    pub fn most_bytes(self) -> u64
+        ensures { result ≡ most_of self }
+    {
+        match self {
+            FileKind::Points | FileKind::Candidates => 1048576,
+            FileKind::Log => 268435456,
+        }
+    }
+}
