@@ -1,5 +1,4 @@
 pub mod CommandLemmas
-pub mod TextLemmas
 pub mod InputLemmas
 pub mod LoadLemmas
 pub mod SolveLemmas

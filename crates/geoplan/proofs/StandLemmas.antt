@@ -37,7 +37,8 @@ use Rattle.geoplan.specs.Reporting.{CanReport, Ends, Reports, Replays, Refused, 
 use Rattle.geoplan.specs.Solving.{Solves, FailsSolve, RunsOutPlanning, Plans}
 use Rattle.geoplan.specs.Standing.{RunsOut, Stands}
 use Rattle.geoplan.specs.Tables.{TablesOf}
-use Rattle.geoplan.specs.Texts.{cannot_read_text, tables_plan_text, no_plan_text, tables_undecided_text, tables_rows_text}
+use Rattle.plan_report.specs.ReportText.{no_plan_text}
+use Rattle.geoplan.specs.Texts.{cannot_read_text, tables_plan_text, tables_undecided_text, tables_rows_text}
 use Rattle.geoplan.proofs.LoadLemmas.{keeps}
 
 -- ---- a search and its report

@@ -21,7 +21,8 @@ use Rattle.log_check.specs.Replayed.{IsReplayed}
 use Rattle.geoplan.specs.CommandOf.{CommandOf, FileOf, files_read, command_of}
 use Rattle.geoplan.specs.Input.{InputOf, too_long_input, refused_input, IsWithin, input_of}
 use Rattle.geoplan.specs.Tables.{TablesOf, RefusedOf}
-use Rattle.geoplan.specs.Texts.{words_text, cannot_read_text, too_long_text, table_text, tables_plan_text, no_plan_text, tables_undecided_text, tables_rows_text, checked_text, log_fault_text}
+use Rattle.plan_report.specs.ReportText.{no_plan_text}
+use Rattle.geoplan.specs.Texts.{words_text, cannot_read_text, too_long_text, table_text, tables_plan_text, tables_undecided_text, tables_rows_text, replayed_text, log_fault_text}
 
 -- What a command may end with: what was read, what the shelf holds before and now, and the text that is meant to be
 -- printed. Each is stated once, over the tables and texts that were read and the name that is written, whatever the command.
@@ -106,7 +107,7 @@ pub record AcceptsLog (tables : TablesOf) (log : List ℕ) (before now : ShelfSt
   pub lower : IsLowerBound tables.network done.bound
   pub held : now.held ≡ before.held
   pub quiet : KeepsFaults before now
-  pub printed : text ≡ checked_text done
+  pub printed : text ≡ replayed_text done
 
 -- this is the first fault of the text that was read, for the tables' network
 pub record RefusesLog (tables : TablesOf) (log : List ℕ) (before now : ShelfState) (text : List ℕ) : Type 0 where

@@ -9,7 +9,8 @@ use Rattle.log_check.specs.FirstFault.{IsFirstFault}
 use Rattle.log_check.specs.Replayed.{IsReplayed}
 use Rattle.geoplan.specs.Tables.{TablesOf}
 use Rattle.geoplan.specs.Loading.{refused_view}
-use Rattle.geoplan.specs.Texts.{cannot_read_text, too_long_text, table_text, tables_plan_text, no_plan_text, tables_undecided_text, checked_text, log_fault_text}
+use Rattle.plan_report.specs.ReportText.{no_plan_text}
+use Rattle.geoplan.specs.Texts.{cannot_read_text, too_long_text, table_text, tables_plan_text, tables_undecided_text, replayed_text, log_fault_text}
 use Rattle.geoplan.specs.declared.load.LoadFault.{LoadFault}
 use Rattle.geoplan.specs.declared.load.LoadFault.TheVariants as load
 use Rattle.geoplan.specs.declared.status.Status.{Status}
@@ -47,7 +48,7 @@ Reports tables (answer.Undecided plan number step lo hi) ends text =
 -- the status and the text of a log that is replayed over a network
 abbrev pub Replays : NetworkOf → List ℕ → Status → List ℕ → Type 0
 Replays network log ends text =
-    ((done : Replayed) × IsReplayed network log done × Ends status.Found (checked_text done) ends text)
+    ((done : Replayed) × IsReplayed network log done × Ends status.Found (replayed_text done) ends text)
     ⊎ (((fault : LogFault) × IsFirstFault network log fault × Ends status.LogRefused (log_fault_text fault) ends text)
     ⊎ HasNoText ends text)
 

@@ -5,15 +5,14 @@ ghost use Rattle.geoplan.specs.Reporting.{CanReport, Reports};
 ghost use Rattle.geoplan.specs.Solving.{Plans};
 ghost use Rattle.geoplan.specs.Texts.{tables_undecided_text};
 
-use crate::open_line::open_line;
 use crate::outcome::Outcome;
-use crate::report::{found_report, no_plan_report, undecided_report};
 use crate::solve::solve;
 use crate::status::Status;
 use crate::tables::Tables;
 use branch_bound::{Answer, SearchDone, SearchFault};
 use geo_base::NoMemory;
 use geo_model::{LimitKind, Plan};
+use plan_report::{found_report, no_plan_report, open_line, undecided_report};
 use shelf_io::Shelf;
 use std::alloc::Global;
 

@@ -4,7 +4,7 @@ ghost use Rattle.geoplan.specs.Reporting.{Refused};
 
 use crate::load::LoadFault;
 use crate::outcome::Outcome;
-use crate::report::{table_refusal, too_long_refusal, unread_refusal};
+use crate::refusal_text::{table_refusal, too_long_refusal, unread_refusal};
 use crate::status::Status;
 use std::alloc::Global;
 

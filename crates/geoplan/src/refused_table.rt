@@ -2,7 +2,7 @@ ghost use Rattle.std.specs.Prelude.{◌≡◌};
 ghost use Rattle.geoplan.specs.Input.{refused_table};
 ghost use Rattle.geoplan.specs.Loading.{refused_view};
 
-use crate::report::{kind_word, table_word};
+use crate::refusal_text::{kind_word, table_word};
 use point_tables::TableFault;
 
 /// A table that is refused: its word, the number of a record, counted from 1, and the word of what is

@@ -5,7 +5,7 @@ ghost use Rattle.geoplan.specs.Running.{Prints, SaysWords, Runs};
 use crate::answer::answer;
 use crate::command::Command;
 use crate::outcome::Outcome;
-use crate::report::words_refusal;
+use crate::refusal_text::words_refusal;
 use crate::status::Status;
 use crate::words::Words;
 use shelf_io::{Shelf, Sink, WriteAnswer};

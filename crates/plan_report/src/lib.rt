@@ -1,14 +1,21 @@
-//! The text of a network's unknowns and rows.
+//! The texts of a network's unknowns and rows, of the answer of a search, and of a log that is
+//! accepted.
 //!
-//! Proved: the text of the unknowns and rows of a network.
+//! Proved: each text is that of its definition.
 //!
-//! Said by: `rows_text`.
+//! Said by: `rows_text`, `found_report`, `no_plan_report`, `undecided_report`, `open_line`,
+//! `checked_report`.
 //!
 //! Caller: `list` of `geoplan/src/answer.rt`.
 #![tactic(auto)]
 
+mod numbers;
+mod open_line;
+mod report;
 mod rows;
 
+pub use open_line::open_line;
+pub use report::{checked_report, found_report, no_plan_report, undecided_report};
 pub use rows::rows_text;
 
 #[cfg(test)]

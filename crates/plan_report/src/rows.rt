@@ -6,12 +6,12 @@ ghost use Rattle.candidate_tables.specs.CandidateTable as candidate;
 ghost use Rattle.point_tables.specs.PointTable as point;
 ghost use Rattle.plan_report.specs.RowsText.{numbered, component_text, unknown_line, unknown_text, entry_text, row_text, candidate_text, rows_text};
 
+use crate::numbers::{put_count, put_number};
 use candidate_tables::Candidates;
 use geo_base::NoMemory;
 use geo_model::{Candidate, Component, Network, Row, Unknown};
 use point_tables::{Name, Points};
 use std::alloc::Global;
-use text_num::put_whole;
 
 /// The word of a component.
 fn component_word(component: Component) -> &'static [u8]
@@ -23,21 +23,6 @@ fn component_word(component: Component) -> &'static [u8]
         Component::Z => b"z",
         Component::Turn => b"turn",
     }
-}
-
-/// Appends the digits of a count.
-#[tactic(auto, unfolding(text_num::specs::Whole::whole_text))]
-fn put_count(text: &mut Vec<u8>, count: u64) -> Result<(), NoMemory>
-    ensures { OnOk result (text.new.items ≡ text.old.items ++ decimal count) }
-{
-    put_whole(text, i128::from(count))
-}
-
-/// Appends the digits of a number, after `-` where it is negative.
-fn put_number(text: &mut Vec<u8>, number: i64) -> Result<(), NoMemory>
-    ensures { OnOk result (text.new.items ≡ text.old.items ++ whole_text number) }
-{
-    put_whole(text, i128::from(number))
 }
 
 /// Appends the line of an unknown.

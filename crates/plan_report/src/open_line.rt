@@ -3,12 +3,12 @@ ghost use Rattle.std.specs.Prelude.{◌≡◌, ◌++◌, [], get_or, IfOk, OnOk}
 ghost use Rattle.std.specs.Fmt.{decimal};
 ghost use Rattle.candidate_tables.specs.CandidateTable as candidate;
 ghost use Rattle.point_tables.specs.PointTable as point;
-ghost use Rattle.geoplan.specs.Texts.{which_text, interval_text, open_text};
+ghost use Rattle.plan_report.specs.ReportText.{which_text, interval_text, open_text};
 
+use crate::numbers::put_count;
 use candidate_tables::Candidates;
 use geo_base::NoMemory;
 use geo_model::LimitKind;
-use itoa::Buffer;
 use point_tables::Points;
 use std::alloc::Global;
 use text_num::put_whole;
@@ -34,7 +34,7 @@ fn candidate_name(candidates: &Candidates, place: u32) -> &[u8]
 }
 
 /// Which limit it is, of these points and candidates.
-#[tactic(auto, unfolding(crate::specs::Texts::which_text))]
+#[tactic(auto, unfolding(crate::specs::ReportText::which_text))]
 fn which(
     alloc: Global,
     points: &Points,
@@ -43,7 +43,6 @@ fn which(
 ) -> Result<Vec<u8>, NoMemory>
     ensures { IfOk result (λ text. text.items ≡ which_text (point.names_of points.now) (candidate.names_of candidates.now) kind) }
 {
-    let mut buffer = Buffer::new();
     let mut text = Vec::new(alloc);
     match kind {
         LimitKind::Axis(place) => {
@@ -58,23 +57,14 @@ fn which(
             text.extend_from_slice(b"redundancy,")?;
             text.extend_from_slice(candidate_name(candidates, owner))?;
             text.extend_from_slice(b",")?;
-            text.extend_from_slice(buffer.format(u64::from(row) + 1).as_bytes())?;
+            put_count(&mut text, u64::from(row) + 1)?;
         }
         LimitKind::Added(number) => {
             text.extend_from_slice(b"added,")?;
-            text.extend_from_slice(buffer.format(number).as_bytes())?;
+            put_count(&mut text, u64::from(number))?;
         }
     }
     Ok(text)
-}
-
-/// Appends the digits of a count.
-fn put_count(text: &mut Vec<u8>, count: u32) -> Result<(), NoMemory>
-    ensures { OnOk result (text.new.items ≡ text.old.items ++ decimal count) }
-{
-    let mut buffer = Buffer::new();
-    text.extend_from_slice(buffer.format(count).as_bytes())?;
-    Ok(())
 }
 
 /// Appends an interval, and ends its line.
@@ -95,13 +85,14 @@ fn line_of(alloc: Global, which: &[u8], step: u32, lo: i128, hi: i128) -> Result
     let mut text = Vec::from_slice(alloc, b"open,")?;
     text.extend_from_slice(which)?;
     text.extend_from_slice(b",")?;
-    put_count(&mut text, step)?;
+    put_count(&mut text, u64::from(step))?;
     text.extend_from_slice(b",")?;
     put_interval(&mut text, lo, hi)?;
     Ok(text)
 }
 
-/// The line of an open limit of these points and candidates.
+/// The line of an open limit of these points and candidates: which limit it is, the step of its chain,
+/// and the interval there. Refused for want of memory alone.
 pub fn open_line(
     alloc: Global,
     points: &Points,

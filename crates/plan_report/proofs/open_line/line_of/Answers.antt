@@ -1,9 +1,9 @@
 use Rattle.std.specs.Prelude.{codes}
 use Rattle.std.proofs.lemmas.Int.{to_z-of_z}
 use Rattle.std.specs.Fmt.{decimal}
-use Rattle.geoplan.specs.Texts.{interval_text}
-use Rattle.geoplan.proofs.TextLemmas.{six_pieces}
-use Rattle.geoplan.proofs.open_line.line_of.Goals as goal
+use Rattle.plan_report.specs.ReportText.{interval_text}
+use Rattle.plan_report.proofs.ReportLines.{six_pieces}
+use Rattle.plan_report.proofs.open_line.line_of.Goals as goal
 
 pub returns : goal.returns
 returns c =
