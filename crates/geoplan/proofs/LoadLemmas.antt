@@ -15,7 +15,9 @@ use Rattle.candidate_tables.specs.declared.record.CandidateRecord.{CandidateReco
 use Rattle.design_rows.specs.Unknowns.{coordinates, is_new, is_station, orientation, unknown, unknowns_of}
 use Rattle.design_rows.proofs.EntryFacts.{all-of}
 use Rattle.design_rows.proofs.UnknownFacts.{every-append, every-weaker}
+use Rattle.net_build.specs.Bounds.{AreTables}
 use Rattle.net_build.specs.Build.{candidate_of, network_of}
+use Rattle.covariance_words.proofs.Meaning.{met-limits-mean}
 use Rattle.geoplan.specs.declared.file_kind.FileKind.TheVariants as kind
 use Rattle.geoplan.specs.declared.load.LoadFault.{LoadFault}
 use Rattle.geoplan.specs.declared.load.LoadFault.TheVariants as load
@@ -169,21 +171,22 @@ unknowns-placed points candidates =
     (placed-from (orientation candidates) (λ k point. orientation-at (is_station candidates k) k) 0 (length points) points (omega arith)))
 
 -- the network of two tables has their candidates, and its unknowns are of their points
-good_network : (redundancy : ℕ) (points : List PointRecord) (candidates : List CandidateRecord) → IsNetwork (network_of points candidates redundancy) →
-    IsGoodNetwork (record { points = points; candidates = candidates; network = network_of points candidates redundancy })
+good_network : (redundancy : ℕ) (points : List PointRecord) (candidates : List CandidateRecord) → IsNetwork (network_of points candidates redundancy) → AreTables points candidates redundancy →
+    IsGoodNetwork (record { points = points; candidates = candidates; redundancy = redundancy; network = network_of points candidates redundancy })
 unfolding network_of
-good_network redundancy points candidates bounds = record {
+good_network redundancy points candidates bounds are = record {
   bounds = bounds;
   named = sym (length-map candidates (candidate_of points (unknowns_of points candidates)));
   placed = unknowns-placed points candidates;
+  means = λ plan meets. met-limits-mean points candidates redundancy plan are meets;
 }
 
 -- so what is built is good
 pub good_tables : (redundancy : ℕ) (points : List PointRecord) (candidates : List CandidateRecord) (network : NetworkOf) (tables : TablesOf) →
-    tables ≡ record { points = points; candidates = candidates; network = network } → network ≡ network_of points candidates redundancy → IsNetwork network →
-    IsGoodNetwork tables
-good_tables redundancy points candidates network tables are is bounds =
-    let good = good_network redundancy points candidates (subst IsNetwork is bounds) in
-    let built : IsGoodNetwork (record { points = points; candidates = candidates; network = network }) =
-    subst (λ (n : NetworkOf). IsGoodNetwork (record { points = points; candidates = candidates; network = n })) (sym is) good in
+    tables ≡ record { points = points; candidates = candidates; redundancy = redundancy; network = network } → network ≡ network_of points candidates redundancy → IsNetwork network →
+    AreTables points candidates redundancy → IsGoodNetwork tables
+good_tables redundancy points candidates network tables are is bounds accepted =
+    let good = good_network redundancy points candidates (subst IsNetwork is bounds) accepted in
+    let built : IsGoodNetwork (record { points = points; candidates = candidates; redundancy = redundancy; network = network }) =
+    subst (λ (n : NetworkOf). IsGoodNetwork (record { points = points; candidates = candidates; redundancy = redundancy; network = n })) (sym is) good in
     subst IsGoodNetwork (sym are) built

@@ -31,7 +31,7 @@ use Rattle.geoplan.specs.declared.verb.Verb.{Verb}
 use Rattle.geoplan.specs.declared.verb.Verb.TheVariants as verb
 use Rattle.geoplan.specs.CommandOf.{SourcesOf, CommandOf}
 use Rattle.geoplan.specs.Ends.{Began}
-use Rattle.geoplan.specs.Loading.{refused_view, Loads, HasLoadFault, FailsLoad}
+use Rattle.geoplan.specs.Loading.{refused_view, Loads, HasLoadFault, FailsLoad, IsGoodNetwork, Means}
 use Rattle.geoplan.specs.Outcomes.{LeavesLog, BeganLog, FailsToWrite, priced}
 use Rattle.geoplan.specs.Reporting.{CanReport, Ends, Reports, Replays, Refused, HasNoText}
 use Rattle.geoplan.specs.Solving.{Solves, FailsSolve, RunsOutPlanning, Plans}
@@ -90,8 +90,8 @@ module _ (tables : TablesOf) (name : List ℕ) (before now : ShelfState) (bound 
   uncertified : LeavesLog tables name (record { bound = NoPlan; counts = counts }) before now → (plan : List Bool) → IsCertified tables.network plan → ⊥
   uncertified none plan certified = none.lower plan certified.long (certified_meets tables.network plan none.network certified.certified)
 
-  by_answer : (given : Answer) → IsAnswer tables.network bound given → Reports tables given ends text → Plans tables name before now ends text
-  by_answer (answer.Best plan) is reports =
+  by_answer : Means tables → (given : Answer) → IsAnswer tables.network bound given → Reports tables given ends text → Plans tables name before now ends text
+  by_answer means (answer.Best plan) is reports =
       ended status.Found (tables_plan_text tables plan)
       (λ said. record {
         plan = plan;
@@ -99,12 +99,13 @@ module _ (tables : TablesOf) (name : List ℕ) (before now : ShelfState) (bound 
         leaves = leaves_as (AtLeast (cost_of tables.network.candidates plan)) is.price;
         certified = is.certified;
         meets = certified_meets tables.network plan leaves.network is.certified.certified;
+        precise = means plan (certified_meets tables.network plan leaves.network is.certified.certified);
         printed = said;
       }) reports
-  by_answer answer.NoPlan is reports =
+  by_answer means answer.NoPlan is reports =
       ended status.NoPlan no_plan_text
       (λ said. record { counts = counts; leaves = leaves_as NoPlan is; uncertified = uncertified (leaves_as NoPlan is); printed = said }) reports
-  by_answer (answer.Undecided plan number step lo hi) is reports =
+  by_answer means (answer.Undecided plan number step lo hi) is reports =
       ended status.Undecided (tables_undecided_text tables plan is.open_limit.here.limit.kind step lo hi)
       (λ said. record {
         plan = plan;
@@ -122,9 +123,9 @@ module _ (tables : TablesOf) (name : List ℕ) (before now : ShelfState) (bound 
       (reports is.open_limit.here.limit is.open_limit.here.named)
 
 -- once the search is done and its answer is reported
-pub Plans-reported : (tables : TablesOf) (name : List ℕ) (done : SearchDone) (before now : ShelfState) (ends : Status) (text : List ℕ) → IsNetwork tables.network → Solves tables name done before now → Reports tables done.answer ends text → Plans tables name before now ends text
-Plans-reported tables name done before now ends text network solved reports =
-    by_answer tables name before now (bound_at tables.network (root_of tables.network) solved.tree) done.counts (leaves_log tables name done before now network solved) ends text done.answer solved.searched.answered reports
+pub Plans-reported : (tables : TablesOf) (name : List ℕ) (done : SearchDone) (before now : ShelfState) (ends : Status) (text : List ℕ) → IsGoodNetwork tables → Solves tables name done before now → Reports tables done.answer ends text → Plans tables name before now ends text
+Plans-reported tables name done before now ends text good solved reports =
+    by_answer tables name before now (bound_at tables.network (root_of tables.network) solved.tree) done.counts (leaves_log tables name done before now good.bounds solved) ends text good.means done.answer solved.searched.answered reports
 
 -- once a write of the log failed
 pub Plans-unwritten : (tables : TablesOf) (name : List ℕ) (why : SearchFault) (before now : ShelfState) (ends : Status) (text : List ℕ) → FailsSolve tables name why before now → why ≡ search.WriteFault → ends ≡ status.WriteFault → text ≡ [] → Plans tables name before now ends text
@@ -171,6 +172,7 @@ module _ (tables : TablesOf) (name : List ℕ) (before middle now : ShelfState) 
     leaves = LeavesLog-before (priced (cost_of tables.network.candidates found.plan) found.counts) found.leaves;
     certified = found.certified;
     meets = found.meets;
+    precise = found.precise;
     printed = found.printed;
   }
   Plans-before status.NoPlan text found = record {

@@ -57,7 +57,7 @@ faulty_or bytes (kind ∷ later) given = refused_or (fault_of bytes kind) (fault
 unfoldable pub accepted_input : ℕ → List PointRecord → List CandidateRecord → InputOf
 accepted_input redundancy points candidates =
     refused_or (option_map (refused_table fault_table.Network) (network_fault points candidates))
-    (built_input (record { points = points; candidates = candidates; network = network_of points candidates redundancy }))
+    (built_input (record { points = points; candidates = candidates; redundancy = redundancy; network = network_of points candidates redundancy }))
 
 -- what files give of which none is too long, by the bytes of each: the first fault of a table in the order of reading, else
 -- what the two tables give

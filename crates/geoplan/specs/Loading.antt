@@ -1,10 +1,12 @@
-use Rattle.std.specs.Prelude.{◌≡◌, ℕ, ◌<◌, ◌≤◌, ◌∷◌, ◌++◌, List, [], length, drop, All, Option, Some, None, option_map}
+use Rattle.std.specs.Prelude.{◌≡◌, ℕ, ◌<◌, ◌≤◌, ◌∷◌, ◌++◌, Bool, List, [], length, drop, All, Option, Some, None, option_map}
 use Rattle.std.specs.List.{AllByRecursion}
 use Rattle.std.specs.Option.{ForSome}
 use Rattle.shelf_io.specs.Files.{Files, bytes_of}
 use Rattle.shelf_io.specs.Faults.{Rose, KeepsFaults, read_of}
 use Rattle.shelf_io.specs.States.{ShelfState}
 use Rattle.geo_model.specs.Network.{IsNetwork}
+use Rattle.geo_model.specs.Meeting.{MeetsLimits}
+use Rattle.covariance_words.specs.Meaning.{HoldsAndIsPrecise}
 use Rattle.point_tables.specs.declared.fault.TableName.TheVariants as fault_table
 use Rattle.point_tables.specs.PointTable.{points_fault, points_of}
 use Rattle.candidate_tables.specs.CandidateTable.{candidates_fault, candidates_of}
@@ -22,11 +24,17 @@ use Rattle.geoplan.specs.Tables.{TablesOf, RefusedOf}
 abbrev pub refused_view : RefusedTable → RefusedOf
 refused_view refused = record { table = refused.table.now; number = refused.number; kind = refused.kind.now }
 
--- the network of the tables keeps the bounds of networks, has their candidates, and its unknowns are of their points
+-- a plan that meets the limits of tables is as precise as they ask
+abbrev pub Means : TablesOf → Type 0
+Means tables = (plan : List Bool) → MeetsLimits tables.network plan → HoldsAndIsPrecise tables.points tables.network tables.redundancy plan
+
+-- the network of the tables keeps the bounds of networks, has their candidates, its unknowns are of their points, and what
+-- its limits mean
 pub record IsGoodNetwork (tables : TablesOf) : Type 0 where
   pub bounds : IsNetwork tables.network
   pub named : length tables.candidates ≡ length tables.network.candidates
   pub placed : All (λ unknown. unknown.point < length tables.points) tables.network.unknowns
+  pub means : Means tables
 
 -- ---- one file
 

@@ -5,6 +5,7 @@ use Rattle.shelf_io.specs.Faults.{Rose, KeepsFaults, read_of, write_of}
 use Rattle.shelf_io.specs.States.{ShelfState}
 use Rattle.geo_model.specs.Energy.{cost_of}
 use Rattle.geo_model.specs.Meeting.{MeetsLimits}
+use Rattle.covariance_words.specs.Meaning.{HoldsAndIsPrecise}
 use Rattle.geo_model.specs.Network.{IsNetwork}
 use Rattle.geo_model.specs.declared.answer.Counts.{Counts}
 use Rattle.bound_log.specs.declared.bound.Bound.{Bound}
@@ -44,13 +45,16 @@ pub record LeavesLog (tables : TablesOf) (name : List ℕ) (done : Replayed) (be
 abbrev pub priced : ℕ → Counts → Replayed
 priced price counts = record { bound = AtLeast price; counts = counts }
 
--- A certified plan: it meets every limit for all whole-number displacements, and its price is the bound of the log.
+-- A certified plan: it meets every limit for all whole-number displacements, and its price is the bound of the log. In an
+-- office's words: no new point can move without energy, and each new point's standard ellipse, each new height and the
+-- redundancy number of each chosen row are within their limits.
 pub record FindsPlan (tables : TablesOf) (name : List ℕ) (before now : ShelfState) (text : List ℕ) : Type 0 where
   pub plan : List Bool
   pub counts : Counts
   pub leaves : LeavesLog tables name (priced (cost_of tables.network.candidates plan) counts) before now
   pub certified : IsCertified tables.network plan
   pub meets : MeetsLimits tables.network plan
+  pub precise : HoldsAndIsPrecise tables.points tables.network tables.redundancy plan
   pub printed : text ≡ tables_plan_text tables plan
 
 -- No plan meets the limits, so that none is certified, and the bound of the log says so.

@@ -1,5 +1,6 @@
 //! Reading the files of a command.
-ghost use Rattle.std.specs.Prelude.{◌≡◌, ◌≤◌, IfOk, IfErr};
+ghost use Rattle.std.specs.Prelude.{◌≡◌, ◌≤◌, All, IfOk, IfErr};
+ghost use Rattle.point_tables.specs.Accepted.{IsAccepted};
 ghost use Rattle.candidate_tables.specs.Accepted.{AreCandidates};
 ghost use Rattle.geoplan.specs.CommandOf.{file_of};
 ghost use Rattle.geoplan.specs.CommandView.{sources_view, command_view};
@@ -84,13 +85,14 @@ fn accept<'a>(
     candidates: Candidates,
 ) -> Result<Tables, LoadFault<'a>>
     requires redundancy { redundancy ≤ 999 }
+    requires points { All IsAccepted points }
     requires accepted { AreCandidates points candidates }
     ensures tables { IfOk result (λ tables. accepted_input redundancy points candidates ≡ built_input tables) }
     ensures good { IfOk result IsGoodNetwork }
     ensures refused { IfErr result (IsRefusal (accepted_input redundancy points candidates)) }
 {
     match build(alloc, &points, &candidates, redundancy) {
-        Ok(network) => Ok(Tables::new(points, candidates, network)),
+        Ok(network) => Ok(Tables::new(points, candidates, redundancy, network)),
         Err(TableAnswer::Fault(fault)) => Err(LoadFault::Refused(RefusedTable::of(fault))),
         Err(TableAnswer::NoMemory) => Err(LoadFault::NoMemory),
     }

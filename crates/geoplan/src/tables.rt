@@ -5,12 +5,13 @@ use geo_model::Network;
 use point_tables::Points;
 use std::marker::Model;
 
-/// What two accepted tables give: the points and the candidates in their order, and the network of
-/// both.
+/// What two accepted tables give: the points and the candidates in their order, the redundancy that
+/// is asked for, in thousandths, and the network of both.
 #[derive(Drop)]
 pub struct Tables {
     points: Points,
     candidates: Candidates,
+    redundancy: u32,
     network: Network,
 }
 
@@ -19,17 +20,18 @@ impl Model for Tables {
 
     ghost Value = { TablesOf };
 
-    ghost view = { λ tables. record { points = tables.points; candidates = tables.candidates; network = tables.network } };
+    ghost view = { λ tables. record { points = tables.points; candidates = tables.candidates; redundancy = tables.redundancy; network = tables.network } };
 }
 
 impl Tables {
-    /// Points and candidates with their network.
-    pub fn new(points: Points, candidates: Candidates, network: Network) -> Tables
-        ensures { result ≡ record { points = points; candidates = candidates; network = network } }
+    /// Points and candidates with their network for a redundancy.
+    pub fn new(points: Points, candidates: Candidates, redundancy: u32, network: Network) -> Tables
+        ensures { result ≡ record { points = points; candidates = candidates; redundancy = redundancy; network = network } }
     {
         Tables {
             points,
             candidates,
+            redundancy,
             network,
         }
     }
