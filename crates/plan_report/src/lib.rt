@@ -10,11 +10,11 @@
 #![tactic(auto)]
 
 mod numbers;
-mod open_line;
+mod open_limit;
 mod report;
 mod rows;
 
-pub use open_line::open_line;
+pub use open_limit::open_line;
 pub use report::{checked_report, found_report, no_plan_report, undecided_report};
 pub use rows::rows_text;
 

@@ -8,9 +8,9 @@ use bound_log::Bound;
 use candidate_tables::Candidates;
 use geo_base::NoMemory;
 use geo_model::{Counts, Network, Plan, cost};
+use itoa::Buffer;
 use point_tables::Name;
 use std::alloc::Global;
-use text_num::put_whole;
 
 /// Appends the line of a chosen candidate.
 fn put_take(text: &mut Vec<u8>, name: &Name) -> Result<(), NoMemory>
@@ -129,7 +129,8 @@ fn put_bound(text: &mut Vec<u8>, bound: Bound) -> Result<(), NoMemory>
         }
         Bound::AtLeast(price) => {
             text.extend_from_slice(b"bound ")?;
-            put_whole(text, price as i128)?;
+            let mut buffer = Buffer::new();
+            text.extend_from_slice(buffer.format(price).as_bytes())?;
             text.extend_from_slice(b"\n")?;
         }
     }

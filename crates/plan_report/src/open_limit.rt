@@ -85,7 +85,7 @@ fn line_of(alloc: Global, which: &[u8], step: u32, lo: i128, hi: i128) -> Result
     let mut text = Vec::from_slice(alloc, b"open,")?;
     text.extend_from_slice(which)?;
     text.extend_from_slice(b",")?;
-    put_count(&mut text, u64::from(step))?;
+    put_count(&mut text, step as u64)?;
     text.extend_from_slice(b",")?;
     put_interval(&mut text, lo, hi)?;
     Ok(text)

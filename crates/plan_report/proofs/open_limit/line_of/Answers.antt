@@ -3,7 +3,7 @@ use Rattle.std.proofs.lemmas.Int.{to_z-of_z}
 use Rattle.std.specs.Fmt.{decimal}
 use Rattle.plan_report.specs.ReportText.{interval_text}
 use Rattle.plan_report.proofs.ReportLines.{six_pieces}
-use Rattle.plan_report.proofs.open_line.line_of.Goals as goal
+use Rattle.plan_report.proofs.open_limit.line_of.Goals as goal
 
 pub returns : goal.returns
 returns c =
