@@ -88,6 +88,7 @@ whole unknowns tall =
   where
     apart : (owner : ℕ) → None ≡ Some owner → ⊥
     apart owner e = cc
+
     at_most_one : (b : Bool) → 0 + cond b 1 0 ≤ 1
     at_most_one true = omega arith
     at_most_one false = omega arith

@@ -1,9 +1,7 @@
 ghost use Rattle.std.specs.Prelude.{◌≡◌, ◌≤ℤ◌, ◌^◌, ◌∷◌, [], pos, length, IfOk, None};
 ghost use Rattle.geo_model.specs.declared.limit.LimitKind.TheVariants.{Height};
 
-use crate::{
-    CutPool, Share, cut_into, cut_of, meeting_plans_satisfy_cuts, shifts_are_least,
-};
+use crate::{CutPool, Share, cut_into, cut_of, meeting_plans_satisfy_cuts, shifts_are_least};
 use geo_base::NoMemory;
 use geo_model::{
     Candidate, Component, Displacement, Limit, LimitKind, Network, Row, Square, Unknown,
@@ -70,10 +68,16 @@ fn a_cut_of_three_levels(rt: HostRuntime) -> Result<(), Fail> {
     let cut = cut_of(rt.alloc(), &network, 0, height_moves(rt.alloc(), 1)?)?;
     assert_eq!(rt; (cut.limit, cut.bound), (0, 11920928));
     assert_eq!(rt; cut.x.entries(), [1i32].as_slice());
-    assert_eq!(rt; cut.coefficients.as_slice(), [9655953u32, 9655953, 9655953].as_slice());
+    assert_eq!(rt;
+        cut.coefficients.as_slice(),
+        [9655953u32, 9655953, 9655953].as_slice()
+    );
     let mut coefficients = [0u32; 3];
     let bound = cut_into(&network, 0, &cut.x, &mut coefficients);
-    assert_eq!(rt; (bound, coefficients), (11920928, [9655953, 9655953, 9655953]));
+    assert_eq!(rt;
+        (bound, coefficients),
+        (11920928, [9655953, 9655953, 9655953])
+    );
     Ok(())
 }
 
