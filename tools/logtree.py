@@ -7,7 +7,7 @@ import re
 from typing import NamedTuple
 
 HEADS = (b"geoplan-log 1", b"geoplan-log 2")
-LINE = re.compile(rb"[skpxd]( -?[0-9]+)*|c")
+LINE = re.compile(rb"s [0-9]+|c|[kpxd]( -?[0-9]+)+")
 DEEPEST = 256
 WHOLE = 1 << DEEPEST
 
