@@ -19,10 +19,11 @@ LOOKS = {
     "direction": {"linestyle": (0, (5, 2)), "linewidth": 1.6},
     "angle": {"linestyle": (0, (1, 1.2)), "linewidth": 1.8},
     "level": {"linestyle": (0, (7, 2, 1, 2)), "linewidth": 1.8},
-    "vector": {"linestyle": "-", "linewidth": 3.6},
+    "vector": {"linestyle": "-", "linewidth": 3.0},
 }
 APART = 6.0
 MANY = 60
+PAPER = {"boxstyle": "round,pad=0.12", "facecolor": "white", "edgecolor": "none", "alpha": 0.8}
 SPOTS = (0.0, 0.12, -0.12, 0.06, -0.06, 0.18, -0.18, 0.24, -0.24, 0.3, -0.3)
 
 
@@ -65,8 +66,9 @@ class NetworkPicture:
         self.sizes = {p["name"]: self.errors(p) for p in self.shown}
         self.room, self.scale = self.scales()
         spots = [self.places[p["name"]] for p in self.shown] or [(0.0, 0.0)]
-        self.sheet = Sheet(spots, max(1.9 * self.room, 0.06 * self.extent()))
+        self.sheet = Sheet(spots, max(1.9 * self.room, (0.06 if len(spots) > 1 else 0.4) * self.extent()))
         self.unit = self.sheet.unit
+        self.thin = 1 if len(self.plan.chosen) <= MANY else 0.55
 
     def is_new(self, point):
         return point["plane"] not in ("", "fixed") or point["height"] not in ("", "fixed")
@@ -104,12 +106,13 @@ class NetworkPicture:
 
     def draw(self):
         for point in self.shown:
-            self.sheet.keep(self.places[point["name"]], 4 * self.unit)
+            if not self.is_quiet(point):
+                self.sheet.keep(self.places[point["name"]], 4 * self.unit)
         self.draw_candidates()
         for sizes, point in ((self.sizes[p["name"]], p) for p in self.shown):
             self.draw_errors(self.places[point["name"]], sizes)
-        self.draw_chosen()
         self.draw_points()
+        self.draw_chosen()
         self.draw_scales()
         self.draw_key()
         self.draw_title()
@@ -133,7 +136,7 @@ class NetworkPicture:
                 beside = max(beside, self.draw_ellipse(place, block, limit))
             self.sheet.keep(place, 0.6 * beside)
         if "height" in sizes:
-            self.draw_height((east + beside + 7 * self.unit if beside else east, north), *sizes["height"])
+            self.draw_height((east + beside + 8 * self.unit, north), *sizes["height"])
 
     def add(self, patch, order):
         patch.set_zorder(order)
@@ -172,7 +175,7 @@ class NetworkPicture:
                 beside.setdefault(frozenset((start, other)), []).append((candidate, start, other))
         for lines in beside.values():
             for place, (candidate, start, other) in enumerate(lines):
-                shift = (place - (len(lines) - 1) / 2) * APART * self.unit
+                shift = (place - (len(lines) - 1) / 2) * APART * self.thin * self.unit
                 labels.append((candidate, place % 3, *self.draw_line(candidate, start, other, shift)))
         for candidate in self.plan.chosen:
             if candidate["kind"] == "angle":
@@ -185,12 +188,14 @@ class NetworkPicture:
         across = np.array([-along[1], along[0]]) / (np.hypot(*along) or 1) * shift
         line = [np.add(self.places[name], across) for name in (start, other)]
         colour = self.plan.shade(candidate)
-        self.sheet.axes.plot(*zip(*line), color=colour, zorder=3, **LOOKS[candidate["kind"]])
+        look = dict(LOOKS[candidate["kind"]])
+        look["linewidth"] *= self.thin
+        self.sheet.axes.plot(*zip(*line), color=colour, zorder=3, **look)
         if candidate["kind"] in ("direction", "vector"):
             near, far = (line[0] + part * (line[1] - line[0]) for part in (0.68, 0.7))
             self.sheet.axes.annotate(
                 "", xy=far, xytext=near, zorder=3,
-                arrowprops={"arrowstyle": "-|>", "color": colour, "mutation_scale": 13, "shrinkA": 0, "shrinkB": 0},
+                arrowprops={"arrowstyle": "-|>", "color": colour, "mutation_scale": 5 + 8 * self.thin, "shrinkA": 0, "shrinkB": 0},
             )
         return line
 
@@ -198,13 +203,13 @@ class NetworkPicture:
         vertex, back, fore = (self.places[name] for name in ends(candidate))
         turns = [math.degrees(math.atan2(p[1] - vertex[1], p[0] - vertex[0])) for p in (fore, back)]
         radius = 0.28 * min(math.dist(vertex, back), math.dist(vertex, fore))
-        size = 2 * min(radius, 26 * self.unit)
-        self.add(patches.Arc(vertex, size, size, theta1=turns[0], theta2=turns[1], color=self.plan.shade(candidate), linewidth=1.8), 3)
+        size = 2 * min(radius, 18 * self.unit)
+        self.add(patches.Arc(vertex, size, size, theta1=turns[0], theta2=turns[1], color=self.plan.shade(candidate), linewidth=1.8 * self.thin), 3)
 
     def draw_names(self, labels):
         named = set()
         size = 7.5 if len(self.plan.chosen) <= MANY else 5.5
-        look = {"zorder": 6, "bbox": {"boxstyle": "round,pad=0.12", "facecolor": "white", "edgecolor": "none", "alpha": 0.8}}
+        look = {"zorder": 6, "bbox": PAPER}
         for candidate, place, start, other in labels:
             if candidate["name"] not in named:
                 parts = SPOTS[place:] + SPOTS[:place]
@@ -215,24 +220,35 @@ class NetworkPicture:
                 if self.sheet.label(spots, candidate["name"], size, color=colour, **look):
                     named.add(candidate["name"])
 
+    def is_quiet(self, point):
+        """A point that nothing observes, among many."""
+        return len(self.shown) > MANY and point["name"] not in self.used and not self.is_new(point)
+
     def draw_points(self):
         size = 9 if len(self.used) <= MANY else 6
         for point in self.shown:
-            name = point["name"]
-            place = self.places[name]
-            if name not in self.used and not self.is_new(point):
-                self.sheet.axes.plot(*place, marker=".", markersize=2, color=GREY, zorder=1)
-                continue
-            look = {"marker": "o", "markerfacecolor": "white"} if self.is_new(point) else {"marker": "^", "markerfacecolor": "black"}
-            marker = 6 if size == 9 else 4
-            self.sheet.axes.plot(*place, markersize=marker, markeredgecolor="black", linestyle="none", zorder=5, **look)
-        for point in self.shown:
-            name = point["name"]
-            if name in self.used or self.is_new(point):
-                limit = self.sizes[name].get("plane")
-                disk = limit[1] * self.scale if limit and limit[1] * self.scale < 40 * self.unit else 4 * self.unit
-                look = {"weight": "bold" if self.is_new(point) else "normal", "zorder": 7}
-                self.sheet.label(self.sheet.around(self.places[name], name, size, disk), name, size, **look)
+            if self.is_new(point):
+                look = {"marker": "o", "markerfacecolor": "white", "markersize": 0.67 * size}
+            elif self.is_quiet(point):
+                look = {"marker": ".", "markersize": 1, "markeredgecolor": GREY}
+            elif "fixed" in (point["plane"], point["height"]):
+                look = {"marker": "^", "markerfacecolor": "black", "markersize": 0.67 * size}
+            else:
+                look = {"marker": "x", "markersize": 0.5 * size}
+            order = 1 if self.is_quiet(point) else 5
+            self.sheet.axes.plot(*self.places[point["name"]], linestyle="none", zorder=order, **{"markeredgecolor": "black", **look})
+        for point in sorted(self.shown, key=self.is_new, reverse=True):
+            if not self.is_quiet(point):
+                self.name_point(point, size)
+
+    def name_point(self, point, size):
+        name, is_new = point["name"], self.is_new(point)
+        ellipse = self.sizes[name].get("plane")
+        disk = ellipse[1] * self.scale if ellipse else 0
+        near = 4 * self.unit
+        radii = (disk, disk + 6 * self.unit, near) if near < disk < 60 * self.unit else (near, 2 * near, disk + near)
+        look = {"weight": "bold" if is_new else "normal", "zorder": 7, "bbox": PAPER}
+        self.sheet.label(self.sheet.around(self.places[name], name, size, radii), name, size, is_new, **look)
 
     def draw_scales(self):
         """The bars stand in the strip beneath the network."""
@@ -244,7 +260,7 @@ class NetworkPicture:
             words = f"{length:g} m" if length < 1000 else f"{length / 1000:g} km"
             sheet.bar((sheet.left + 0.03 * width, low), length, words, color="black", linewidth=1.2)
             sheet.axes.annotate(
-                "", xy=(sheet.right - 14 * self.unit, low + 26 * self.unit), xytext=(sheet.right - 14 * self.unit, low),
+                "", xy=(sheet.right - 14 * self.unit, low + 18 * self.unit), xytext=(sheet.right - 14 * self.unit, low),
                 arrowprops={"arrowstyle": "-|>", "color": "black"},
             )
             sheet.axes.text(sheet.right - 20 * self.unit, low + 8 * self.unit, "x", fontsize=9, ha="right")
@@ -256,7 +272,7 @@ class NetworkPicture:
             sheet.bar((sheet.left + 0.33 * width, low), length * self.scale, words, color=LIMIT, linewidth=1.2)
         if self.schematic:
             text = "a scheme: the table has no coordinates" if len(self.schematic) == len(self.shown) else \
-                "points without coordinates stand in a row beneath"
+                "beneath: points without coordinates"
             sheet.axes.text(sheet.left + 0.62 * width, low, text, fontsize=8, style="italic", va="bottom")
 
     def draw_key(self):
@@ -291,11 +307,11 @@ class NetworkPicture:
             axes.axhline(asked, color="black", linewidth=2)
             axes.annotate(f"limit {asked:.3f}", (0, asked), xytext=(-4, 0), textcoords="offset points", fontsize=7, ha="right", va="center")
         least = min(self.plan.redundancy.values())
-        axes.set_title(f"least {least + 0.0:.3f}", fontsize=8.5, pad=5)
+        axes.set_title(f"least {abs(least) if abs(least) < 5e-4 else least:.3f}", fontsize=8.5, pad=5)
 
     def draw_title(self):
         new = sum(map(self.is_new, self.points))
-        words = f"{len(self.points)} points, {new} new; {len(self.plan.chosen)} of {len(self.candidates)} observations"
+        words = f"{len(self.points)} point{'s' * (len(self.points) != 1)}, {new} new; {len(self.plan.chosen)} of {len(self.candidates)} observations"
         if not self.report.is_plan:
             words += " (all of them are drawn as if chosen)"
         self.sheet.figure.text(0.02, 0.955, self.report.headline(), fontsize=14, weight="bold")

@@ -32,11 +32,15 @@ def steps_between(names, candidates):
 
 
 def scheme(names, candidates):
-    """Places whose distances are as near as can be to the steps between them, in units of 100 m (stress majorization)."""
+    """Places whose distances are near the steps between them, 100 m each: classical scaling, then stress majorization."""
     size = len(names)
     wanted = 100 * steps_between(names, candidates)
     turns = 2 * np.pi * np.arange(size) / max(size, 1)
-    places = 50 * max(size, 2) / np.pi * np.column_stack((np.cos(turns), np.sin(turns)))
+    places = np.column_stack((np.cos(turns), np.sin(turns)))
+    if size > 2:
+        means = (wanted**2).mean(axis=0)
+        values, axes = np.linalg.eigh((means[:, None] + means[None] - means.mean() - wanted**2) / 2)
+        places += axes[:, -2:] * np.sqrt(np.maximum(values[-2:], 0))
     for _ in range(STEPS):
         apart = np.linalg.norm(places[:, None] - places[None], axis=2)
         ratio = np.divide(wanted, apart, out=np.zeros_like(apart), where=apart > 1e-9)

@@ -11,6 +11,7 @@ matplotlib.rcParams["font.family"] = "DejaVu Sans"
 WIDTH, HEIGHT = 11.0, 7.6
 FRAME = (0.02, 0.03, 0.74, 0.86)
 LETTER = 0.7
+LONGEST = 16
 
 
 def saved(figure, path):
@@ -63,21 +64,22 @@ class Sheet:
         """Lets no label stand there."""
         self.taken.append((place[0] - radius, place[1] - radius, place[0] + radius, place[1] + radius))
 
-    def label(self, places, text, size, **look):
-        """Writes a text at the first of the places that is free; whether there is one."""
-        for place in places:
-            box = self.box(place, text, size)
-            if self.is_free(box):
-                self.taken.append(box)
-                self.axes.text(*place, text, fontsize=size, ha="center", va="center", **look)
-                return True
-        return False
+    def label(self, places, text, size, is_needed=False, **look):
+        """Writes a text at the first of the places that is free, or at the first one where it is needed; whether it did."""
+        text = text if len(text) <= LONGEST else text[: LONGEST - 1] + "\u2026"
+        places = list(places)
+        free = [place for place in places if self.is_free(self.box(place, text, size))]
+        if not free and not is_needed:
+            return False
+        place = (free or places)[0]
+        self.taken.append(self.box(place, text, size))
+        self.axes.text(*place, text, fontsize=size, ha="center", va="center", **look)
+        return True
 
-    def around(self, place, text, size, radius):
-        """Places for a label beside a disk."""
-        left, low, right, high = self.box((0, 0), text, size)
-        for gap in (2, 8):
-            reach = radius + gap * self.unit
+    def around(self, place, text, size, radii):
+        """Places for a label beside each of some disks."""
+        _, _, right, high = self.box((0, 0), text[:LONGEST], size)
+        for reach in (radius + 2 * self.unit for radius in radii):
             for turn in (45, 135, 315, 225, 90, 270, 0, 180):
                 c, s = math.cos(math.radians(turn)), math.sin(math.radians(turn))
                 yield place[0] + reach * c + right * c, place[1] + reach * s + high * s

@@ -1,6 +1,7 @@
 """The picture of a log: the nodes of its tree by depth, the kinds of its leaves, and their bounds."""
 from matplotlib import pyplot
 from matplotlib.collections import LineCollection
+from matplotlib.lines import Line2D
 from matplotlib.ticker import MaxNLocator
 
 from logtree import NoLog, Tree
@@ -66,18 +67,17 @@ def draw_branches(axes, drawn, names):
     width = 0.9 if len(nodes) <= FEW * 4 else 0.35
     axes.add_collection(LineCollection(edges, colors="#c4c4c4", linewidths=width, zorder=1, rasterized=is_many))
     size = 46 if len(nodes) <= FEW else 12 if not is_many else 2
-    for kind, (words, colour, marker) in KINDS.items():
+    for kind, (_, colour, marker) in KINDS.items():
         places = drawn.of(kind)
         if places:
             spots = [drawn.columns[p] for p in places], [nodes[p].depth for p in places]
-            axes.scatter(*spots, s=size if kind != "s" else size / 2, c=colour, marker=marker, linewidths=0, zorder=2,
-                         label=f"{words}: {len(places)}", rasterized=is_many)
+            axes.scatter(*spots, s=size if kind != "s" else size / 2, c=colour, marker=marker, linewidths=0, zorder=2, rasterized=is_many)
     if len(nodes) <= FEW:
         write_nodes(axes, drawn, names)
-    axes.invert_yaxis()
+    axes.set_ylim(max(node.depth for node in nodes) + 0.7, -0.7)
     axes.yaxis.set_major_locator(MaxNLocator(integer=True))
     axes.set_xticks([])
-    axes.margins(x=0.04, y=0.08)
+    axes.margins(x=0.04)
     axes.set_ylabel("depth")
     axes.set_xlabel("leaves in the order of the log; left of a split are the plans that contain its observation")
 
@@ -86,7 +86,8 @@ def write_nodes(axes, drawn, names):
     for place, node in enumerate(drawn.nodes):
         spot = drawn.columns[place], node.depth
         if node.kind == "s":
-            axes.annotate(names[node.split], spot, xytext=(4, 4), textcoords="offset points", fontsize=7, color="#555555")
+            axes.annotate(names[node.split], spot, xytext=(0, 4), textcoords="offset points", fontsize=7, ha="center", va="bottom",
+                          color="#444444", bbox={"boxstyle": "square,pad=0.05", "facecolor": "white", "edgecolor": "none"})
         elif node.kind == "c":
             axes.annotate(str(node.price), spot, xytext=(0, -6), textcoords="offset points", fontsize=7, ha="center", va="top", color=KINDS["c"][1])
 
@@ -100,7 +101,7 @@ def draw_depths(axes, drawn):
         for node in drawn.nodes:
             counts[node.depth] += node.kind == kind
         if any(counts):
-            axes.barh(depths, counts, left=before, color=colour, height=0.85, linewidth=0)
+            axes.barh(depths, counts, left=before, color=colour, height=0.85 if len(depths) <= FEW else 1, linewidth=0)
             before = [a + b for a, b in zip(before, counts)]
     axes.xaxis.set_major_locator(MaxNLocator(nbins=4, integer=True))
     axes.set_xlabel("nodes")
@@ -116,14 +117,19 @@ def draw_bounds(axes, drawn, report):
         axes.axhline(int(report.bound), color="black", linewidth=1, label=f"bound {report.bound}")
     axes.set_xlim(-0.01 * len(drawn.nodes) - 0.5, 1.01 * len(drawn.nodes) + 0.5)
     axes.xaxis.set_major_locator(MaxNLocator(integer=True))
-    axes.yaxis.set_major_locator(MaxNLocator(integer=True))
+    axes.yaxis.set_major_locator(MaxNLocator(nbins=5, integer=True))
     axes.margins(y=0.2)
     axes.set_xlabel("node, in the order of the log")
     axes.set_ylabel("price")
     if places or report.bound not in (None, "none"):
         axes.legend(loc="upper right", fontsize=8, frameon=True, framealpha=0.85)
     else:
+        axes.set_yticks([])
         axes.text(0.5, 0.5, "no leaf has a price: no plan is left", transform=axes.transAxes, ha="center", va="center")
+
+
+def counted(count, one, many):
+    return f"{count} {one if count == 1 else many}"
 
 
 def draw_tree(log, candidates, report, path):
@@ -133,14 +139,19 @@ def draw_tree(log, candidates, report, path):
     if not drawn.nodes:
         raise NoLog("the log has no node yet")
     figure = pyplot.figure(figsize=(11, 7.6))
-    grid = figure.add_gridspec(2, 2, width_ratios=(5, 1), height_ratios=(3, 1), left=0.07, right=0.97, bottom=0.08, top=0.86, hspace=0.28, wspace=0.05)
+    sides = {"left": 0.07, "right": 0.97, "bottom": 0.08, "top": 0.86, "hspace": 0.28, "wspace": 0.05}
+    grid = figure.add_gridspec(2, 2, width_ratios=(5, 1), height_ratios=(3, 1), **sides)
     branches = figure.add_subplot(grid[0, 0])
     draw_branches(branches, drawn, [candidate["name"] for candidate in candidates])
     draw_depths(figure.add_subplot(grid[0, 1], sharey=branches), drawn)
     draw_bounds(figure.add_subplot(grid[1, :]), drawn, report)
-    handles, labels = branches.get_legend_handles_labels()
-    figure.legend(handles, labels, loc="upper left", bbox_to_anchor=(0.06, 0.925), ncol=5, fontsize=8.5, frameon=False, markerscale=1.6, scatterpoints=1)
+    key = [
+        Line2D([], [], color=colour, marker=marker, linestyle="none", label=f"{words}: {tree.counts[kind]}")
+        for kind, (words, colour, marker) in KINDS.items() if tree.counts[kind]
+    ]
+    figure.legend(handles=key, loc="upper left", bbox_to_anchor=(0.06, 0.925), ncol=5, fontsize=8.5, frameon=False)
     state = "" if tree.is_whole() else f"; not whole yet: {100 * tree.share():.2f} % is done"
-    words = f"the log's tree: {len(drawn.nodes)} nodes, {sum(tree.counts.values()) - tree.counts['s']} leaves, bound {report.bound}{state}"
+    leaves = len(drawn.nodes) - tree.counts["s"]
+    words = f"the log's tree: {counted(len(drawn.nodes), 'node', 'nodes')}, {counted(leaves, 'leaf', 'leaves')}, bound {report.bound}{state}"
     figure.text(0.07, 0.95, words, fontsize=14, weight="bold")
     saved(figure, path)
