@@ -158,13 +158,15 @@ class NetworkPicture:
         reach, cap = limit * self.scale, 4 * self.unit
         for side in (-reach, reach):
             self.sheet.axes.plot([east - cap, east + cap], [north + side] * 2, color=LIMIT, linewidth=1.2, zorder=4)
-        self.sheet.axes.plot([east] * 2, [north - reach, north + reach], color=LIMIT, linewidth=0.8, linestyle="--", zorder=2)
+        upright = [east, east]
+        self.sheet.axes.plot(upright, [north - reach, north + reach], color=LIMIT, linewidth=0.8, linestyle="--", zorder=2)
         for part in range(-2, 3):
             self.sheet.keep((east, north + part * reach / 2), max(cap, reach / 4) if part else cap)
         if deviation is not None:
             colour = BROKEN if deviation > 1.01 * limit else "black"
             half = deviation * self.scale
-            self.sheet.axes.plot([east] * 2, [north - half, north + half], color=colour, linewidth=3.2, zorder=4, solid_capstyle="butt")
+            look = {"linewidth": 3.2, "zorder": 4, "solid_capstyle": "butt"}
+            self.sheet.axes.plot(upright, [north - half, north + half], color=colour, **look)
 
     def draw_chosen(self):
         """Observations between the same two points lie beside each other."""
@@ -204,7 +206,8 @@ class NetworkPicture:
         turns = [math.degrees(math.atan2(p[1] - vertex[1], p[0] - vertex[0])) for p in (fore, back)]
         radius = 0.28 * min(math.dist(vertex, back), math.dist(vertex, fore))
         size = 2 * min(radius, 18 * self.unit)
-        self.add(patches.Arc(vertex, size, size, theta1=turns[0], theta2=turns[1], color=self.plan.shade(candidate), linewidth=1.8 * self.thin), 3)
+        look = {"color": self.plan.shade(candidate), "linewidth": 1.8 * self.thin}
+        self.add(patches.Arc(vertex, size, size, theta1=turns[0], theta2=turns[1], **look), 3)
 
     def draw_names(self, labels):
         named = set()
@@ -235,8 +238,8 @@ class NetworkPicture:
                 look = {"marker": "^", "markerfacecolor": "black", "markersize": 0.67 * size}
             else:
                 look = {"marker": "x", "markersize": 0.5 * size}
-            order = 1 if self.is_quiet(point) else 5
-            self.sheet.axes.plot(*self.places[point["name"]], linestyle="none", zorder=order, **{"markeredgecolor": "black", **look})
+            look = {"markeredgecolor": "black", "zorder": 1 if self.is_quiet(point) else 5, **look}
+            self.sheet.axes.plot(*self.places[point["name"]], linestyle="none", **look)
         for point in sorted(self.shown, key=self.is_new, reverse=True):
             if not self.is_quiet(point):
                 self.name_point(point, size)
@@ -278,22 +281,24 @@ class NetworkPicture:
     def draw_key(self):
         kinds = [kind for kind in LOOKS if any(c["kind"] == kind for c in self.plan.chosen)]
         count = {kind: sum(c["kind"] == kind for c in self.plan.chosen) for kind in kinds}
-        is_in = {part: any(part in sizes for sizes in self.sizes.values()) for part in ("plane", "height")}
+        parts = {part for sizes in self.sizes.values() for part in sizes}
+        disk = {"marker": "o", "linestyle": "none"}
         key = [
             Line2D([], [], marker="^", color="black", linestyle="none", label="fixed point"),
             Line2D([], [], marker="o", markerfacecolor="white", color="black", linestyle="none", label="new point"),
             Line2D([], [], color=GREY, linewidth=0.9, label="candidate, not chosen"),
         ]
         key += [Line2D([], [], color="black", label=f"{kind} ({count[kind]})", **LOOKS[kind]) for kind in kinds]
-        if is_in["plane"]:
-            key.append(Line2D([], [], marker="o", markersize=9, markerfacecolor="#e0e0e0", color="black", linestyle="none", label="standard ellipse"))
-            key.append(Line2D([], [], marker="o", markersize=11, fillstyle="none", color=LIMIT, linestyle="none", label="its limit"))
-        if is_in["height"]:
+        if "plane" in parts:
+            key.append(Line2D([], [], markersize=9, markerfacecolor="#e0e0e0", color="black", label="standard ellipse", **disk))
+            key.append(Line2D([], [], markersize=11, fillstyle="none", color=LIMIT, label="its limit", **disk))
+        if "height" in parts:
             key.append(Line2D([], [], color="black", linewidth=3.2, label="standard deviation of a height"))
             key.append(Line2D([], [], color=LIMIT, linewidth=0.9, linestyle="--", label="its limit"))
         if self.plan.inverse is None:
             key.append(Line2D([], [], linestyle="none", label="no ellipses: the normal\nmatrix has no inverse"))
-        self.sheet.figure.legend(handles=key, loc="upper left", bbox_to_anchor=(0.765, 0.895), frameon=False, fontsize=8.5, handlelength=3.2)
+        look = {"frameon": False, "fontsize": 8.5, "handlelength": 3.2}
+        self.sheet.figure.legend(handles=key, loc="upper left", bbox_to_anchor=(0.765, 0.895), **look)
         if self.plan.redundancy:
             self.draw_shades()
 
@@ -305,13 +310,15 @@ class NetworkPicture:
         asked = self.report.redundancy
         if asked:
             axes.axhline(asked, color="black", linewidth=2)
-            axes.annotate(f"limit {asked:.3f}", (0, asked), xytext=(-4, 0), textcoords="offset points", fontsize=7, ha="right", va="center")
+            look = {"textcoords": "offset points", "fontsize": 7, "ha": "right", "va": "center"}
+            axes.annotate(f"limit {asked:.3f}", (0, asked), xytext=(-4, 0), **look)
         least = min(self.plan.redundancy.values())
         axes.set_title(f"least {abs(least) if abs(least) < 5e-4 else least:.3f}", fontsize=8.5, pad=5)
 
     def draw_title(self):
         new = sum(map(self.is_new, self.points))
-        words = f"{len(self.points)} point{'s' * (len(self.points) != 1)}, {new} new; {len(self.plan.chosen)} of {len(self.candidates)} observations"
+        points = "1 point" if len(self.points) == 1 else f"{len(self.points)} points"
+        words = f"{points}, {new} new; {len(self.plan.chosen)} of {len(self.candidates)} observations"
         if not self.report.is_plan:
             words += " (all of them are drawn as if chosen)"
         self.sheet.figure.text(0.02, 0.955, self.report.headline(), fontsize=14, weight="bold")

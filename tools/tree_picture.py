@@ -14,6 +14,7 @@ KINDS = {
     "x": ("cut that refutes (x)", "#ef8a3c", "D"),
     "d": ("dual bound (d)", "#3572b0", "^"),
 }
+PAPER = {"boxstyle": "square,pad=0.05", "facecolor": "white", "edgecolor": "none"}
 FEW = 80
 MANY = 1500
 
@@ -71,7 +72,8 @@ def draw_branches(axes, drawn, names):
         places = drawn.of(kind)
         if places:
             spots = [drawn.columns[p] for p in places], [nodes[p].depth for p in places]
-            axes.scatter(*spots, s=size if kind != "s" else size / 2, c=colour, marker=marker, linewidths=0, zorder=2, rasterized=is_many)
+            look = {"marker": marker, "linewidths": 0, "zorder": 2, "rasterized": is_many}
+            axes.scatter(*spots, s=size if kind != "s" else size / 2, c=colour, **look)
     if len(nodes) <= FEW:
         write_nodes(axes, drawn, names)
     axes.set_ylim(max(node.depth for node in nodes) + 0.7, -0.7)
@@ -83,13 +85,13 @@ def draw_branches(axes, drawn, names):
 
 
 def write_nodes(axes, drawn, names):
+    look = {"textcoords": "offset points", "fontsize": 7, "ha": "center"}
     for place, node in enumerate(drawn.nodes):
         spot = drawn.columns[place], node.depth
         if node.kind == "s":
-            axes.annotate(names[node.split], spot, xytext=(0, 4), textcoords="offset points", fontsize=7, ha="center", va="bottom",
-                          color="#444444", bbox={"boxstyle": "square,pad=0.05", "facecolor": "white", "edgecolor": "none"})
+            axes.annotate(names[node.split], spot, xytext=(0, 4), va="bottom", color="#444444", bbox=PAPER, **look)
         elif node.kind == "c":
-            axes.annotate(str(node.price), spot, xytext=(0, -6), textcoords="offset points", fontsize=7, ha="center", va="top", color=KINDS["c"][1])
+            axes.annotate(str(node.price), spot, xytext=(0, -6), va="top", color=KINDS["c"][1], **look)
 
 
 def draw_depths(axes, drawn):
@@ -122,7 +124,7 @@ def draw_bounds(axes, drawn, report):
     axes.set_xlabel("node, in the order of the log")
     axes.set_ylabel("price")
     if places or report.bound not in (None, "none"):
-        axes.legend(loc="upper right", fontsize=8, frameon=True, framealpha=0.85)
+        axes.legend(loc="lower right", bbox_to_anchor=(1.01, 0.98), ncol=2, fontsize=8, frameon=False)
     else:
         axes.set_yticks([])
         axes.text(0.5, 0.5, "no leaf has a price: no plan is left", transform=axes.transAxes, ha="center", va="center")
@@ -151,7 +153,8 @@ def draw_tree(log, candidates, report, path):
     ]
     figure.legend(handles=key, loc="upper left", bbox_to_anchor=(0.06, 0.925), ncol=5, fontsize=8.5, frameon=False)
     state = "" if tree.is_whole() else f"; not whole yet: {100 * tree.share():.2f} % is done"
-    leaves = len(drawn.nodes) - tree.counts["s"]
-    words = f"the log's tree: {counted(len(drawn.nodes), 'node', 'nodes')}, {counted(leaves, 'leaf', 'leaves')}, bound {report.bound}{state}"
+    nodes = counted(len(drawn.nodes), "node", "nodes")
+    leaves = counted(len(drawn.nodes) - tree.counts["s"], "leaf", "leaves")
+    words = f"the log's tree: {nodes}, {leaves}, bound {report.bound}{state}"
     figure.text(0.07, 0.95, words, fontsize=14, weight="bold")
     saved(figure, path)
