@@ -195,10 +195,8 @@ class NetworkPicture:
         self.sheet.axes.plot(*zip(*line), color=colour, zorder=3, **look)
         if candidate["kind"] in ("direction", "vector"):
             near, far = (line[0] + part * (line[1] - line[0]) for part in (0.68, 0.7))
-            self.sheet.axes.annotate(
-                "", xy=far, xytext=near, zorder=3,
-                arrowprops={"arrowstyle": "-|>", "color": colour, "mutation_scale": 5 + 8 * self.thin, "shrinkA": 0, "shrinkB": 0},
-            )
+            arrow = {"arrowstyle": "-|>", "color": colour, "mutation_scale": 5 + 8 * self.thin, "shrinkA": 0, "shrinkB": 0}
+            self.sheet.axes.annotate("", xy=far, xytext=near, zorder=3, arrowprops=arrow)
         return line
 
     def draw_arc(self, candidate):

@@ -7,6 +7,7 @@ from matplotlib import pyplot
 matplotlib.use("Agg")
 matplotlib.rcParams["svg.hashsalt"] = "geoplan"
 matplotlib.rcParams["font.family"] = "DejaVu Sans"
+matplotlib.rcParams["text.parse_math"] = False
 
 WIDTH, HEIGHT = 11.0, 7.6
 FRAME = (0.02, 0.03, 0.74, 0.86)
