@@ -38,12 +38,13 @@ def functions(path):
         if lines[end].endswith("{"):
             while lines[last] != indent + "}":
                 last += 1
-        if end == at:
+        # the head of a trait's method ends with its last clause
+        if end == at or lines[end].endswith(";"):
             end += 1
         doc = at
         while doc and (lines[doc - 1].startswith(indent + "///") or lines[doc - 1].startswith(indent + "#[")):
             doc -= 1
-        found.append((owner, match.group(3), match.group(2).startswith("pub "), lines[doc:at], lines[at:end], lines[end:last + 1]))
+        found.append((owner, match.group(3), match.group(2).startswith("pub "), lines[doc:at], [line.rstrip(";") for line in lines[at:end]], lines[end:last + 1]))
     return found
 
 

@@ -7,8 +7,6 @@
 //!
 //! Said by: `cut_of`, `cut_into`; `meeting_plans_satisfy_cuts`, `shifts_are_least`; `CutPool::add`,
 //! `CutPool::len`.
-//!
-//! Caller: none yet but its tests.
 #![tactic(auto)]
 
 mod cut;

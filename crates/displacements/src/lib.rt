@@ -4,8 +4,6 @@
 //! nothing is proposed only where no displacement by 1 in one unknown breaks it.
 //!
 //! Said by: `energy`, `load`, `breaks` of `geo_model`; `propose`.
-//!
-//! Caller: none yet but its tests.
 #![tactic(auto)]
 
 mod proposal;

@@ -7,7 +7,7 @@
 //!
 //! Said by: `Tri::row_mut`; `tokens`, `lines`, `tokens_make_the_line`, `lines_make_the_text`.
 //!
-//! Caller: `write_grids` of `pivot_chain/src/judging.rt`.
+//! Caller: `step_row` of `pivot_chain/src/chain.rt`.
 #![tactic(auto)]
 
 mod laws;

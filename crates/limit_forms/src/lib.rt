@@ -8,7 +8,7 @@
 //! Said by: `grid_row`, `form_entry`; `grid_matrices_surround_the_form`,
 //! `grid_verdicts_decide_limits`, `grid_matrices_are_small`, `grid_chains_stay_low`.
 //!
-//! Caller: `write_grids` of `pivot_chain/src/judging.rt`.
+//! Caller: `write_rows` of `pivot_chain/src/grids.rt`.
 #![tactic(auto)]
 
 mod exponents;

@@ -8,7 +8,7 @@
 //! Said by: `replay`, clauses `replayed`, `fault`; `each_text_has_one_verdict`,
 //! `a_fault_stays`.
 //!
-//! Caller: `replayed` of `geoplan/src/answer.rt`.
+//! Caller: `answer_check` of `geoplan/src/check.rt`.
 #![tactic(auto)]
 
 mod fault;

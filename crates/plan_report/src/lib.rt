@@ -6,7 +6,7 @@
 //! Said by: `rows_text`, `found_report`, `no_plan_report`, `undecided_report`, `open_line`,
 //! `checked_report`.
 //!
-//! Caller: `list` of `geoplan/src/answer.rt`.
+//! Caller: `answer_rows` of `geoplan/src/rows.rt`.
 #![tactic(auto)]
 
 mod numbers;
