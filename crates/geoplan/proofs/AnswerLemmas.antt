@@ -2,8 +2,8 @@
 use Rattle.std.proofs.Common.{◌≡◌, ◌⊎◌, inl, inr, ℕ, List, sym, ◌∙◌, subst, None, Some}
 use Rattle.shelf_io.specs.States.{ShelfState}
 use Rattle.geoplan.specs.CommandOf.{CommandOf, command_of, OnCommand}
-use Rattle.geoplan.specs.Running.{SaysWords, Answered}
-use Rattle.geoplan.specs.Standing.{Stands}
+use Rattle.geoplan.specs.Running.{IsWordsRefusal, Answered}
+use Rattle.geoplan.specs.Standing.{IsOutcomeOf}
 use Rattle.geoplan.specs.declared.status.Status.{Status}
 use Rattle.geoplan.specs.declared.status.Status.TheVariants as status
 
@@ -15,7 +15,7 @@ same_command words one other is is_other = let e : Some one ≡ Some other = sym
 pub not_refused : (words : List (List ℕ)) (command : CommandOf) → command_of words ≡ Some command → command_of words ≡ None → ⊥
 not_refused words command is none = let e : None ≡ Some command = sym none ∙ is in cc
 
-said_status : (begun : Status) (text : List ℕ) → SaysWords begun text → (begun ≡ status.WordsRefused) ⊎ (begun ≡ status.NoMemory)
+said_status : (begun : Status) (text : List ℕ) → IsWordsRefusal begun text → (begun ≡ status.WordsRefused) ⊎ (begun ≡ status.NoMemory)
 said_status begun text (inl (e, t)) = inl e
 said_status begun text (inr (e, t)) = inr e
 
@@ -24,11 +24,11 @@ never_said target begun accepted enough is (inl words) = accepted (sym is ∙ wo
 never_said target begun accepted enough is (inr out) = enough (sym is ∙ out)
 
 -- a status that refused words don't have is that of a command
-pub by_command : (words : List (List ℕ)) (target begun : Status) (before now : ShelfState) (text : List ℕ) → (target ≡ status.WordsRefused → ⊥) → (target ≡ status.NoMemory → ⊥) → begun ≡ target → Answered words before now begun text → OnCommand words (λ command. Stands command before now target text)
-by_command words target begun before now text accepted enough is (inl (command, of, stands)) = (command, of, subst (λ s. Stands command before now s text) is stands)
+pub by_command : (words : List (List ℕ)) (target begun : Status) (before now : ShelfState) (text : List ℕ) → (target ≡ status.WordsRefused → ⊥) → (target ≡ status.NoMemory → ⊥) → begun ≡ target → Answered words before now begun text → OnCommand words (λ command. IsOutcomeOf command before now target text)
+by_command words target begun before now text accepted enough is (inl (command, of, stands)) = (command, of, subst (λ s. IsOutcomeOf command before now s text) is stands)
 by_command words target begun before now text accepted enough is (inr (none, refused)) = absurd (never_said target begun accepted enough is (said_status begun text refused.says))
 
 -- the answer of the command that the words are known to be
-pub stands_for : (words : List (List ℕ)) (command : CommandOf) (begun : Status) (before now : ShelfState) (text : List ℕ) → command_of words ≡ Some command → Answered words before now begun text → Stands command before now begun text
-stands_for words command begun before now text is (inl (other, of, stands)) = subst (λ c. Stands c before now begun text) (same_command words other command of is) stands
+pub stands_for : (words : List (List ℕ)) (command : CommandOf) (begun : Status) (before now : ShelfState) (text : List ℕ) → command_of words ≡ Some command → Answered words before now begun text → IsOutcomeOf command before now begun text
+stands_for words command begun before now text is (inl (other, of, stands)) = subst (λ c. IsOutcomeOf c before now begun text) (same_command words other command of is) stands
 stands_for words command begun before now text is (inr (none, refused)) = absurd (not_refused words command is none)

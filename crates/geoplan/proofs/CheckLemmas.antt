@@ -21,7 +21,7 @@ use Rattle.geoplan.specs.declared.verb.Verb.{Verb}
 use Rattle.geoplan.specs.declared.verb.Verb.TheVariants as verb
 use Rattle.geoplan.specs.Checked.{planning, checking, ChecksWith}
 use Rattle.geoplan.specs.CommandOf.{SourcesOf, CommandOf, roles_of, most_of, is_plain, are_distinct, no_sources, with_name, with_redundancy, given_by, sources_from, command_by, command_from, command_of, verb_of}
-use Rattle.geoplan.specs.Ends.{AreTables}
+use Rattle.geoplan.specs.Ends.{AreHeldTables}
 use Rattle.geoplan.specs.Input.{built_input, IsWithin, input_of}
 use Rattle.geoplan.specs.Loading.{tables_input}
 use Rattle.geoplan.specs.Outcomes.{LeavesLog, AcceptsLog}
@@ -130,7 +130,7 @@ one_replay network text one other bounds a b =
     (a.least ∙ ap (bound_at network (root_of network)) tree ∙ sym b.least)
     (a.counted ∙ ap (λ t. counts_of (tree_lines t)) tree ∙ sym b.counted)
 
-module _ (words : List (List ℕ)) (sources : SourcesOf) (tables : TablesOf) (done : Replayed) (before now : ShelfState) (planned : command_of words ≡ Some (planning sources)) (are : AreTables (planning sources) before.held tables) (leaves : LeavesLog tables sources.log done before now) (after : Files) (told : now.held ≡ Some after) where
+module _ (words : List (List ℕ)) (sources : SourcesOf) (tables : TablesOf) (done : Replayed) (before now : ShelfState) (planned : command_of words ≡ Some (planning sources)) (are : AreHeldTables (planning sources) before.held tables) (leaves : LeavesLog tables sources.log done before now) (after : Files) (told : now.held ≡ Some after) where
   -- a name other than the log's holds what it held
   stays : (files : Files) → before.held ≡ Some files → (name : List ℕ) → bytes_eq name sources.log ≡ false → bytes_of after name ≡ bytes_of files name
   stays files was name differ =

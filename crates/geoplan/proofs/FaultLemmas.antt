@@ -9,11 +9,11 @@ use Rattle.shelf_io.proofs.WrittenLaws.{with_written-nothing, is_some-with_writt
 use Rattle.shelf_io.specs.States.{SinkState, ShelfState}
 use Rattle.geoplan.specs.Codes.{code_of, after_failed_put}
 use Rattle.geoplan.specs.CommandOf.{SourcesOf, CommandOf, command_of, names_written, written_for, written_by, OnCommand}
-use Rattle.geoplan.specs.Ends.{AreTables, OnTables, CompletesBy, FindsNoneBy, LeavesOpenBy, RefusesLogBy, FailsToWriteBy, BeganBy, Began, HasReport}
+use Rattle.geoplan.specs.Ends.{AreHeldTables, OnTables, CompletesBy, FindsNoneBy, LeavesOpenBy, RefusesLogBy, FailsToWriteBy, BeganBy, Began, HasReport}
 use Rattle.geoplan.specs.Printing.{WritesPrefix, WritesAll, IsCutShort}
 use Rattle.geoplan.specs.Promises.{WhereHeld, IsUnwritten, OthersStay}
-use Rattle.geoplan.specs.Running.{Prints, Answered, Runs}
-use Rattle.geoplan.specs.Standing.{Stands}
+use Rattle.geoplan.specs.Running.{Prints, Answered, IsRun}
+use Rattle.geoplan.specs.Standing.{IsOutcomeOf}
 use Rattle.geoplan.specs.Tables.{TablesOf}
 use Rattle.geoplan.specs.declared.status.Status.{Status}
 use Rattle.geoplan.specs.declared.status.Status.TheVariants as status
@@ -79,11 +79,11 @@ module _ (command : CommandOf) (before now : ShelfState) where
   abbrev Kept : Type 0
   Kept = (now.held ≡ before.held) ⊎ Began command before.held now.held
 
-  kept_on : (tables : TablesOf) → AreTables command before.held tables → (now.held ≡ before.held) ⊎ BeganBy command.verb command.sources tables before.held now.held → Kept
+  kept_on : (tables : TablesOf) → AreHeldTables command before.held tables → (now.held ≡ before.held) ⊎ BeganBy command.verb command.sources tables before.held now.held → Kept
   kept_on tables are (inl same) = inl same
   kept_on tables are (inr began) = inr (tables, are, began)
 
-  pub stands_keep : (begun : Status) (text : List ℕ) → Stands command before now begun text → Kept
+  pub stands_keep : (begun : Status) (text : List ℕ) → IsOutcomeOf command before now begun text → Kept
   stands_keep status.Found text (tables, are, ends) = kept_on tables are (completed_keeps command.sources tables before now text command.verb ends)
   stands_keep status.NoPlan text (tables, are, ends) = kept_on tables are (none_keeps command.sources tables before now text command.verb ends)
   stands_keep status.WordsRefused text never = absurd never
@@ -138,24 +138,24 @@ module _ (words : List (List ℕ)) (before now : ShelfState) where
   untouched_held (inr (name, piece, named, written)) none = absurd (none_named (written_by words) name none named)
 
 module _ (words : List (List ℕ)) (ended : Status) (before now : ShelfState) (sink sink_now : SinkState) where
-  pub shelf_told-of : Runs words ended before now sink sink_now → is_some now.held ≡ is_some before.held
+  pub shelf_told-of : IsRun words ended before now sink sink_now → is_some now.held ≡ is_some before.held
   shelf_told-of runs = told_held words before now (held_answered words before now runs.begun runs.text runs.answered)
 
-  pub others-of : Runs words ended before now sink sink_now → WhereHeld before.held now.held (OthersStay words)
+  pub others-of : IsRun words ended before now sink sink_now → WhereHeld before.held now.held (OthersStay words)
   others-of runs = others_held words before now (held_answered words before now runs.begun runs.text runs.answered)
 
-  pub untouched-of : Runs words ended before now sink sink_now → written_by words ≡ [] → now.held ≡ before.held
+  pub untouched-of : IsRun words ended before now sink sink_now → written_by words ≡ [] → now.held ≡ before.held
   untouched-of runs = untouched_held words before now (held_answered words before now runs.begun runs.text runs.answered)
 
   -- ---- status 6
 
-  write_fails : (text : List ℕ) → (text ≡ [] → sink_now.written ≡ sink.written) → OnCommand words (λ command. Stands command before now status.WriteFault text) → OnCommand words (λ command. IsUnwritten command before now sink sink_now)
+  write_fails : (text : List ℕ) → (text ≡ [] → sink_now.written ≡ sink.written) → OnCommand words (λ command. IsOutcomeOf command before now status.WriteFault text) → OnCommand words (λ command. IsUnwritten command before now sink sink_now)
   write_fails text silent (command, of, (unwritten, none)) = (command, of, inl (unwritten, silent none))
 
-  report_fails : (target : Status) (text : List ℕ) → ((command : CommandOf) → Stands command before now target text → HasReport command before now text) → IsCutShort text sink sink_now → Answered words before now target text → (target ≡ status.WordsRefused → ⊥) → (target ≡ status.NoMemory → ⊥) → OnCommand words (λ command. IsUnwritten command before now sink sink_now)
+  report_fails : (target : Status) (text : List ℕ) → ((command : CommandOf) → IsOutcomeOf command before now target text → HasReport command before now text) → IsCutShort text sink sink_now → Answered words before now target text → (target ≡ status.WordsRefused → ⊥) → (target ≡ status.NoMemory → ⊥) → OnCommand words (λ command. IsUnwritten command before now sink sink_now)
   report_fails target text report cut answered accepted enough = reported (by_command words target target before now text accepted enough refl answered)
     where
-      reported : OnCommand words (λ command. Stands command before now target text) → OnCommand words (λ command. IsUnwritten command before now sink sink_now)
+      reported : OnCommand words (λ command. IsOutcomeOf command before now target text) → OnCommand words (λ command. IsUnwritten command before now sink sink_now)
       reported (command, of, stands) = (command, of, inr (text, report command stands, cut))
 
   put_fails : (begun : Status) (text : List ℕ) → after_failed_put begun ≡ status.WriteFault → IsCutShort text sink sink_now → Answered words before now begun text → OnCommand words (λ command. IsUnwritten command before now sink sink_now)
@@ -179,5 +179,5 @@ module _ (words : List (List ℕ)) (ended : Status) (before now : ShelfState) (s
   unwritten_by begun text is answered (inr (inr out)) = absurd (let e : status.NoMemory ≡ status.WriteFault = sym out.after ∙ is in cc)
 
   -- the clause of status 6
-  pub unwritten-of : Runs words ended before now sink sink_now → code_of ended ≡ 6 → OnCommand words (λ command. IsUnwritten command before now sink sink_now)
+  pub unwritten-of : IsRun words ended before now sink sink_now → code_of ended ≡ 6 → OnCommand words (λ command. IsUnwritten command before now sink sink_now)
   unwritten-of runs is = unwritten_by runs.begun runs.text (from_code ended 6 is) runs.answered runs.printed

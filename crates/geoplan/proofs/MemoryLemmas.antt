@@ -7,13 +7,13 @@ use Rattle.shelf_io.specs.States.{SinkState, ShelfState}
 use Rattle.log_check.proofs.VerdictLemmas.{logs_have_no_fault}
 use Rattle.geoplan.specs.Codes.{code_of, after_failed_put}
 use Rattle.geoplan.specs.CommandOf.{SourcesOf, CommandOf, files_read, command_of, OnCommand}
-use Rattle.geoplan.specs.Ends.{AreTables, CompletesBy, FindsNoneBy, LeavesOpenBy, RefusesLogBy, FailsToWriteBy, EndsAtLog, Began, HasReport, HasRefusal, HasText}
+use Rattle.geoplan.specs.Ends.{AreHeldTables, CompletesBy, FindsNoneBy, LeavesOpenBy, RefusesLogBy, FailsToWriteBy, EndsAtLog, Began, HasReport, HasRefusal, HasText}
 use Rattle.geoplan.specs.Input.{InputOf, too_long_input, refused_input, built_input, input_of}
 use Rattle.geoplan.specs.Outcomes.{AcceptsLog, RefusesLog, RefusesTable, RefusesLength, FailsToRead}
 use Rattle.geoplan.specs.Printing.{WritesPrefix, WritesAll}
 use Rattle.geoplan.specs.Promises.{RanOut, IsRightLog, IsWrongLog, IsAnswerStatus, IsStatusOf, IsComplete, IsRefusedBy}
-use Rattle.geoplan.specs.Running.{Prints, SaysWords, Answered, Runs}
-use Rattle.geoplan.specs.Standing.{Stands}
+use Rattle.geoplan.specs.Running.{Prints, IsWordsRefusal, Answered, IsRun}
+use Rattle.geoplan.specs.Standing.{IsOutcomeOf}
 use Rattle.geoplan.specs.Tables.{TablesOf}
 use Rattle.geoplan.specs.declared.status.Status.{Status}
 use Rattle.geoplan.specs.declared.status.Status.TheVariants as status
@@ -31,10 +31,10 @@ data View (command : CommandOf) (before now : ShelfState) (begun : Status) (text
   table_refused : RefusesTable command before now text → begun ≡ status.TableRefused → View command before now begun text
   too_long : RefusesLength command before now text → begun ≡ status.FileTooLong → View command before now begun text
   unread : FailsToRead (files_read command) before now text → begun ≡ status.ReadFault → View command before now begun text
-  unwritten : (tables : TablesOf) → AreTables command before.held tables → text ≡ [] → View command before now begun text
+  unwritten : (tables : TablesOf) → AreHeldTables command before.held tables → text ≡ [] → View command before now begun text
   ran_out : text ≡ [] → begun ≡ status.NoMemory → View command before now begun text
 
-view : (command : CommandOf) (before now : ShelfState) (begun : Status) (text : List ℕ) → Stands command before now begun text → View command before now begun text
+view : (command : CommandOf) (before now : ShelfState) (begun : Status) (text : List ℕ) → IsOutcomeOf command before now begun text → View command before now begun text
 view command before now status.Found text ends = reported (inl ends)
 view command before now status.NoPlan text ends = reported (inr (inl ends))
 view command before now status.WordsRefused text never = absurd never
@@ -66,7 +66,7 @@ text_of command before now begun text (unread failed is) = inr (inr (inr (inr (i
 text_of command before now begun text (unwritten tables are none) = inl none
 text_of command before now begun text (ran_out none is) = inl none
 
-text_words : (words : List (List ℕ)) (before now : ShelfState) (begun : Status) (text : List ℕ) → command_of words ≡ None → now ≡ before → SaysWords begun text → (text ≡ []) ⊎ HasText words before now text
+text_words : (words : List (List ℕ)) (before now : ShelfState) (begun : Status) (text : List ℕ) → command_of words ≡ None → now ≡ before → IsWordsRefusal begun text → (text ≡ []) ⊎ HasText words before now text
 text_words words before now begun text none same (inl (e, is)) = inr (inr (record { none = none; same = same; printed = is }))
 text_words words before now begun text none same (inr (e, is)) = inl is
 
@@ -92,7 +92,7 @@ prints_prefix begun ended text sink sink_now (inr (inl failed)) = failed.cut.1
 prints_prefix begun ended text sink sink_now (inr (inr out)) = out.begins
 
 -- the clause of status 7
-pub ran_out-of : (words : List (List ℕ)) (ended : Status) (before now : ShelfState) (sink sink_now : SinkState) → Runs words ended before now sink sink_now → RanOut words before now sink sink_now
+pub ran_out-of : (words : List (List ℕ)) (ended : Status) (before now : ShelfState) (sink sink_now : SinkState) → IsRun words ended before now sink sink_now → RanOut words before now sink sink_now
 ran_out-of words ended before now sink sink_now runs = record {
   held = answered_keeps words before now runs.begun runs.text runs.answered;
   printed = printed_prefix words before now runs.text sink sink_now (text_answered words before now runs.begun runs.text runs.answered)
@@ -159,7 +159,7 @@ module _ (sources : SourcesOf) (tables : TablesOf) (files : Files) (before now :
 completes : (command : CommandOf) (files : Files) (given : InputOf) (code : ℕ) → input_of command files ≡ given → IsStatusOf command given files code → IsComplete command files code
 completes command files given code is status_of = subst (λ g. IsStatusOf command g files code) (sym is) status_of
 
-stands_completes : (command : CommandOf) (files : Files) (before now : ShelfState) (begun : Status) (text : List ℕ) → before.held ≡ Some files → (Rose before.faults now.faults → ⊥) → Stands command before now begun text → IsComplete command files (code_of begun)
+stands_completes : (command : CommandOf) (files : Files) (before now : ShelfState) (begun : Status) (text : List ℕ) → before.held ≡ Some files → (Rose before.faults now.faults → ⊥) → IsOutcomeOf command before now begun text → IsComplete command files (code_of begun)
 stands_completes command files before now status.Found text told quiet (tables, are, ends) =
     completes command files (built_input tables) 0 (are files told) (done_status command.sources tables files before now text told command.verb ends)
 stands_completes command files before now status.NoPlan text told quiet (tables, are, ends) =
@@ -185,7 +185,7 @@ completes_by words command files before now begun ended text sink sink_now is to
     memory_status command (input_of command files) files (code_of ended) (ap code_of out.after)
 
 -- the clause of complete answers
-pub complete-of : (words : List (List ℕ)) (ended : Status) (before now : ShelfState) (sink sink_now : SinkState) → Runs words ended before now sink sink_now → (command : CommandOf) → command_of words ≡ Some command → (Rose before.faults now.faults → ⊥) → (Rose sink.faults sink_now.faults → ⊥) → (files : Files) → before.held ≡ Some files → IsComplete command files (code_of ended)
+pub complete-of : (words : List (List ℕ)) (ended : Status) (before now : ShelfState) (sink sink_now : SinkState) → IsRun words ended before now sink sink_now → (command : CommandOf) → command_of words ≡ Some command → (Rose before.faults now.faults → ⊥) → (Rose sink.faults sink_now.faults → ⊥) → (files : Files) → before.held ≡ Some files → IsComplete command files (code_of ended)
 complete-of words ended before now sink sink_now runs command is quiet quiet_sink files told =
     completes_by words command files before now runs.begun ended runs.text sink sink_now is told quiet quiet_sink runs.answered runs.printed
 
@@ -194,7 +194,7 @@ refused_by : (words : List (List ℕ)) (before now : ShelfState) (begun ended : 
 refused_by words before now begun ended text sink sink_now none (inl (command, of, stands)) printed = absurd (not_refused words command of none)
 refused_by words before now begun ended text sink sink_now none (inr (is, refused)) printed = ends refused.says printed
   where
-    ends : SaysWords begun text → Prints begun text ended sink sink_now → (code_of ended ≡ 2) ⊎ (code_of ended ≡ 7)
+    ends : IsWordsRefusal begun text → Prints begun text ended sink sink_now → (code_of ended ≡ 2) ⊎ (code_of ended ≡ 7)
     ends (inl (e, t)) (inl printed) = inl (ap code_of (printed.same ∙ e))
     ends (inl (e, t)) (inr (inl failed)) = inl (ap code_of (failed.after ∙ ap after_failed_put e))
     ends (inl (e, t)) (inr (inr out)) = inr (ap code_of out.after)
@@ -202,7 +202,7 @@ refused_by words before now begun ended text sink sink_now none (inr (is, refuse
     ends (inr (e, t)) (inr (inl failed)) = inr (ap code_of (failed.after ∙ ap after_failed_put e))
     ends (inr (e, t)) (inr (inr out)) = inr (ap code_of out.after)
 
-pub refused-of : (words : List (List ℕ)) (ended : Status) (before now : ShelfState) (sink sink_now : SinkState) → Runs words ended before now sink sink_now → command_of words ≡ None → (code_of ended ≡ 2) ⊎ (code_of ended ≡ 7)
+pub refused-of : (words : List (List ℕ)) (ended : Status) (before now : ShelfState) (sink sink_now : SinkState) → IsRun words ended before now sink sink_now → command_of words ≡ None → (code_of ended ≡ 2) ⊎ (code_of ended ≡ 7)
 refused-of words ended before now sink sink_now runs none = refused_by words before now runs.begun ended runs.text sink sink_now none runs.answered runs.printed
 
 -- ---- refusals whatever faults are counted
@@ -229,16 +229,16 @@ memory_alone code (inl is) = inr is
 memory_alone code (inr is) = inr is
 
 -- a command that reports has tables
-report_tables : (command : CommandOf) (before now : ShelfState) (text : List ℕ) → HasReport command before now text → (tables : TablesOf) × AreTables command before.held tables
+report_tables : (command : CommandOf) (before now : ShelfState) (text : List ℕ) → HasReport command before now text → (tables : TablesOf) × AreHeldTables command before.held tables
 report_tables command before now text (inl (tables, are, ends)) = (tables, are)
 report_tables command before now text (inr (inl (tables, are, ends))) = (tables, are)
 report_tables command before now text (inr (inr (tables, are, ends))) = (tables, are)
 
-log_tables : (command : CommandOf) (before now : ShelfState) (text : List ℕ) → EndsAtLog command before now text → (tables : TablesOf) × AreTables command before.held tables
+log_tables : (command : CommandOf) (before now : ShelfState) (text : List ℕ) → EndsAtLog command before now text → (tables : TablesOf) × AreHeldTables command before.held tables
 log_tables command before now text (tables, are, ends) = (tables, are)
 
 module _ (command : CommandOf) (before now : ShelfState) (begun ended : Status) (text : List ℕ) (sink sink_now : SinkState) (files : Files) (told : before.held ≡ Some files) where
-  by_tables : (tables : TablesOf) × AreTables command before.held tables → IsRefusedBy (input_of command files) (code_of ended)
+  by_tables : (tables : TablesOf) × AreHeldTables command before.held tables → IsRefusedBy (input_of command files) (code_of ended)
   by_tables (tables, are) = subst (λ g. IsRefusedBy g (code_of ended)) (sym (are files told)) tt
 
   by_view : Prints begun text ended sink sink_now → View command before now begun text → IsRefusedBy (input_of command files) (code_of ended)
@@ -256,7 +256,7 @@ module _ (command : CommandOf) (before now : ShelfState) (begun ended : Status) 
       any_given (input_of command files) (code_of ended) (memory_alone (code_of ended) (ends_as status.NoMemory begun ended text sink sink_now refl is prints))
 
 -- the clause of refusals
-pub refusals-of : (words : List (List ℕ)) (ended : Status) (before now : ShelfState) (sink sink_now : SinkState) → Runs words ended before now sink sink_now → (command : CommandOf) → command_of words ≡ Some command → (files : Files) → before.held ≡ Some files → IsRefusedBy (input_of command files) (code_of ended)
+pub refusals-of : (words : List (List ℕ)) (ended : Status) (before now : ShelfState) (sink sink_now : SinkState) → IsRun words ended before now sink sink_now → (command : CommandOf) → command_of words ≡ Some command → (files : Files) → before.held ≡ Some files → IsRefusedBy (input_of command files) (code_of ended)
 refusals-of words ended before now sink sink_now runs command is files told =
     by_view command before now runs.begun ended runs.text sink sink_now files told runs.printed
     (view command before now runs.begun runs.text (stands_for words command runs.begun before now runs.text is runs.answered))

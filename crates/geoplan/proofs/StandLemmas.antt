@@ -35,7 +35,7 @@ use Rattle.geoplan.specs.Loading.{refused_view, Loads, HasLoadFault, FailsLoad, 
 use Rattle.geoplan.specs.Outcomes.{LeavesLog, BeganLog, FailsToWrite, priced}
 use Rattle.geoplan.specs.Reporting.{CanReport, Ends, Reports, Replays, Refused, HasNoText}
 use Rattle.geoplan.specs.Solving.{Solves, FailsSolve, RunsOutPlanning, Plans}
-use Rattle.geoplan.specs.Standing.{RunsOut, Stands}
+use Rattle.geoplan.specs.Standing.{RunsOut, IsOutcomeOf}
 use Rattle.geoplan.specs.Tables.{TablesOf}
 use Rattle.plan_report.specs.ReportText.{no_plan_text}
 use Rattle.geoplan.specs.Texts.{cannot_read_text, tables_plan_text, tables_undecided_text, tables_rows_text}
@@ -204,13 +204,13 @@ module _ (tables : TablesOf) (name : List ℕ) (before middle now : ShelfState) 
   Plans-before status.FileTooLong text never = absurd never
 
 -- memory ran out after the files were loaded
-out_loaded : (command : CommandOf) (tables : TablesOf) (log : List ℕ) (before now : ShelfState) → Loads command tables log before now → (ends : Status) (text : List ℕ) → HasNoText ends text → Stands command before now ends text
+out_loaded : (command : CommandOf) (tables : TablesOf) (log : List ℕ) (before now : ShelfState) → Loads command tables log before now → (ends : Status) (text : List ℕ) → HasNoText ends text → IsOutcomeOf command before now ends text
 out_loaded command tables log before now has ends text (is, none) =
-    subst (λ s. Stands command before now s text) (sym is) (record { held = inl has.held; later = omega (arith, has.quiet.same_count); printed = none })
+    subst (λ s. IsOutcomeOf command before now s text) (sym is) (record { held = inl has.held; later = omega (arith, has.quiet.same_count); printed = none })
 
 -- `plan`
 module _ (sources : SourcesOf) (tables : TablesOf) (log : List ℕ) (before middle now : ShelfState) (has : Loads (record { verb = verb.Plan; sources = sources }) tables log before middle) where
-  planned : (ends : Status) (text : List ℕ) → Plans tables sources.log before now ends text → Stands (record { verb = verb.Plan; sources = sources }) before now ends text
+  planned : (ends : Status) (text : List ℕ) → Plans tables sources.log before now ends text → IsOutcomeOf (record { verb = verb.Plan; sources = sources }) before now ends text
   planned status.Found text found = (tables, has.input, found)
   planned status.NoPlan text found = (tables, has.input, found)
   planned status.WordsRefused text never = absurd never
@@ -226,19 +226,19 @@ module _ (sources : SourcesOf) (tables : TablesOf) (log : List ℕ) (before midd
   planned status.LogRefused text never = absurd never
   planned status.FileTooLong text never = absurd never
 
-  pub Stands-planned : (ends : Status) (text : List ℕ) → Plans tables sources.log middle now ends text → Stands (record { verb = verb.Plan; sources = sources }) before now ends text
-  Stands-planned ends text plans = planned ends text (Plans-before tables sources.log before middle now has.held has.quiet ends text plans)
+  pub IsOutcomeOf-planned : (ends : Status) (text : List ℕ) → Plans tables sources.log middle now ends text → IsOutcomeOf (record { verb = verb.Plan; sources = sources }) before now ends text
+  IsOutcomeOf-planned ends text plans = planned ends text (Plans-before tables sources.log before middle now has.held has.quiet ends text plans)
 
 -- `rows`
-pub Stands-listed : (sources : SourcesOf) (tables : TablesOf) (log : List ℕ) (before now : ShelfState) → Loads (record { verb = verb.Rows; sources = sources }) tables log before now → (ends : Status) (text : List ℕ) → Ends status.Found (tables_rows_text tables) ends text → Stands (record { verb = verb.Rows; sources = sources }) before now ends text
-Stands-listed sources tables log before now has ends text (inl (is, said)) =
-    subst (λ s. Stands (record { verb = verb.Rows; sources = sources }) before now s text) (sym is) (tables, has.input, record { held = has.held; quiet = has.quiet; printed = said })
-Stands-listed sources tables log before now has ends text (inr out) = out_loaded (record { verb = verb.Rows; sources = sources }) tables log before now has ends text out
+pub IsOutcomeOf-listed : (sources : SourcesOf) (tables : TablesOf) (log : List ℕ) (before now : ShelfState) → Loads (record { verb = verb.Rows; sources = sources }) tables log before now → (ends : Status) (text : List ℕ) → Ends status.Found (tables_rows_text tables) ends text → IsOutcomeOf (record { verb = verb.Rows; sources = sources }) before now ends text
+IsOutcomeOf-listed sources tables log before now has ends text (inl (is, said)) =
+    subst (λ s. IsOutcomeOf (record { verb = verb.Rows; sources = sources }) before now s text) (sym is) (tables, has.input, record { held = has.held; quiet = has.quiet; printed = said })
+IsOutcomeOf-listed sources tables log before now has ends text (inr out) = out_loaded (record { verb = verb.Rows; sources = sources }) tables log before now has ends text out
 
 -- `check`
 module _ (sources : SourcesOf) (tables : TablesOf) (log : List ℕ) (before now : ShelfState) (has : Loads (record { verb = verb.Check; sources = sources }) tables log before now) (ends : Status) (text : List ℕ) where
-  pub Stands-replayed : Replays tables.network log ends text → Stands (record { verb = verb.Check; sources = sources }) before now ends text
-  Stands-replayed (inl (done, is, inl (e, said))) = subst (λ s. Stands (record { verb = verb.Check; sources = sources }) before now s text) (sym e) (
+  pub IsOutcomeOf-replayed : Replays tables.network log ends text → IsOutcomeOf (record { verb = verb.Check; sources = sources }) before now ends text
+  IsOutcomeOf-replayed (inl (done, is, inl (e, said))) = subst (λ s. IsOutcomeOf (record { verb = verb.Check; sources = sources }) before now s text) (sym e) (
     tables,
     has.input,
     (
@@ -255,48 +255,48 @@ module _ (sources : SourcesOf) (tables : TablesOf) (log : List ℕ) (before now 
       },
     ),
   )
-  Stands-replayed (inl (done, is, inr out)) = out_loaded (record { verb = verb.Check; sources = sources }) tables log before now has ends text out
-  Stands-replayed (inr (inl (fault, is, inl (e, said)))) = subst (λ s. Stands (record { verb = verb.Check; sources = sources }) before now s text) (sym e) (
+  IsOutcomeOf-replayed (inl (done, is, inr out)) = out_loaded (record { verb = verb.Check; sources = sources }) tables log before now has ends text out
+  IsOutcomeOf-replayed (inr (inl (fault, is, inl (e, said)))) = subst (λ s. IsOutcomeOf (record { verb = verb.Check; sources = sources }) before now s text) (sym e) (
     tables,
     has.input,
     (log, has.read refl, record { fault = fault; network = has.good.bounds; first = is; held = has.held; quiet = has.quiet; printed = said }),
   )
-  Stands-replayed (inr (inl (fault, is, inr out))) = out_loaded (record { verb = verb.Check; sources = sources }) tables log before now has ends text out
-  Stands-replayed (inr (inr out)) = out_loaded (record { verb = verb.Check; sources = sources }) tables log before now has ends text out
+  IsOutcomeOf-replayed (inr (inl (fault, is, inr out))) = out_loaded (record { verb = verb.Check; sources = sources }) tables log before now has ends text out
+  IsOutcomeOf-replayed (inr (inr out)) = out_loaded (record { verb = verb.Check; sources = sources }) tables log before now has ends text out
 
 -- .. of the command that it is known to be
-pub Stands-plan : (which : Verb) (sources : SourcesOf) (tables : TablesOf) (log : List ℕ) (before middle now : ShelfState) (ends : Status) (text : List ℕ) → which ≡ verb.Plan →
-    Loads (record { verb = which; sources = sources }) tables log before middle → Plans tables sources.log middle now ends text → Stands (record { verb = which; sources = sources }) before now ends text
-Stands-plan which sources tables log before middle now ends text is has plans =
+pub IsOutcomeOf-plan : (which : Verb) (sources : SourcesOf) (tables : TablesOf) (log : List ℕ) (before middle now : ShelfState) (ends : Status) (text : List ℕ) → which ≡ verb.Plan →
+    Loads (record { verb = which; sources = sources }) tables log before middle → Plans tables sources.log middle now ends text → IsOutcomeOf (record { verb = which; sources = sources }) before now ends text
+IsOutcomeOf-plan which sources tables log before middle now ends text is has plans =
     let known : Loads (record { verb = verb.Plan; sources = sources }) tables log before middle =
     subst (λ v. Loads (record { verb = v; sources = sources }) tables log before middle) is has in
-    subst (λ v. Stands (record { verb = v; sources = sources }) before now ends text) (sym is) (Stands-planned sources tables log before middle now known ends text plans)
+    subst (λ v. IsOutcomeOf (record { verb = v; sources = sources }) before now ends text) (sym is) (IsOutcomeOf-planned sources tables log before middle now known ends text plans)
 
-pub Stands-rows : (which : Verb) (sources : SourcesOf) (tables : TablesOf) (log : List ℕ) (before now : ShelfState) (ends : Status) (text : List ℕ) → which ≡ verb.Rows →
-    Loads (record { verb = which; sources = sources }) tables log before now → Ends status.Found (tables_rows_text tables) ends text → Stands (record { verb = which; sources = sources }) before now ends text
-Stands-rows which sources tables log before now ends text is has listed =
+pub IsOutcomeOf-rows : (which : Verb) (sources : SourcesOf) (tables : TablesOf) (log : List ℕ) (before now : ShelfState) (ends : Status) (text : List ℕ) → which ≡ verb.Rows →
+    Loads (record { verb = which; sources = sources }) tables log before now → Ends status.Found (tables_rows_text tables) ends text → IsOutcomeOf (record { verb = which; sources = sources }) before now ends text
+IsOutcomeOf-rows which sources tables log before now ends text is has listed =
     let known : Loads (record { verb = verb.Rows; sources = sources }) tables log before now =
     subst (λ v. Loads (record { verb = v; sources = sources }) tables log before now) is has in
-    subst (λ v. Stands (record { verb = v; sources = sources }) before now ends text) (sym is) (Stands-listed sources tables log before now known ends text listed)
+    subst (λ v. IsOutcomeOf (record { verb = v; sources = sources }) before now ends text) (sym is) (IsOutcomeOf-listed sources tables log before now known ends text listed)
 
-pub Stands-check : (which : Verb) (sources : SourcesOf) (tables : TablesOf) (log : List ℕ) (before now : ShelfState) (ends : Status) (text : List ℕ) → which ≡ verb.Check →
-    Loads (record { verb = which; sources = sources }) tables log before now → Replays tables.network log ends text → Stands (record { verb = which; sources = sources }) before now ends text
-Stands-check which sources tables log before now ends text is has replayed =
+pub IsOutcomeOf-check : (which : Verb) (sources : SourcesOf) (tables : TablesOf) (log : List ℕ) (before now : ShelfState) (ends : Status) (text : List ℕ) → which ≡ verb.Check →
+    Loads (record { verb = which; sources = sources }) tables log before now → Replays tables.network log ends text → IsOutcomeOf (record { verb = which; sources = sources }) before now ends text
+IsOutcomeOf-check which sources tables log before now ends text is has replayed =
     let known : Loads (record { verb = verb.Check; sources = sources }) tables log before now =
     subst (λ v. Loads (record { verb = v; sources = sources }) tables log before now) is has in
-    subst (λ v. Stands (record { verb = v; sources = sources }) before now ends text) (sym is) (Stands-replayed sources tables log before now known ends text replayed)
+    subst (λ v. IsOutcomeOf (record { verb = v; sources = sources }) before now ends text) (sym is) (IsOutcomeOf-replayed sources tables log before now known ends text replayed)
 
 -- ---- the files were not loaded
 
 module _ (command : CommandOf) (before now : ShelfState) (held : now.held ≡ before.held) (later : before.faults ≤ now.faults) (ends : Status) (text : List ℕ) where
-  refused_out : HasNoText ends text → Stands command before now ends text
-  refused_out (is, none) = subst (λ s. Stands command before now s text) (sym is) (record { held = inl held; later = later; printed = none })
+  refused_out : HasNoText ends text → IsOutcomeOf command before now ends text
+  refused_out (is, none) = subst (λ s. IsOutcomeOf command before now s text) (sym is) (record { held = inl held; later = later; printed = none })
 
-  said_or_out : (meant : Status) (words : List ℕ) → (text ≡ words → Stands command before now meant text) → Ends meant words ends text → Stands command before now ends text
-  said_or_out meant words stands (inl (is, said)) = subst (λ s. Stands command before now s text) (sym is) (stands said)
+  said_or_out : (meant : Status) (words : List ℕ) → (text ≡ words → IsOutcomeOf command before now meant text) → Ends meant words ends text → IsOutcomeOf command before now ends text
+  said_or_out meant words stands (inl (is, said)) = subst (λ s. IsOutcomeOf command before now s text) (sym is) (stands said)
   said_or_out meant words stands (inr out) = refused_out out
 
-  refused_for : (why : LoadFault) → HasLoadFault command why before now → Refused why ends text → Stands command before now ends text
+  refused_for : (why : LoadFault) → HasLoadFault command why before now → Refused why ends text → IsOutcomeOf command before now ends text
   refused_for (load.TooLong name) (is, quiet) ended =
       said_or_out status.FileTooLong _ (λ said. record { name = name.now; refuses = record { input = is; held = held; quiet = quiet }; printed = said }) ended
   refused_for (load.Unread name) failed ended =
@@ -315,5 +315,5 @@ module _ (command : CommandOf) (before now : ShelfState) (held : now.held ≡ be
       said_or_out status.TableRefused _ (λ said. record { fault = refused_view refused; refuses = record { input = is; held = held; quiet = quiet }; printed = said }) ended
   refused_for load.NoMemory free out = refused_out out
 
-pub Stands-refused : (command : CommandOf) (why : LoadFault) (before now : ShelfState) (ends : Status) (text : List ℕ) → FailsLoad command why before now → Refused why ends text → Stands command before now ends text
-Stands-refused command why before now ends text fails said = refused_for command before now fails.held fails.later ends text why fails.cause said
+pub IsOutcomeOf-refused : (command : CommandOf) (why : LoadFault) (before now : ShelfState) (ends : Status) (text : List ℕ) → FailsLoad command why before now → Refused why ends text → IsOutcomeOf command before now ends text
+IsOutcomeOf-refused command why before now ends text fails said = refused_for command before now fails.held fails.later ends text why fails.cause said

@@ -12,12 +12,12 @@ use Rattle.geoplan.specs.Tables.{TablesOf}
 -- What each command ends with: the outcomes, over the files that it reads and writes. This project's own.
 
 -- the tables are those that the shelf holds, where it tells
-abbrev pub AreTables : CommandOf → Option Files → TablesOf → Type 0
-AreTables command held tables = ForSome held (λ files. input_of command files ≡ built_input tables)
+abbrev pub AreHeldTables : CommandOf → Option Files → TablesOf → Type 0
+AreHeldTables command held tables = ForSome held (λ files. input_of command files ≡ built_input tables)
 
 -- the files of the command give two tables with their network, and P holds of them
 abbrev pub OnTables : CommandOf → Option Files → (TablesOf → Type 0) → Type 0
-OnTables command held P = (tables : TablesOf) × AreTables command held tables × P tables
+OnTables command held P = (tables : TablesOf) × AreHeldTables command held tables × P tables
 
 -- the bytes are those that the shelf holds under the name, where it tells
 abbrev pub AreBytes : List ℕ → Option Files → List ℕ → Type 0

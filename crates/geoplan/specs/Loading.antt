@@ -15,7 +15,7 @@ use Rattle.geoplan.specs.declared.load.LoadFault.TheVariants as load
 use Rattle.geoplan.specs.declared.refused_table.RefusedTable.{RefusedTable}
 use Rattle.geoplan.specs.declared.verb.Verb.TheVariants as verb
 use Rattle.geoplan.specs.CommandOf.{CommandOf, FileOf, files_read}
-use Rattle.geoplan.specs.Ends.{AreTables, AreBytes}
+use Rattle.geoplan.specs.Ends.{AreHeldTables, AreBytes}
 use Rattle.geoplan.specs.Input.{InputOf, too_long_input, refused_input, built_input, refused_table, refused_or, IsWithin, accepted_input, input_of}
 use Rattle.geoplan.specs.Tables.{TablesOf, RefusedOf}
 
@@ -96,7 +96,7 @@ pub record FailsMore (command : CommandOf) (why : LoadFault) (before now : Shelf
 -- the tables were read and are accepted, these are they with their network, the log was read besides, and no fault was
 -- counted
 pub record Loads (command : CommandOf) (tables : TablesOf) (log : List ℕ) (before now : ShelfState) : Type 0 where
-  pub input : AreTables command before.held tables
+  pub input : AreHeldTables command before.held tables
   pub good : IsGoodNetwork tables
   pub read : IsReadLog command log before.held
   pub held : now.held ≡ before.held

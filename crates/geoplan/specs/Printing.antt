@@ -30,8 +30,8 @@ abbrev pub PrintsAll : (List ℕ → Type 0) → SinkState → SinkState → Typ
 PrintsAll Outcome sink sink_now = (text : List ℕ) × Outcome text × WritesAll text sink sink_now
 
 -- an outcome, and its text was printed, or its beginning where the sink counted a fault
-abbrev pub Says : (List ℕ → Type 0) → SinkState → SinkState → Type 0
-Says Outcome sink sink_now = (text : List ℕ) × Outcome text × IsSaid text sink sink_now
+abbrev pub HasPrinted : (List ℕ → Type 0) → SinkState → SinkState → Type 0
+HasPrinted Outcome sink sink_now = (text : List ℕ) × Outcome text × IsSaid text sink sink_now
 
 -- an outcome, and the put of its text failed
 abbrev pub FailsToPut : (List ℕ → Type 0) → SinkState → SinkState → Type 0

@@ -4,7 +4,7 @@ use Rattle.geoplan.specs.Codes.{after_failed_put}
 use Rattle.geoplan.specs.CommandOf.{command_of, OnCommand}
 use Rattle.geoplan.specs.Printing.{WritesPrefix, WritesAll, IsCutShort}
 use Rattle.geoplan.specs.Reporting.{Ends}
-use Rattle.geoplan.specs.Standing.{Stands}
+use Rattle.geoplan.specs.Standing.{IsOutcomeOf}
 use Rattle.geoplan.specs.Texts.{words_text}
 use Rattle.geoplan.specs.declared.status.Status.{Status}
 use Rattle.geoplan.specs.declared.status.Status.TheVariants as status
@@ -33,21 +33,21 @@ Prints begun text ended before now =
     IsPrinted begun text ended before now ⊎ (BreaksOff begun text ended before now ⊎ RunsOutPrinting text ended before now)
 
 -- the words are refused by name, where there was memory for it
-abbrev pub SaysWords : Status → List ℕ → Type 0
-SaysWords begun text = Ends status.WordsRefused words_text begun text
+abbrev pub IsWordsRefusal : Status → List ℕ → Type 0
+IsWordsRefusal begun text = Ends status.WordsRefused words_text begun text
 
 -- the words are refused: nothing is read or written
 pub record AnswersWords (before now : ShelfState) (begun : Status) (text : List ℕ) : Type 0 where
   pub same : now ≡ before
-  pub says : SaysWords begun text
+  pub says : IsWordsRefusal begun text
 
 -- the answer to a command line, before anything is printed
 abbrev pub Answered : List (List ℕ) → ShelfState → ShelfState → Status → List ℕ → Type 0
 Answered words before now begun text =
-    OnCommand words (λ command. Stands command before now begun text) ⊎ ((command_of words ≡ None) × AnswersWords before now begun text)
+    OnCommand words (λ command. IsOutcomeOf command before now begun text) ⊎ ((command_of words ≡ None) × AnswersWords before now begun text)
 
 -- a run: the answer, and its printing
-pub record Runs (words : List (List ℕ)) (ended : Status) (before now : ShelfState) (sink sink_now : SinkState) : Type 0 where
+pub record IsRun (words : List (List ℕ)) (ended : Status) (before now : ShelfState) (sink sink_now : SinkState) : Type 0 where
   pub begun : Status
   pub text : List ℕ
   pub answered : Answered words before now begun text

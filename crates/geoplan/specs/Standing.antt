@@ -16,14 +16,14 @@ pub record RunsOut (command : CommandOf) (before now : ShelfState) (text : List 
   pub printed : text ≡ []
 
 -- what a status of a command says before anything is printed
-abbrev pub Stands : CommandOf → ShelfState → ShelfState → Status → List ℕ → Type 0
-Stands command before now status.Found text = Completes command before now text
-Stands command before now status.NoPlan text = EndsWithNone command before now text
-Stands command before now status.WordsRefused text = ⊥
-Stands command before now status.TableRefused text = RefusesTable command before now text
-Stands command before now status.Undecided text = EndsOpen command before now text
-Stands command before now status.ReadFault text = FailsToRead (files_read command) before now text
-Stands command before now status.WriteFault text = EndsUnwritten command before now × (text ≡ [])
-Stands command before now status.NoMemory text = RunsOut command before now text
-Stands command before now status.LogRefused text = EndsAtLog command before now text
-Stands command before now status.FileTooLong text = RefusesLength command before now text
+abbrev pub IsOutcomeOf : CommandOf → ShelfState → ShelfState → Status → List ℕ → Type 0
+IsOutcomeOf command before now status.Found text = Completes command before now text
+IsOutcomeOf command before now status.NoPlan text = EndsWithNone command before now text
+IsOutcomeOf command before now status.WordsRefused text = ⊥
+IsOutcomeOf command before now status.TableRefused text = RefusesTable command before now text
+IsOutcomeOf command before now status.Undecided text = EndsOpen command before now text
+IsOutcomeOf command before now status.ReadFault text = FailsToRead (files_read command) before now text
+IsOutcomeOf command before now status.WriteFault text = EndsUnwritten command before now × (text ≡ [])
+IsOutcomeOf command before now status.NoMemory text = RunsOut command before now text
+IsOutcomeOf command before now status.LogRefused text = EndsAtLog command before now text
+IsOutcomeOf command before now status.FileTooLong text = RefusesLength command before now text

@@ -1,7 +1,7 @@
 //! The answer of a command, before anything is printed.
 ghost use Rattle.std.specs.Prelude.{◌≤◌};
 ghost use Rattle.geoplan.specs.CommandView.{command_view};
-ghost use Rattle.geoplan.specs.Standing.{Stands};
+ghost use Rattle.geoplan.specs.Standing.{IsOutcomeOf};
 
 use crate::check::answer_check;
 use crate::command::Command;
@@ -18,7 +18,7 @@ use std::alloc::Global;
 /// 999.
 pub fn answer<H: Shelf>(alloc: Global, command: &Command<'_>, shelf: &mut H) -> Outcome
     requires { command.now.sources.redundancy ≤ 999 }
-    ensures { Stands (command_view command.now) (H.state shelf.old) (H.state shelf.new) result.status result.text.items }
+    ensures { IsOutcomeOf (command_view command.now) (H.state shelf.old) (H.state shelf.new) result.status result.text.items }
 {
     let loaded = match load(alloc, command, shelf) {
         Ok(loaded) => loaded,

@@ -6,7 +6,7 @@ ghost use Rattle.geo_model.specs.Energy.{cost_of};
 ghost use Rattle.bound_log.specs.declared.bound.Bound.TheVariants.{NoPlan};
 ghost use Rattle.geoplan.specs.Checked.{planning, ChecksWith};
 ghost use Rattle.geoplan.specs.CommandOf.{SourcesOf, CommandOf, FileOf, command_of};
-ghost use Rattle.geoplan.specs.Ends.{AreTables};
+ghost use Rattle.geoplan.specs.Ends.{AreHeldTables};
 ghost use Rattle.geoplan.specs.Outcomes.{priced, FindsPlan, FindsNone, LeavesOpen, FailsToRead};
 ghost use Rattle.geoplan.specs.Promises.{IsUnwritten};
 ghost use Rattle.geoplan.specs.Tables.{TablesOf};
@@ -17,15 +17,15 @@ use shelf_io::{Shelf, Sink, SureShelf, SureSink};
 /// with the printed bound: the price of the plan, or none. `check` reads logs of up to 268435456 bytes.
 pub fn what_plan_writes_check_accepts()
     ensures plan { (words : List (List ℕ)) (sources : SourcesOf) (tables : TablesOf) (before now : ShelfState) (text : List ℕ) →
-        command_of words ≡ Some (planning sources) → AreTables (planning sources) before.held tables →
+        command_of words ≡ Some (planning sources) → AreHeldTables (planning sources) before.held tables →
         (found : FindsPlan tables sources.log before now text) →
         ForSome now.held (ChecksWith sources tables (priced (cost_of tables.network.candidates found.plan) found.counts)) }
     ensures none { (words : List (List ℕ)) (sources : SourcesOf) (tables : TablesOf) (before now : ShelfState) (text : List ℕ) →
-        command_of words ≡ Some (planning sources) → AreTables (planning sources) before.held tables →
+        command_of words ≡ Some (planning sources) → AreHeldTables (planning sources) before.held tables →
         (found : FindsNone tables sources.log before now text) →
         ForSome now.held (ChecksWith sources tables (record { bound = NoPlan; counts = found.counts })) }
     ensures undecided { (words : List (List ℕ)) (sources : SourcesOf) (tables : TablesOf) (before now : ShelfState) (text : List ℕ) →
-        command_of words ≡ Some (planning sources) → AreTables (planning sources) before.held tables →
+        command_of words ≡ Some (planning sources) → AreHeldTables (planning sources) before.held tables →
         (left : LeavesOpen tables sources.log before now text) →
         ForSome now.held (ChecksWith sources tables (priced (cost_of tables.network.candidates left.plan) left.counts)) }
 {}

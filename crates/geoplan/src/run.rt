@@ -1,6 +1,6 @@
 //! A run of the program over any shelf and sink.
 ghost use Rattle.std.specs.Prelude.{◌≡◌};
-ghost use Rattle.geoplan.specs.Running.{Prints, SaysWords, Runs};
+ghost use Rattle.geoplan.specs.Running.{Prints, IsWordsRefusal, IsRun};
 
 use crate::answer::answer;
 use crate::command::Command;
@@ -27,14 +27,14 @@ fn print<O: Sink>(out: &mut O, outcome: Outcome) -> Status
 
 /// The outcome where the words aren't accepted.
 fn refuse_words(alloc: Global) -> Outcome
-    ensures { SaysWords result.status result.text.items }
+    ensures { IsWordsRefusal result.status result.text.items }
 {
     Outcome::made(alloc, Status::WordsRefused, words_refusal(alloc))
 }
 
 /// Runs a command line, and answers the status to end with.
 pub fn run<H: Shelf, O: Sink>(alloc: Global, words: &Words, shelf: &mut H, out: &mut O) -> Status
-    ensures { Runs words.now result (H.state shelf.old) (H.state shelf.new) (O.state out.old) (O.state out.new) }
+    ensures { IsRun words.now result (H.state shelf.old) (H.state shelf.new) (O.state out.old) (O.state out.new) }
 {
     let outcome = match Command::of(words) {
         Some(command) => answer(alloc, &command, shelf),

@@ -6,7 +6,7 @@ ghost use Rattle.geoplan.specs.CommandOf.{CommandOf, command_of, files_read, wri
 ghost use Rattle.geoplan.specs.Ends.{Completes, EndsWithNone, EndsOpen, EndsAtLog};
 ghost use Rattle.geoplan.specs.Input.{input_of};
 ghost use Rattle.geoplan.specs.Outcomes.{RefusesWords, RefusesTable, RefusesLength, FailsToRead};
-ghost use Rattle.geoplan.specs.Printing.{PrintsAll, Says};
+ghost use Rattle.geoplan.specs.Printing.{PrintsAll, HasPrinted};
 ghost use Rattle.geoplan.specs.Promises.{WhereHeld, IsStatus, IsUnwritten, RanOut, OthersStay, IsComplete, IsRefusedBy};
 
 use crate::run::run;
@@ -32,13 +32,13 @@ pub fn geoplan<H: Shelf, O: Sink>(alloc: Global, words: &Words, shelf: &mut H, o
         (EndsWithNone command (H.state shelf.old) (H.state shelf.new)) (O.state out.old) (O.state out.new)) }
 
     // 2: exactly where the words aren't accepted, but for want of memory.
-    ensures words { result ≡ 2 → Says
+    ensures words { result ≡ 2 → HasPrinted
         (RefusesWords words.now (H.state shelf.old) (H.state shelf.new)) (O.state out.old) (O.state out.new) }
     ensures refused { command_of words.now ≡ None → (result ≡ 2) ⊎ (result ≡ 7) }
 
     // 3: the shown fault is the first one of the tables in the order of reading, or of their network
     // where no table has one.
-    ensures refused_table { result ≡ 3 → OnCommand words.now (λ command. Says
+    ensures refused_table { result ≡ 3 → OnCommand words.now (λ command. HasPrinted
         (RefusesTable command (H.state shelf.old) (H.state shelf.new)) (O.state out.old) (O.state out.new)) }
 
     // 4: the printed plan costs no more than any that meets the limits, which the log proves. It is
@@ -47,7 +47,7 @@ pub fn geoplan<H: Shelf, O: Sink>(alloc: Global, words: &Words, shelf: &mut H, o
         (EndsOpen command (H.state shelf.old) (H.state shelf.new)) (O.state out.old) (O.state out.new)) }
 
     // 5: a read of a file of the command failed in this call, and no file before it is too long.
-    ensures unread { result ≡ 5 → OnCommand words.now (λ command. Says
+    ensures unread { result ≡ 5 → OnCommand words.now (λ command. HasPrinted
         (FailsToRead (files_read command) (H.state shelf.old) (H.state shelf.new))
         (O.state out.old) (O.state out.new)) }
 
@@ -60,11 +60,11 @@ pub fn geoplan<H: Shelf, O: Sink>(alloc: Global, words: &Words, shelf: &mut H, o
         (H.state shelf.old) (H.state shelf.new) (O.state out.old) (O.state out.new) }
 
     // 8: the shown fault is the first one of the text under the log's name.
-    ensures log_refused { result ≡ 8 → OnCommand words.now (λ command. Says
+    ensures log_refused { result ≡ 8 → OnCommand words.now (λ command. HasPrinted
         (EndsAtLog command (H.state shelf.old) (H.state shelf.new)) (O.state out.old) (O.state out.new)) }
 
     // 9: the shown file is the first one, in the order of reading, that is too long.
-    ensures too_long { result ≡ 9 → OnCommand words.now (λ command. Says
+    ensures too_long { result ≡ 9 → OnCommand words.now (λ command. HasPrinted
         (RefusesLength command (H.state shelf.old) (H.state shelf.new)) (O.state out.old) (O.state out.new)) }
 
     // Accepted words and no fault counted: the status is what the files give, or want of memory.
