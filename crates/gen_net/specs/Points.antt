@@ -4,7 +4,8 @@ use Rattle.std.specs.Prelude.{ℕ, ◌+◌, ◌*◌, List, ◌++◌, codes}
 use Rattle.gen_net.specs.Draws.{drawn}
 use Rattle.gen_net.specs.Fields.{field, metres, tenths}
 
--- name and coordinates of a point: x and y in metres, to which up to `spread` mm are added, and a height from 100 m on
+-- name and coordinates of a point: x and y in metres, to which less than `spread` mm are added, and a height of 100 m to
+-- which less than 50 m are added
 abbrev pub place_text : ℕ → ℕ → List ℕ → ℕ → ℕ → ℕ → List ℕ
 place_text seed first name x y spread =
     field name

@@ -11,7 +11,7 @@ use std::alloc::Global;
 /// How many draws the points take.
 pub const POINT_DRAWS: u32 = 37;
 
-/// The place of a point, in metres, and how many millimetres more it may be.
+/// The place of a point in metres, to which less than `spread` millimetres are added.
 #[derive(Clone, Copy)]
 struct Place {
     x: u32,
@@ -19,29 +19,7 @@ struct Place {
     spread: u32,
 }
 
-/// The place of a fixed point.
-fn fixed(x: u32, y: u32) -> Place
-    ensures { result ≡ record { x = x; y = y; spread = 100000 } }
-{
-    Place {
-        x,
-        y,
-        spread: 100_000,
-    }
-}
-
-/// The place of a new point.
-fn new(x: u32, y: u32) -> Place
-    ensures { result ≡ record { x = x; y = y; spread = 200000 } }
-{
-    Place {
-        x,
-        y,
-        spread: 200_000,
-    }
-}
-
-/// Appends a coordinate of so many metres and up to `spread` mm more.
+/// Appends a coordinate of so many metres and less than `spread` mm more.
 fn put_coordinate(
     text: &mut Vec<u8>,
     draws: &mut Draws,
@@ -94,7 +72,12 @@ fn put_fixed(
     ensures put { OnOk result (text.new.items ≡ text.old.items ++ fixed_line draws.old.0 draws.old.1 name.now x y) }
     ensures further { OnOk result (draws.new ≡ (draws.old.0, draws.old.1 + 3)) }
 {
-    put_place(text, draws, name, fixed(x, y))?;
+    let place = Place {
+        x,
+        y,
+        spread: 100_000,
+    };
+    put_place(text, draws, name, place)?;
     text.extend_from_slice(b"fixed,fixed\n")?;
     Ok(())
 }
@@ -114,7 +97,12 @@ fn put_new(
     ensures put { OnOk result (text.new.items ≡ text.old.items ++ new_line draws.old.0 draws.old.1 name.now x y) }
     ensures further { OnOk result (draws.new ≡ (draws.old.0, draws.old.1 + 5)) }
 {
-    put_place(text, draws, name, new(x, y))?;
+    let place = Place {
+        x,
+        y,
+        spread: 200_000,
+    };
+    put_place(text, draws, name, place)?;
     put_tenths(text, 75 + draws.draw(6))?;
     text.extend_from_slice(b",")?;
     put_tenths(text, 110 + draws.draw(11))?;
