@@ -1,0 +1,4 @@
+pub mod Coefficients
+pub mod Energies
+pub mod RowSums
+pub mod Squares

@@ -1,0 +1,4 @@
+pub mod Candidates
+pub mod Draws
+pub mod Fields
+pub mod Points
