@@ -1,0 +1,91 @@
+use crate::probe::{Probe, Side};
+use dual_simplex::Tableau;
+use geo_base::NoMemory;
+use std::alloc::Global;
+use std::mem;
+
+/// The candidates of one node that are tried, and the best of them. It keeps its memory from node to
+/// node.
+#[derive(Drop)]
+pub struct Branching {
+    // The sides of the candidate that is tried.
+    inside: Tableau,
+    outside: Tableau,
+    // The sides of the best one.
+    best_inside: Tableau,
+    best_outside: Tableau,
+    best: Option<Probe>,
+    // What a rise counts at least.
+    least: i64,
+}
+
+impl Branching {
+    /// No candidate was tried. It takes no memory.
+    pub fn new(alloc: Global) -> Branching {
+        Branching {
+            inside: Tableau::new(alloc),
+            outside: Tableau::new(alloc),
+            best_inside: Tableau::new(alloc),
+            best_outside: Tableau::new(alloc),
+            best: None,
+            least: 0,
+        }
+    }
+
+    /// Starts at a node: no candidate was tried, and each rise counts at least `least`.
+    pub fn start(&mut self, least: i64) {
+        self.best = None;
+        self.least = least;
+    }
+
+    /// Tries a candidate at the node of a tableau that was run, for at most so many pivots a side. The
+    /// best candidate's tableaus are kept; of equal ones the first is.
+    pub fn probe(&mut self, node: &Tableau, candidate: u32, steps: u32) -> Result<Probe, NoMemory> {
+        let before = node.objective();
+        let probe = Probe {
+            candidate,
+            inside: side(&mut self.inside, node, candidate, true, before, steps)?,
+            outside: side(&mut self.outside, node, candidate, false, before, steps)?,
+        };
+        let is_better = match self.best {
+            Some(best) => best.score(self.least) < probe.score(self.least),
+            None => true,
+        };
+        if is_better {
+            self.best = Some(probe);
+            mem::swap(&mut self.inside, &mut self.best_inside);
+            mem::swap(&mut self.outside, &mut self.best_outside);
+        }
+        Ok(probe)
+    }
+
+    /// The best candidate that was tried at this node.
+    pub fn best(&self) -> Option<Probe> {
+        self.best
+    }
+
+    /// The tableau of the side that takes the best candidate.
+    pub fn inside(&self) -> &Tableau {
+        &self.best_inside
+    }
+
+    /// The tableau of the side that leaves the best candidate out.
+    pub fn outside(&self) -> &Tableau {
+        &self.best_outside
+    }
+}
+
+// Runs one side of a split in the tableau `child`.
+fn side(
+    child: &mut Tableau,
+    node: &Tableau,
+    candidate: u32,
+    is_in: bool,
+    before: i64,
+    steps: u32,
+) -> Result<Side, NoMemory> {
+    child.copy_from(node)?;
+    child.fix(candidate, is_in);
+    let outcome = child.run(steps)?;
+    Ok(Side::of(outcome, before, child.objective()))
+}

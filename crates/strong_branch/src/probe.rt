@@ -1,0 +1,48 @@
+use dual_simplex::Outcome;
+
+/// What a rise is where a side has no shares at all: above that of any price.
+const INFEASIBLE: i64 = 1 << 60;
+
+/// One side of a split: by how much the bound rises there within the steps, and whether no shares
+/// are left. Numbers that got too large count as no rise.
+#[derive(Clone, Copy)]
+pub struct Side {
+    pub rise: i64,
+    pub is_infeasible: bool,
+}
+
+impl Side {
+    /// The side whose run ended so, with the price before and after.
+    pub(crate) fn of(outcome: Outcome, before: i64, after: i64) -> Side {
+        match outcome {
+            Outcome::Infeasible => Side {
+                rise: INFEASIBLE,
+                is_infeasible: true,
+            },
+            Outcome::Lost => Side {
+                rise: 0,
+                is_infeasible: false,
+            },
+            Outcome::Solved | Outcome::OutOfSteps => Side {
+                rise: after.wrapping_sub(before).max(0),
+                is_infeasible: false,
+            },
+        }
+    }
+}
+
+/// A candidate that was tried: the side that takes it and the side that leaves it out.
+#[derive(Clone, Copy)]
+pub struct Probe {
+    pub candidate: u32,
+    pub inside: Side,
+    pub outside: Side,
+}
+
+impl Probe {
+    /// The product of both rises, each at least `least`: the larger, the better the split.
+    pub fn score(self, least: i64) -> i128 {
+        let inside = self.inside.rise.max(least) as i128;
+        inside.wrapping_mul(self.outside.rise.max(least) as i128)
+    }
+}
