@@ -1,13 +1,11 @@
-//! The cuts of the pool that are looked at first, stored by candidate: what each of them reaches under
-//! a plan is one pass over whole numbers, and under shares one over fixed point with 28 fractional
-//! bits. It proposes cuts that are broken.
+//! The cuts of the pool that are looked at first, stored by candidate: what each of them reaches
+//! under a plan is one pass over whole numbers, and under shares one over fixed point with 28
+//! fractional bits. It proposes cuts that are broken.
 //!
 //! Proved: no call goes wrong, whatever it is given: no index out of range, no overflow, no zero
 //! divisor.
 //!
-//! Said by: safety alone; its numbers are proposals, tested in `kernel_tests`.
-//!
-//! Caller: `columns_of` of `kernel_tests/src/columns.rt`.
+//! Said by: safety alone; its numbers are proposals, and no test of them is in the repository yet.
 #![tactic(auto)]
 
 mod broken;

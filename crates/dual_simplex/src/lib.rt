@@ -1,14 +1,12 @@
 //! A bounded dual simplex that proposes bounds to the search: the least price of shares of
-//! candidates, from 0 to 1 each, under cuts in the form that the coefficients times the shares sum to
-//! at least 1. It starts warm from the tableau of a node above. Everything is fixed point with 32
-//! fractional bits.
+//! candidates, from 0 to 1 each, under cuts in the form that the coefficients times the shares sum
+//! to at least 1. It starts warm from the tableau of a node above. Everything is fixed point with
+//! 32 fractional bits.
 //!
 //! Proved: no call goes wrong, whatever it is given: no index out of range, no overflow, and each
 //! ends.
 //!
-//! Said by: safety alone; its numbers are proposals, tested in `kernel_tests`.
-//!
-//! Caller: `solve` of `kernel_tests/src/programs.rt`.
+//! Said by: safety alone; its numbers are proposals, and no test of them is in the repository yet.
 #![tactic(auto)]
 
 mod answers;

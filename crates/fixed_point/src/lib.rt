@@ -1,11 +1,11 @@
-//! Numbers in fixed point, with 32 fractional bits in an `i64`, and rows of them: what kernels that
-//! only propose to the search compute in. Sums and products that pass 64 bits wrap around, quotients
-//! stop at the greatest number. No call takes memory.
+//! Numbers in fixed point, with 32 fractional bits in an `i64`, and rows of them: what kernels
+//! that only propose to the search compute in. Sums and products that pass 64 bits wrap around,
+//! quotients stop at the greatest number. No call takes memory.
 //!
 //! Proved: no call goes wrong, whatever it is given: no index out of range, no overflow, no zero
 //! divisor.
 //!
-//! Said by: safety alone; its numbers are proposals, tested in `kernel_tests`.
+//! Said by: safety alone; its numbers are proposals, and no test of them is in the repository yet.
 //!
 //! Caller: `clear_place` of `dual_simplex/src/table.rt`.
 #![tactic(auto)]

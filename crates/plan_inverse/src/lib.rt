@@ -1,13 +1,11 @@
-//! The inverse of the scaled normal matrix of a plan, and how it changes where a candidate is taken
-//! out or added: what a limit bears then is known without another factor. It proposes what can be
-//! spared and what can't. Numbers are fixed point with 32 fractional bits.
+//! The inverse of the scaled normal matrix of a plan, and how it changes where a candidate is
+//! taken out or added: what a limit bears then is known without another factor. It proposes what
+//! can be spared and what can't. Numbers are fixed point with 32 fractional bits.
 //!
 //! Proved: no call goes wrong, whatever it is given: no index out of range, no overflow, no zero
 //! divisor.
 //!
-//! Said by: safety alone; its numbers are proposals, tested in `kernel_tests`.
-//!
-//! Caller: `strength_after` of `kernel_tests/src/inverses.rt`.
+//! Said by: safety alone; its numbers are proposals, and no test of them is in the repository yet.
 #![tactic(auto)]
 
 mod change;

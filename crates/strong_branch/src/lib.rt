@@ -1,13 +1,11 @@
 //! Strong branching, which proposes the candidate that the search splits on: each is tried on both
-//! sides for a few pivots of the dual simplex, and the one that lifts the bound most on both is kept
-//! with the tableaus of its sides. Numbers are fixed point with 32 fractional bits.
+//! sides for a few pivots of the dual simplex, and the one that lifts the bound most on both is
+//! kept with the tableaus of its sides. Numbers are fixed point with 32 fractional bits.
 //!
 //! Proved: no call goes wrong, whatever it is given: no index out of range, no overflow, and each
 //! ends.
 //!
-//! Said by: safety alone; its numbers are proposals, tested in `kernel_tests`.
-//!
-//! Caller: `best_of` of `kernel_tests/src/branching.rt`.
+//! Said by: safety alone; its numbers are proposals, and no test of them is in the repository yet.
 #![tactic(auto)]
 
 mod branching;

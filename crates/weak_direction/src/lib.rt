@@ -1,13 +1,11 @@
-//! Weak directions, which propose cuts: the displacement that a limit bears worst under shares of the
-//! candidates, by a factor of their normal matrix, whose unknowns are scaled so that all candidates
-//! together have a unit diagonal. Everything is fixed point with 32 fractional bits.
+//! Weak directions, which propose cuts: the displacement that a limit bears worst under shares of
+//! the candidates, by a factor of their normal matrix, whose unknowns are scaled so that all
+//! candidates together have a unit diagonal. Everything is fixed point with 32 fractional bits.
 //!
 //! Proved: no call goes wrong, whatever it is given: no index out of range, no overflow, no zero
 //! divisor.
 //!
-//! Said by: safety alone; its numbers are proposals, tested in `kernel_tests`.
-//!
-//! Caller: `strength_of` of `kernel_tests/src/directions.rt`.
+//! Said by: safety alone; its numbers are proposals, and no test of them is in the repository yet.
 #![tactic(auto)]
 
 mod eigen;
