@@ -38,7 +38,7 @@ pub fn ratio(a: u64, b: u64) -> i64 {
 }
 
 /// The square root of the quotient of two whole numbers, at most 2^30; 0 where the divisor is 0. It is
-/// exact up to rounding for a dividend below 2^64, and to a part in 2^31 above.
+/// exact up to rounding for a dividend below 2^64, and coarser above.
 pub fn root_of_ratio(dividend: u128, divisor: u128) -> i64 {
     if divisor == 0 {
         return 0;
