@@ -1,3 +1,6 @@
 pub mod Shares
 pub mod Motions
 pub mod RowShares
+pub mod Sums
+pub mod Borne
+pub mod Limits
