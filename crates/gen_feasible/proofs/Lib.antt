@@ -4,3 +4,5 @@ pub mod RowShares
 pub mod Sums
 pub mod Borne
 pub mod Limits
+pub mod Whole
+pub mod Assembly

@@ -11,7 +11,7 @@ pub candidates-counted : (seed : ℕ) → length (candidate_records seed) ≡ 28
 unfolding candidate_records vector_records distance_records direction_records angle_records level_records
 candidates-counted seed = refl
 
-rest-below : (m n : ℕ) → 0 < n → m % n < n
+pub rest-below : (m n : ℕ) → 0 < n → m % n < n
 rest-below m n some = omega arith
 
 -- a draw is one of the numbers below its bound
