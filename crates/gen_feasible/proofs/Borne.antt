@@ -1,9 +1,9 @@
 -- The rows of each kind of generated candidate are borne by the rest of a network with two vectors at each new point.
-use Rattle.std.proofs.Common.{◌≡◌, ◌≤◌, ℕ, List, [], ◌∷◌, arith, ℤ, pos, ◌+ℤ◌, ◌*ℤ◌, ◌≤ℤ◌}
+use Rattle.std.proofs.Common.{ℕ, List, [], ◌∷◌, arith, ℤ, pos, ◌+ℤ◌, ◌*ℤ◌, ◌≤ℤ◌}
 use Rattle.std.specs.Prelude.{All}
 use Rattle.std.proofs.lemmas.Int.{ints}
 use Rattle.std.proofs.lemmas.List.Elements.{All-cons, All-nil}
-use Rattle.whole_algebra.proofs.Order.{le_trans, square_nonneg}
+use Rattle.whole_algebra.proofs.Order.{square_nonneg}
 use Rattle.geo_model.specs.declared.network.Component.TheVariants as component
 use Rattle.geo_model.specs.declared.network.Unknown.{Unknown}
 use Rattle.geo_model.specs.Row.{Displaced, RowOf, row_energy}

@@ -6,3 +6,4 @@ pub mod Borne
 pub mod Limits
 pub mod Whole
 pub mod Assembly
+pub mod Generated

@@ -1,6 +1,6 @@
 -- The limits of a network that the plan of all candidates meets: those of redundancy where each row is borne, and those of
 -- points whose motions the vectors bear.
-use Rattle.std.proofs.Common.{◌≡◌, ◌<◌, ◌≤◌, ◌+◌, ◌*◌, ◌∙◌, ℕ, Bool, List, [], ◌∷◌, length, refl, ap, arith, ℤ, pos, ◌+ℤ◌, ◌-ℤ◌, ◌*ℤ◌, ◌≤ℤ◌}
+use Rattle.std.proofs.Common.{◌≡◌, ◌≤◌, ◌*◌, ◌∙◌, ℕ, Bool, List, [], ◌∷◌, length, arith, ℤ, pos, ◌+ℤ◌, ◌-ℤ◌, ◌*ℤ◌, ◌≤ℤ◌}
 use Rattle.std.specs.Prelude.{All}
 use Rattle.std.proofs.lemmas.Int.{ints}
 use Rattle.whole_algebra.proofs.Ring.{mul_assoc}
@@ -8,14 +8,11 @@ use Rattle.geo_model.specs.declared.network.Component.{Component}
 use Rattle.geo_model.specs.declared.network.Component.TheVariants as component
 use Rattle.geo_model.specs.declared.network.Unknown.{Unknown}
 use Rattle.geo_model.specs.Row.{Displaced, RowOf, form_at, row_energy}
-use Rattle.geo_model.specs.Candidate.{CandidateOf}
 use Rattle.geo_model.specs.Energy.{energy}
-use Rattle.geo_model.specs.Limit.{load}
 use Rattle.geo_model.specs.Meeting.{MeetsLimit}
 use Rattle.geo_model.specs.Network.{NetworkOf}
 use Rattle.design_rows.specs.Equations.{observed, term}
 use Rattle.design_rows.specs.Rows.{entries_of}
-use Rattle.design_rows.specs.Unknowns.{unknown}
 use Rattle.net_build.specs.Build.{axis_limit, height_limit, limits_of_candidate, redundancy_limit, redundancy_limits, square_on}
 use Rattle.net_build.proofs.ListFacts.{All-numbered, All-parts}
 use Rattle.gen_law.proofs.RowSums.{rows_are_sums}

@@ -1,9 +1,9 @@
 -- The rows of each kind of candidate of a generated network, whatever its points and unknowns: how much energy they have.
-use Rattle.std.proofs.Common.{◌≡◌, ◌∙◌, ◌≤◌, ℕ, List, [], ◌∷◌, ◌⊎◌, inl, inr, refl, sym, ap, arith, ℤ, pos, ◌+ℤ◌, ◌-ℤ◌, ◌*ℤ◌, ◌≤ℤ◌}
+use Rattle.std.proofs.Common.{◌≡◌, ◌∙◌, ◌≤◌, ℕ, List, [], ◌∷◌, inl, inr, refl, sym, ap, arith, ℤ, pos, ◌+ℤ◌, ◌-ℤ◌, ◌*ℤ◌, ◌≤ℤ◌}
 use Rattle.std.specs.Prelude.{unsigned_abs}
 use Rattle.std.proofs.lemmas.Int.{ints}
-use Rattle.whole_algebra.proofs.Normal.{ring, x0, x1, x2, x3, x4, x5, x6, x7, lit, atom, ◌⊕◌, ◌⊖◌, ◌⊗◌}
-use Rattle.whole_algebra.proofs.Order.{le_of_eq, le_trans}
+use Rattle.whole_algebra.proofs.Normal.{ring, x0, x1, x2, x3, x4, x5, lit, ◌⊕◌, ◌⊖◌, ◌⊗◌}
+use Rattle.whole_algebra.proofs.Order.{le_of_eq}
 use Rattle.coefficient_round.specs.Coefficient.{scale, weight_for}
 use Rattle.geo_model.specs.declared.network.Component.{Component}
 use Rattle.geo_model.specs.declared.network.Component.TheVariants as component
@@ -12,9 +12,8 @@ use Rattle.geo_model.specs.Row.{Displaced, row_energy}
 use Rattle.point_tables.specs.declared.record.PointRecord.{PointRecord}
 use Rattle.design_rows.specs.Equations.{observed, cosine, sine, p_coefficient, q_coefficient, distance_terms, direction_terms, angle_terms, difference_terms, x_part, y_part}
 use Rattle.design_rows.specs.Rows.{row_of}
-use Rattle.design_rows.specs.Unknowns.{unknown}
 use Rattle.design_rows.proofs.EquationFacts.{cosine-size, sine-size}
-use Rattle.gen_law.specs.RowSums.{apart_by, turned, weighted_square}
+use Rattle.gen_law.specs.RowSums.{turned, weighted_square}
 use Rattle.gen_law.proofs.Coefficients.{far_direction-small, weight_of_8, weight_of_10, weight_of_15}
 use Rattle.gen_law.proofs.Energies.{angle_energy, difference_energy, direction_energy, distance_energy}
 use Rattle.gen_feasible.proofs.Motions.{IsStill, height_square, motion, plane_square}

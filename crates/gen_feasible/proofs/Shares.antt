@@ -1,11 +1,11 @@
 -- How much of a network's energy a row can have beside the vectors, over plain numbers. 10 ^ 8 is the square of the scale.
-use Rattle.std.proofs.Common.{◌≡◌, ◌∙◌, ◌*◌, ◌≤◌, ℕ, [], ◌∷◌, refl, ap, arith, ℤ, pos, ◌+ℤ◌, ◌-ℤ◌, ◌*ℤ◌, ◌≤ℤ◌}
+use Rattle.std.proofs.Common.{◌≡◌, ◌*◌, ◌≤◌, ℕ, [], ◌∷◌, refl, arith, ℤ, pos, ◌+ℤ◌, ◌-ℤ◌, ◌*ℤ◌, ◌≤ℤ◌}
 use Rattle.std.specs.Prelude.{unsigned_abs}
 use Rattle.std.proofs.Math.Nat.{mul-le-mul}
 use Rattle.std.proofs.lemmas.Int.{ints}
-use Rattle.whole_algebra.proofs.Order.{le_by, le_trans, mul_le_mul, mul_le_mul_right, mul_nonneg, square_nonneg}
-use Rattle.whole_algebra.proofs.Ring.{mul_assoc, mul_swap}
-use Rattle.whole_algebra.proofs.Normal.{ring, x0, x1, x2, x3, x4, x5, x6, x7, lit, atom, ◌⊕◌, ◌⊖◌, ◌⊗◌}
+use Rattle.whole_algebra.proofs.Order.{le_by, mul_le_mul_right, square_nonneg}
+use Rattle.whole_algebra.proofs.Ring.{mul_swap}
+use Rattle.whole_algebra.proofs.Normal.{ring, x0, x1, lit, ◌⊕◌, ◌⊖◌, ◌⊗◌}
 use Rattle.coefficient_round.specs.Coefficient.{scale}
 use Rattle.gen_law.proofs.Squares.{square_of_sum, two_terms}
 

@@ -1,17 +1,15 @@
 -- The whole energy of a generated network: that of the vectors, and that of all others.
-use Rattle.std.proofs.Common.{◌≡◌, ◌<◌, ℕ, Bool, true, List, [], ◌∷◌, Some, length, map, refl, sym, ap, arith, ℤ, pos, ◌+ℤ◌, ◌*ℤ◌, ◌≤ℤ◌, slice_get, suc}
-use Rattle.std.specs.Prelude.{All}
+use Rattle.std.proofs.Common.{◌≡◌, ◌<◌, ℕ, true, List, map, arith, ℤ, pos, ◌+ℤ◌, ◌*ℤ◌, ◌≤ℤ◌}
 use Rattle.std.specs.List.{list_all}
 use Rattle.std.proofs.lemmas.Int.{ints}
 use Rattle.geo_model.specs.declared.network.Unknown.{Unknown}
 use Rattle.geo_model.specs.Row.{Displaced}
-use Rattle.geo_model.specs.Candidate.{CandidateOf, candidate_energy}
+use Rattle.geo_model.specs.Candidate.{candidate_energy}
 use Rattle.geo_model.specs.Energy.{full_energy}
 use Rattle.point_tables.specs.declared.record.PointRecord.{PointRecord}
 use Rattle.candidate_tables.specs.declared.record.CandidateRecord.{CandidateRecord}
 use Rattle.net_build.specs.Build.{candidate_of}
 use Rattle.net_build.proofs.ListFacts.{sum-nonneg}
-use Rattle.gen_net.specs.Draws.{drawn}
 use Rattle.gen_net.specs.Candidates.{first_fixed, second_fixed}
 use Rattle.gen_records.specs.Records.{candidate_records, other_records, vector_record, vector_records}
 use Rattle.gen_records.proofs.CountFacts.{drawn-below, rest-below}
