@@ -4,9 +4,9 @@
 
 use geoplan::{Words, geoplan};
 use shelf_io::{FileShelf, OutSink};
-use std::env;
 use std::io::ErrorKind;
 use std::process::ExitCode;
+use std::{env, fs};
 
 /// The status where the system doesn't give the words of the command line, or gives too many.
 const NO_WORDS: u8 = 70;
@@ -17,7 +17,16 @@ const NO_MEMORY: u8 = 7;
 /// The most words of a command line.
 const MOST_WORDS: u32 = 2147483647;
 
+/// A file that gives nothing and takes nothing, while it is open for reading.
+const NOTHING: &str = "/dev/null";
+
 fn main(rt: HostRuntime) -> ExitCode {
+    // Where a standard stream was closed before the start, the system gives its number to the next
+    // file that is opened: a report would be written into the log. So three files take the numbers 0
+    // to 2 where they are free. None of them can be written to, and what is put to them fails.
+    let _input = fs::open(&rt, NOTHING);
+    let _output = fs::open(&rt, NOTHING);
+    let _errors = fs::open(&rt, NOTHING);
     let alloc = rt.alloc();
     let args = match env::args(&rt) {
         Ok(args) => args,
