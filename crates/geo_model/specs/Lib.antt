@@ -7,3 +7,4 @@ pub mod Meeting
 pub mod Verdicts
 pub mod Nodes
 pub mod Cover
+pub mod Values

@@ -28,8 +28,8 @@ use Rattle.net_build.specs.SmallGrids.{IsSmallBeside}
 use Rattle.net_build.proofs.ListFacts.{All-numbered, All-parts}
 use Rattle.net_build.proofs.SquareFacts.{IsUnit, square-unit}
 use Rattle.net_build.proofs.PointFacts.{part-each}
-use Rattle.net_build.proofs.RedundancyFacts.{AreOwnRows, IsOwnRow, alpha-low, thousand-times}
-use Rattle.net_build.proofs.NetworkFacts.{all-own-rows, candidates-bounded, network-bounded, owned-cases, owned_limits}
+use Rattle.geo_model.proofs.RowLoads.{AreOwnRows, IsOwnRow, all-own-rows, alpha-low, thousand-times}
+use Rattle.net_build.proofs.NetworkFacts.{candidates-bounded, network-bounded, owned-cases, owned_limits}
 
 abbrev IsLightLimit : NetworkOf → LimitOf → Type 0
 IsLightLimit network limit = IsLight network limit.alpha limit.squares

@@ -7,3 +7,4 @@ pub mod StepFacts
 pub mod EntryFacts
 pub mod PartFacts
 pub mod GridFacts
+pub mod ValueFacts

@@ -40,26 +40,3 @@ count-none test [] all = refl
 count-none test (x ∷ xs) all =
     let here : ◌≡◌ {A = ℕ} (cond (test x) 1 0) 0 = ap (λ (t : Bool). cond {A = ℕ} t 1 0) (All-head (λ y. test y ≡ false) x xs all) in
     omega (arith, here, sum_by-cons (λ y. cond (test y) 1 0) x xs, count-none test xs (All-tail (λ y. test y ≡ false) x xs all))
-
--- ---- sums of terms that are not negative
-
-pub sum-nonneg : {X : Type 0} (f : X → ℤ) (xs : List X) → All (λ x. pos 0 ≤ℤ f x) xs → pos 0 ≤ℤ int_sum_by f xs
-sum-nonneg f [] all = le_refl (pos 0)
-sum-nonneg f (x ∷ xs) all =
-    add_nonneg (f x) (int_sum_by f xs) (All-head (λ y. pos 0 ≤ℤ f y) x xs all) (sum-nonneg f xs (All-tail (λ y. pos 0 ≤ℤ f y) x xs all))
-
--- the sum is at least each term
-pub sum-above : {X : Type 0} (f : X → ℤ) (xs : List X) → All (λ x. pos 0 ≤ℤ f x) xs → All (λ x. f x ≤ℤ int_sum_by f xs) xs
-sum-above f [] all = All-nil (λ x. f x ≤ℤ pos 0)
-sum-above f (x ∷ xs) all =
-    let here = All-head (λ y. pos 0 ≤ℤ f y) x xs all in
-    let others = All-tail (λ y. pos 0 ≤ℤ f y) x xs all in
-    let rest = sum-nonneg f xs others in
-    All-cons (λ y. f y ≤ℤ (f x +ℤ int_sum_by f xs)) x xs (first (f x) (int_sum_by f xs) rest)
-    (All-weaker (λ y. f y ≤ℤ int_sum_by f xs) (λ y. f y ≤ℤ (f x +ℤ int_sum_by f xs)) (λ y h. more (f y) (f x) (int_sum_by f xs) here h) xs (sum-above f xs others))
-  where
-    first : (a b : ℤ) → pos 0 ≤ℤ b → a ≤ℤ (a +ℤ b)
-    first a b h = omega (arith, ints)
-
-    more : (c a b : ℤ) → pos 0 ≤ℤ a → c ≤ℤ b → c ≤ℤ (a +ℤ b)
-    more c a b h k = omega (arith, ints)

@@ -21,11 +21,12 @@ use Rattle.candidate_tables.specs.Accepted.{IsCandidateRecord}
 use Rattle.design_rows.specs.Unknowns.{is_same, unknowns_of}
 use Rattle.design_rows.proofs.BoundFacts.{rows-bounded}
 use Rattle.design_rows.proofs.UnknownFacts.{unknowns-differ}
+use Rattle.geo_model.proofs.RowLoads.{all-own-rows}
 use Rattle.net_build.specs.Bounds.{AreTables}
 use Rattle.net_build.specs.Build.{candidate_of, count_fault, limits_of, network_fault, network_of, network_on, point_limits, redundancy_limits, row_count}
-use Rattle.net_build.proofs.ListFacts.{count-none, sum-above, sum_by-map}
+use Rattle.net_build.proofs.ListFacts.{count-none, sum_by-map}
 use Rattle.net_build.proofs.PointFacts.{loads, one-limit, points-bounded, points-count}
-use Rattle.net_build.proofs.RedundancyFacts.{AreOwnRows, redundancies-bounded, redundancies-count, redundancies-owned}
+use Rattle.net_build.proofs.RedundancyFacts.{redundancies-bounded, redundancies-count, redundancies-owned}
 
 -- ---- the counts
 
@@ -60,22 +61,6 @@ pub candidates-bounded : (points : List PointRecord) (unknowns : List Unknown) (
 candidates-bounded points unknowns candidates apart all =
     All-map (IsCandidate (length unknowns)) (candidate_of points unknowns) candidates
     (All-weaker (IsCandidateRecord points) (λ candidate. IsCandidate (length unknowns) (candidate_of points unknowns candidate)) (λ candidate is. candidate-bounded points unknowns candidate apart is) candidates all)
-
--- the energy of a row is part of that of all candidates
-own-rows : (n : ℕ) (all : List CandidateOf) (candidate : CandidateOf) → IsCandidate n candidate → ((x : Displaced) → candidate_energy candidate x ≤ℤ full_energy all x)
-    → AreOwnRows n all candidate
-own-rows n all candidate is most = λ k d inside. record {
-  bounds = is.rows k d inside;
-  columns = is.columns k d inside;
-  energy = λ x. le_trans (row_energy (get_or candidate.rows k d) x) (candidate_energy candidate x) (full_energy all x)
-      (sum-above (λ (row : RowOf). row_energy row x) candidate.rows (λ j e within. row_energy-nonneg (get_or candidate.rows j e) x (is.rows j e within)) k d inside)
-      (most x);
-}
-
-pub all-own-rows : (n : ℕ) (candidates : List CandidateOf) → All (IsCandidate n) candidates → All (AreOwnRows n candidates) candidates
-all-own-rows n candidates all = λ k d inside.
-    own-rows n candidates (get_or candidates k d) (all k d inside)
-    (λ x. sum-above (λ (candidate : CandidateOf). candidate_energy candidate x) candidates (λ j e within. candidate_energy-nonneg n (get_or candidates j e) x (all j e within)) k d inside)
 
 -- ---- the limits
 

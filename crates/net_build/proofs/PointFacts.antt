@@ -37,7 +37,7 @@ square-low s least = let h : 1 * 1 ≤ s * s = mul-le-mul least least in omega (
 square-high : (s : ℕ) → s ≤ 1000 → pos (s * s) ≤ℤ pos 1000000
 square-high s most = let h : s * s ≤ 1000 * 1000 = mul-le-mul most most in omega (arith, ints)
 
-axis-bounded : (network : NetworkOf) → IsDistinct is_same network.unknowns → (place s : ℕ) → 1 ≤ s → s ≤ 1000 → IsLimit network (axis_limit network.unknowns place s)
+pub axis-bounded : (network : NetworkOf) → IsDistinct is_same network.unknowns → (place s : ℕ) → 1 ≤ s → s ≤ 1000 → IsLimit network (axis_limit network.unknowns place s)
 unfolding axis_limit
 axis-bounded network apart place s least most =
     let us = network.unknowns in
@@ -52,7 +52,7 @@ axis-bounded network apart place s least most =
       unowned = λ point. refl;
     }
 
-height-bounded : (network : NetworkOf) → IsDistinct is_same network.unknowns → (place s : ℕ) → 1 ≤ s → s ≤ 1000 → IsLimit network (height_limit network.unknowns place s)
+pub height-bounded : (network : NetworkOf) → IsDistinct is_same network.unknowns → (place s : ℕ) → 1 ≤ s → s ≤ 1000 → IsLimit network (height_limit network.unknowns place s)
 unfolding height_limit
 height-bounded network apart place s least most =
     let us = network.unknowns in

@@ -15,103 +15,20 @@ use Rattle.geo_model.specs.Candidate.{CandidateOf}
 use Rattle.geo_model.specs.Energy.{full_energy}
 use Rattle.geo_model.specs.Limit.{IsLoad, SquareOf, is_point_limit}
 use Rattle.geo_model.specs.Network.{IsLimit, NetworkOf}
+use Rattle.geo_model.proofs.RowLoads.{IsOwnRow, AreOwnRows, row-load}
 use Rattle.net_build.specs.Build.{limits_of_candidate, redundancy_limit, redundancy_limits}
 use Rattle.net_build.proofs.ListFacts.{All-numbered, All-parts, length-numbered}
-
--- a row of one of these candidates
-pub record IsOwnRow (n : ℕ) (candidates : List CandidateOf) (row : RowOf) : Type 0 where
-  pub bounds : IsRow row
-  pub columns : All (λ entry. entry.0 < n) row.entries
-  pub energy : (x : Displaced) → row_energy row x ≤ℤ full_energy candidates x
-
--- 1000 times the row's weight
-square_of : RowOf → SquareOf
-square_of row = record { beta = pos 1000 *ℤ row.weight; entries = row.entries }
-
--- ---- the load's bounds
-
-thousand-abs : (w : ℤ) → pos 1 ≤ℤ w → w ≤ℤ pos 1000000 → unsigned_abs (pos 1000 *ℤ w) ≤ 10 ^ 9
-thousand-abs w low high = omega (arith, ints)
-
-total-small : (b t : ℕ) → b ≤ 10 ^ 9 → t < 2 ^ 23 → b * t ^ 2 ≤ 2 ^ 80
-total-small b t small few =
-    let squared : t ^ 2 ≤ (2 ^ 23) ^ 2 = pow-le-pow_left (below t few) 2 in
-    let product : b * t ^ 2 ≤ 10 ^ 9 * (2 ^ 23) ^ 2 = mul-le-mul small squared in
-    omega (arith, product)
-  where
-    below : (k : ℕ) → k < 2 ^ 23 → k ≤ 2 ^ 23
-    below k h = omega arith
-
--- 1000 times the row's energy is at most 1000 times the whole energy, with a factor
-pub thousand-times : (w f alpha full : ℤ) → pos 1 ≤ℤ w → pos 1 ≤ℤ alpha → (w *ℤ (f *ℤ f)) ≤ℤ full
-    → ((pos 1000 *ℤ w) *ℤ (f *ℤ f) +ℤ pos 0) ≤ℤ (pos 1000 *ℤ (alpha *ℤ full))
-thousand-times w f alpha full low factor most =
-    let energy : pos 0 ≤ℤ (w *ℤ (f *ℤ f)) = mul_nonneg w (f *ℤ f) (omega (arith, ints)) (square_nonneg f) in
-    let more : (pos 1 *ℤ full) ≤ℤ (alpha *ℤ full) = mul_le_mul_right full (pos 1) alpha (omega (arith, ints)) factor in
-    let same : (pos 1000 *ℤ w) *ℤ (f *ℤ f) +ℤ pos 0 ≡ pos 1000 *ℤ (w *ℤ (f *ℤ f)) = ring ((lit 1000 ⊗ x0) ⊗ (x1 ⊗ x1) ⊕ lit 0) (lit 1000 ⊗ (x0 ⊗ (x1 ⊗ x1))) (w ∷ f ∷ []) refl in
-    rw same (compare (w *ℤ (f *ℤ f)) full (alpha *ℤ full) energy more most)
-  where
-    compare : (e full scaled : ℤ) → pos 0 ≤ℤ e → (pos 1 *ℤ full) ≤ℤ scaled → e ≤ℤ full → (pos 1000 *ℤ e) ≤ℤ (pos 1000 *ℤ scaled)
-    compare e full scaled h k l = omega (arith, ints)
-
--- the diagonal: 1000 times the row's energy is at most 2 ^ 12 times the whole energy, whatever the factor
-diagonal-below : (w f alpha full : ℤ) → pos 1 ≤ℤ w → pos 1 ≤ℤ alpha → (w *ℤ (f *ℤ f)) ≤ℤ full
-    → ((pos 1000 *ℤ w) *ℤ (f *ℤ f) +ℤ pos 0) ≤ℤ int_max (pos (2 ^ 50)) (pos (2 ^ 12) *ℤ (alpha *ℤ full))
-diagonal-below w f alpha full low factor most =
-    let energy : pos 0 ≤ℤ ((pos 1000 *ℤ w) *ℤ (f *ℤ f)) = mul_nonneg (pos 1000 *ℤ w) (f *ℤ f) (omega (arith, ints)) (square_nonneg f) in
-    below ((pos 1000 *ℤ w) *ℤ (f *ℤ f)) (alpha *ℤ full) energy (thousand-times w f alpha full low factor most)
-  where
-    below : (e scaled : ℤ) → pos 0 ≤ℤ e → (e +ℤ pos 0) ≤ℤ (pos 1000 *ℤ scaled) → (e +ℤ pos 0) ≤ℤ int_max (pos (2 ^ 50)) (pos (2 ^ 12) *ℤ scaled)
-    below e scaled h k = omega (arith, ints, clamps)
-
-pub alpha-low : (q : ℕ) → q ≤ 999 → pos 1 ≤ℤ (pos 1000 -ℤ pos q)
-alpha-low q h = omega (arith, ints)
-
-alpha-high : (q : ℕ) → (pos 1000 -ℤ pos q) ≤ℤ pos 1000000
-alpha-high q = omega (arith, ints)
-
-beta-low : (w : ℤ) → pos 1 ≤ℤ w → pos 1 ≤ℤ (pos 1000 *ℤ w)
-beta-low w h = omega (arith, ints)
-
-beta-high : (w : ℤ) → w ≤ℤ pos 1000000 → (pos 1000 *ℤ w) ≤ℤ pos (10 ^ 14)
-beta-high w h = omega (arith, ints)
-
-one : {X : Type 0} (P : X → Type 0) (x : X) → P x → All P (x ∷ [])
-one P x here = All-cons P x [] here (All-nil P)
-
-row-load : (n : ℕ) (candidates : List CandidateOf) (q : ℕ) (row : RowOf) → q ≤ 999 → IsOwnRow n candidates row → IsLoad n candidates (pos 1000 -ℤ pos q) (square_of row ∷ [])
-unfolding square_of
-row-load n candidates q row within is =
-    let bounds = is.bounds in
-    let square = square_of row in
-    let sum = sum_by-le (λ s. unsigned_abs s.beta * total_size s.entries ^ 2) (2 ^ 80) (square ∷ [])
-    (one (λ s. unsigned_abs s.beta * total_size s.entries ^ 2 ≤ 2 ^ 80) square
-    (total-small (unsigned_abs (pos 1000 *ℤ row.weight)) (total_size row.entries) (thousand-abs row.weight bounds.weight_low bounds.weight_high) bounds.total)) in
-    record {
-      alpha_low = alpha-low q within;
-      alpha_high = alpha-high q;
-      beta_low = one (λ s. pos 1 ≤ℤ s.beta) square (beta-low row.weight bounds.weight_low);
-      beta_high = one (λ s. s.beta ≤ℤ pos (10 ^ 14)) square (beta-high row.weight bounds.weight_high);
-      sparse = one (λ s. IsSparse s.entries) square bounds.sparse;
-      columns = one (λ s. All (λ entry. entry.0 < n) s.entries) square is.columns;
-      total = omega (arith, sum);
-      diagonal = λ i inside. diagonal-below row.weight (form_at row.entries (unit_at i)) (pos 1000 -ℤ pos q) (full_energy candidates (unit_at i)) bounds.weight_low (alpha-low q within) (is.energy (unit_at i));
-    }
 
 -- ---- each is a limit of a network, and none of a point
 
 row-bounded : (network : NetworkOf) (q owner place : ℕ) (row : RowOf) → q ≤ 999 → owner < length network.candidates → IsOwnRow (length network.unknowns) network.candidates row
     → IsLimit network (redundancy_limit q owner (place, row))
-unfolding redundancy_limit square_of
+unfolding redundancy_limit
 row-bounded network q owner place row within inside is = record {
   bounded = row-load (length network.unknowns) network.candidates q row within is;
   owner = λ other e. let same : owner ≡ other = cc e in rw (← same) inside;
   unowned = λ point. absurd (false≢true point);
 }
-
--- the rows of a candidate
-abbrev pub AreOwnRows : ℕ → List CandidateOf → CandidateOf → Type 0
-AreOwnRows n candidates candidate = All (IsOwnRow n candidates) candidate.rows
 
 pub redundancies-bounded : (network : NetworkOf) (q : ℕ) → q ≤ 999 → All (AreOwnRows (length network.unknowns) network.candidates) network.candidates
     → All (IsLimit network) (redundancy_limits q network.candidates)

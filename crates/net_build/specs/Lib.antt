@@ -1,3 +1,4 @@
 pub mod Build
 pub mod Bounds
 pub mod SmallGrids
+pub mod Values

@@ -4,3 +4,5 @@ pub mod HeightNetworks
 pub mod Judged
 pub mod ChainRun
 pub mod Plans
+pub mod Squares
+pub mod Values

@@ -1,18 +1,18 @@
 ghost use Rattle.std.specs.Prelude.{IfOk};
-ghost use Rattle.pivot_chain.specs.Room.{IsRoomOf};
+ghost use Rattle.pivot_chain.specs.Room.{IsRoomOf, IsChainsOf};
 
+use crate::row_squares::squares_by_length;
 use geo_base::NoMemory;
-use geo_model::Network;
+use geo_model::{Network, Square};
 use lent_parts::Tri;
 use limit_forms::{LimitGrid, full_diagonals};
 use normal_matrix::Normal;
 use std::alloc::Global;
 use std::marker::Model;
 
-/// All the memory that verdicts on the limits of a network need. A verdict depends on nothing that
-/// the room held before.
+/// What the two chains of a limit under a plan are run in.
 #[derive(Debug, Drop)]
-pub struct ChainRoom {
+pub(crate) struct Chains {
     pub(crate) normal: Normal,
     pub(crate) grid: LimitGrid,
     pub(crate) diagonal: Vec<i128>,
@@ -21,12 +21,50 @@ pub struct ChainRoom {
     pub(crate) rows: Tri,
 }
 
+impl Model for Chains {
+    ghost use Rattle.pivot_chain.specs.Room.{ChainsOf};
+
+    ghost Value = { ChainsOf };
+
+    ghost view = { λ chains. record { normal = chains.normal; grid = chains.grid; diagonal = chains.diagonal.items; lower = chains.lower; upper = chains.upper; rows = chains.rows } };
+}
+
+/// All the memory that verdicts on the limits of a network need. A verdict depends on nothing that
+/// the room held before.
+#[derive(Debug, Drop)]
+pub struct ChainRoom {
+    pub(crate) chains: Chains,
+    // The square of a row that is judged: one is kept for each number of entries.
+    pub(crate) squares: Vec<Square>,
+}
+
 impl Model for ChainRoom {
     ghost use Rattle.pivot_chain.specs.Room.{RoomOf};
 
     ghost Value = { RoomOf };
 
-    ghost view = { λ room. record { normal = room.normal; grid = room.grid; diagonal = room.diagonal.items; lower = room.lower; upper = room.upper; rows = room.rows } };
+    ghost view = { λ room. record { chains = room.chains; squares = room.squares.items } };
+}
+
+// What the chains of a network are run in. Refused for want of memory alone.
+fn chains_for(alloc: Global, network: &Network) -> Result<Chains, NoMemory>
+    ensures { IfOk result (λ chains. IsChainsOf network.now chains) }
+{
+    let size = network.unknowns().len() as u32;
+    let normal = Normal::new(alloc, network)?;
+    let grid = LimitGrid::new(alloc, network, 1, &[])?;
+    let diagonal = full_diagonals(alloc, network)?;
+    let lower = Tri::new(alloc, size)?;
+    let upper = Tri::new(alloc, size)?;
+    let rows = Tri::new(alloc, size)?;
+    Ok(Chains {
+        normal,
+        grid,
+        diagonal,
+        lower,
+        upper,
+        rows,
+    })
 }
 
 impl ChainRoom {
@@ -34,20 +72,8 @@ impl ChainRoom {
     pub fn new(alloc: Global, network: &Network) -> Result<ChainRoom, NoMemory>
         ensures { IfOk result (λ room. IsRoomOf network.now room) }
     {
-        let size = network.unknowns().len() as u32;
-        let normal = Normal::new(alloc, network)?;
-        let grid = LimitGrid::new(alloc, network, 1, &[])?;
-        let diagonal = full_diagonals(alloc, network)?;
-        let lower = Tri::new(alloc, size)?;
-        let upper = Tri::new(alloc, size)?;
-        let rows = Tri::new(alloc, size)?;
-        Ok(ChainRoom {
-            normal,
-            grid,
-            diagonal,
-            lower,
-            upper,
-            rows,
-        })
+        let chains = chains_for(alloc, network)?;
+        let squares = squares_by_length(alloc)?;
+        Ok(ChainRoom { chains, squares })
     }
 }

@@ -1,7 +1,7 @@
 use Rattle.std.proofs.Common.{◌≡◌, [], length, pos, ◌∙◌, ap}
 use Rattle.lent_parts.proofs.Triangles.{length-IsTri}
 use Rattle.limit_forms.proofs.GridReads.{length-grid_of}
-use Rattle.pivot_chain.proofs.room.ChainRoom.new.Goals as goal
+use Rattle.pivot_chain.proofs.room.chains_for.Goals as goal
 
 pub returns : goal.returns
 returns c =
