@@ -1,6 +1,8 @@
 //! The forms in memory, where their calls fail and where they don't.
 
-use shelf_io::{MemShelf, MemSink, ReadAnswer, Shelf, Sink, SureShelf, SureSink, WriteAnswer};
+use shelf_io::{
+    MemShelf, MemSink, PartAnswer, ReadAnswer, Shelf, Sink, SureShelf, SureSink, WriteAnswer,
+};
 use std::test::Fail;
 
 /// Starts a log and adds two lines to it.
@@ -45,6 +47,34 @@ fn reads_fail_where_they_are_told_to(rt: HostRuntime) -> Result<(), Fail> {
         assert_eq!(rt; shelf.read_whole(name, limit, &mut into), answer);
     }
     assert_eq!(rt; into.as_slice(), b"<12345".as_slice());
+    Ok(())
+}
+
+#[test]
+fn parts_are_read_from_a_place_on(rt: HostRuntime) -> Result<(), Fail> {
+    let mut shelf = MemShelf::new(rt.alloc(), vec![in rt.alloc(); 6]?);
+    shelf.put_file("log", b"1234567")?;
+    let mut into = vec![in rt.alloc(); b'<']?;
+    for (name, at, answer) in [
+        ("log", 0, Ok(3)),
+        ("log", 3, Ok(3)),
+        ("log", 6, Ok(1)),
+        ("log", 7, Ok(0)),
+        ("log", 1000, Ok(0)),
+        ("log", 0, Err(PartAnswer::Failed)),
+        ("none", 0, Err(PartAnswer::Failed)),
+    ] {
+        assert_eq!(rt;
+            shelf.read_part(name, at, 3, &mut into),
+            answer,
+            "{name} at {at}"
+        );
+    }
+    assert_eq!(rt; into.as_slice(), b"<1234567".as_slice());
+    let mut sure = SureShelf::new(rt.alloc());
+    sure.put_file("log", b"12")?;
+    assert_eq!(rt; sure.read_part("log", 1, 65536, &mut into), Ok(1));
+    assert_eq!(rt; sure.read_part("none", 0, 1, &mut into), Ok(0));
     Ok(())
 }
 

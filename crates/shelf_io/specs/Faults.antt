@@ -1,6 +1,8 @@
 -- Why a call on a shelf or a sink answered as it did. This project's own.
 use Rattle.std.specs.Prelude.{◌≡◌, ℕ, ◌+◌, ◌-◌, ◌^◌, ◌≤◌, min, List, Some, Result, Err, IsOk}
 use Rattle.shelf_io.specs.declared.access.Access.TheVariants.{Read, Write}
+use Rattle.shelf_io.specs.declared.part_answer.PartAnswer.{PartAnswer}
+use Rattle.shelf_io.specs.declared.part_answer.PartAnswer.TheVariants as part_answer
 use Rattle.shelf_io.specs.declared.read_answer.ReadAnswer.{ReadAnswer}
 use Rattle.shelf_io.specs.declared.read_answer.ReadAnswer.TheVariants as read_answer
 use Rattle.shelf_io.specs.declared.write_answer.WriteAnswer.{WriteAnswer}
@@ -38,6 +40,16 @@ pub record HasReadCause {T : Type 0} (answer : Result T ReadAnswer) (name : List
   pub done : IsOk answer → KeepsFaults before now
   pub too_long : answer ≡ Err read_answer.TooLong → KeepsFaults before now
   pub no_memory : answer ≡ Err read_answer.NoMemory → KeepsFaults before now
+
+-- what an answer to a read of a part of the name says of the count of faults and of the last fault
+pub record HasPartCause {T : Type 0} (answer : Result T PartAnswer) (name : List ℕ) (before now : ShelfState) : Type 0 where
+  -- a count never falls
+  pub later : before.faults ≤ now.faults
+  -- it failed only where the count rose in this call, and then this read is the last fault
+  pub failed : answer ≡ Err part_answer.Failed → Rose before.faults now.faults × (now.last_fault ≡ Some (read_of name))
+  -- any other answer counts no fault
+  pub done : IsOk answer → KeepsFaults before now
+  pub no_memory : answer ≡ Err part_answer.NoMemory → KeepsFaults before now
 
 -- what an answer to a write of the name says of the count of faults and of the last fault
 pub record HasWriteCause {T : Type 0} (answer : Result T WriteAnswer) (name : List ℕ) (before now : ShelfState) : Type 0 where

@@ -1,5 +1,5 @@
 -- What a shelf holds: a finite map from the bytes of a name to the bytes of its file. This project's own.
-use Rattle.std.specs.Prelude.{◌≡◌, ◌≢◌, ℕ, List, [], ◌++◌, Option, Some, IsSome, is_some, unwrap_or}
+use Rattle.std.specs.Prelude.{◌≡◌, ◌≢◌, ℕ, List, [], ◌++◌, take, drop, Option, Some, IsSome, is_some, unwrap_or}
 use Rattle.std.specs.Option.{option_map}
 use Rattle.std.specs.Ordering.{nat_cmp}
 use Rattle.std.specs.Cmp.Lexicographic.{slice_cmp}
@@ -16,6 +16,10 @@ IsHeld files name = IsSome (get files name)
 -- the bytes held under a name, none where it isn't held
 unfoldable pub bytes_of : Files → List ℕ → List ℕ
 bytes_of files name = unwrap_or (get files name) []
+
+-- the part of bytes from a place on: as many as there are, up to a limit
+abbrev pub part_from : ℕ → ℕ → List ℕ → List ℕ
+part_from at limit bytes = take limit (drop at bytes)
 
 -- what is held once the name holds exactly these bytes, and every other name what it held
 unfoldable pub with_bytes : Option Files → List ℕ → List ℕ → Option Files

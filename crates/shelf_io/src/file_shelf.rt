@@ -1,16 +1,18 @@
-ghost use Rattle.std.specs.Prelude.{◌≡◌, ℕ, ◌^◌, ◌≤◌, List, ◌++◌, length, None, OnOk, OnErr};
+ghost use Rattle.std.specs.Prelude.{◌≡◌, ℕ, ◌^◌, ◌≤◌, List, ◌++◌, length, None, IfOk, OnOk, OnErr};
 ghost use Rattle.std.specs.Option.{option_map};
 ghost use Rattle.std.specs.String.{string_bytes};
 ghost use Rattle.shelf_io.specs.States.{new_shelf};
 
 use crate::access::Access;
 use crate::faults::Faults;
+use crate::part_answer::PartAnswer;
 use crate::read_answer::ReadAnswer;
 use crate::shelf::Shelf;
-use crate::transfer::{read_up_to, write_whole};
+use crate::transfer::{read_most, read_up_to, write_whole};
 use crate::write_answer::WriteAnswer;
 use std::alloc::Global;
 use std::fs;
+use std::io::{Read, Seek, SeekFrom};
 use std::rt::Files;
 
 /// A file that is open for writing, under its name.
@@ -20,6 +22,15 @@ struct OpenedFile<F> {
     file: F,
 }
 
+/// A file that was read up to a place, under its name. The next part is read on from there, so that a
+/// source that can only be read once is read in parts too.
+#[derive(Drop)]
+struct ReadFile<F> {
+    name: String,
+    file: F,
+    at: u64,
+}
+
 /// The files of the system. It doesn't tell what they hold. A file that isn't there is a fault.
 #[derive(Drop)]
 pub struct FileShelf<'r, R: Files> {
@@ -27,6 +38,7 @@ pub struct FileShelf<'r, R: Files> {
     alloc: Global,
     faults: Faults,
     opened: Option<OpenedFile<R::File>>,
+    reading: Option<ReadFile<R::File>>,
 }
 
 impl<'r, R: Files> Shelf for FileShelf<'r, R> {
@@ -50,8 +62,39 @@ impl<'r, R: Files> Shelf for FileShelf<'r, R> {
         }
     }
 
+    fn read_part(
+        &mut self,
+        name: &str,
+        at: u64,
+        limit: u64,
+        into: &mut Vec<u8>,
+    ) -> Result<u64, PartAnswer> {
+        let kept = String::from_str(self.alloc, name)?;
+        let before = self.reading.take();
+        let Some(mut file) = file_at(self.rt, before, name, at) else {
+            self.faults.add(Access::Read, kept);
+            return Err(PartAnswer::Failed);
+        };
+        match read_file_part(&mut file, limit, into) {
+            Ok(count) => {
+                self.reading = Some(ReadFile {
+                    name: kept,
+                    file,
+                    at: at + count,
+                });
+                Ok(count)
+            }
+            Err(PartAnswer::Failed) => {
+                self.faults.add(Access::Read, kept);
+                Err(PartAnswer::Failed)
+            }
+            Err(PartAnswer::NoMemory) => Err(PartAnswer::NoMemory),
+        }
+    }
+
     fn start(&mut self, name: &str) -> Result<(), WriteAnswer> {
         self.opened = None;
+        self.reading = None;
         let name_kept = String::from_str(self.alloc, name)?;
         match fs::create(self.rt, name) {
             Ok(file) => {
@@ -90,6 +133,7 @@ impl<'r, R: Files> FileShelf<'r, R> {
             alloc,
             faults: Faults::none(),
             opened: None,
+            reading: None,
         }
     }
 }
@@ -110,6 +154,45 @@ fn read_file<R: Files>(rt: &R, name: &str, limit: u64, into: &mut Vec<u8>) -> Re
         Ok(()) => Ok(()),
         Err(refused) => {
             into.truncate(start);
+            Err(refused)
+        }
+    }
+}
+
+/// The file, to be read from `at` on: the one that was read up to there, else opened anew.
+fn file_at<R: Files>(
+    rt: &R,
+    before: Option<ReadFile<R::File>>,
+    name: &str,
+    at: u64,
+) -> Option<R::File> {
+    if let Some(kept) = before {
+        if kept.at == at && kept.name.as_str() == name {
+            return Some(kept.file);
+        }
+    }
+    let mut file = match fs::open(rt, name) {
+        Ok(file) => file,
+        Err(_) => return None,
+    };
+    if at > 0 && file.seek(SeekFrom::Start(at)).is_err() {
+        return None;
+    }
+    Some(file)
+}
+
+/// Appends the next bytes of a file to `into`, which stays as it was after a refusal.
+fn read_file_part<F: Read>(file: &mut F, limit: u64, into: &mut Vec<u8>) -> Result<u64, PartAnswer>
+    requires { limit ≤ 65536 }
+    ensures appends { IfOk result (λ count. (bytes : List ℕ) × (length bytes ≡ count) × (count ≤ limit)
+        × (into.new.items ≡ into.old.items ++ bytes)) }
+    ensures unread { OnErr result (into.new.items ≡ into.old.items) }
+{
+    let before = into.len();
+    match read_most(file, limit, into) {
+        Ok(count) => Ok(count),
+        Err(refused) => {
+            into.truncate(before);
             Err(refused)
         }
     }

@@ -1,13 +1,14 @@
-ghost use Rattle.std.specs.Prelude.{◌≡◌, ◌⊎◌, ◌/◌, ℕ, ◌^◌, ◌≤◌, ◌<◌, List, [], ◌++◌, length, take, Some, None, OnOk, OnErr, IsErr, IsErrOf};
+ghost use Rattle.std.specs.Prelude.{◌≡◌, ◌⊎◌, ◌/◌, ℕ, ◌^◌, ◌≤◌, ◌<◌, List, [], ◌++◌, ◌↔◌, length, take, Some, None, IfOk, OnOk, OnErr, IsErr, IsErrOf};
 ghost use Rattle.std.specs.Option.{ForSome, option_copied};
 ghost use Rattle.std.specs.FinMap.{empty, get};
-ghost use Rattle.shelf_io.specs.Files.{IsHeld, bytes_of, with_bytes, with_piece};
-ghost use Rattle.shelf_io.specs.Faults.{KeepsFaults, HasReadCause, HasWriteCause};
+ghost use Rattle.shelf_io.specs.Files.{IsHeld, bytes_of, part_from, with_bytes, with_piece};
+ghost use Rattle.shelf_io.specs.Faults.{KeepsFaults, HasPartCause, HasReadCause, HasWriteCause};
 ghost use Rattle.shelf_io.specs.States.{new_shelf};
 
 use crate::access::Access;
 use crate::failing_calls::FailingCalls;
 use crate::faults::Faults;
+use crate::part_answer::PartAnswer;
 use crate::read_answer::ReadAnswer;
 use crate::shelf::Shelf;
 use crate::stored_files::StoredFiles;
@@ -62,6 +63,43 @@ impl Shelf for MemShelf {
             return Err(ReadAnswer::Failed);
         }
         self.stored.read(name, limit, into)
+    }
+
+    fn read_part(
+        &mut self,
+        name: &str,
+        at: u64,
+        limit: u64,
+        into: &mut Vec<u8>,
+    ) -> Result<u64, PartAnswer>
+        requires some { 1 ≤ limit }
+        requires few { limit ≤ 65536 }
+        requires near { at ≤ 2 ^ 32 }
+        ensures appends { IfOk result (λ count. (bytes : List ℕ) × (length bytes ≡ count) × (count ≤ limit)
+            × (into.new.items ≡ into.old.items ++ bytes)) }
+        ensures bytes { OnOk result (ForSome (shelf_state self.old).held
+            (λ files. into.new.items ≡ into.old.items ++ part_from at limit (bytes_of files name.now))) }
+        ensures ends { IfOk result (λ count. ForSome (shelf_state self.old).held
+            (λ files. count ≡ 0 ↔ length (bytes_of files name.now) ≤ at)) }
+        ensures unread { OnErr result (into.new.items ≡ into.old.items) }
+        ensures held { (shelf_state self.new).held ≡ (shelf_state self.old).held }
+        ensures started { (shelf_state self.new).started ≡ (shelf_state self.old).started }
+        ensures cause { HasPartCause result name.now (shelf_state self.old) (shelf_state self.new) }
+
+        // It fails where it is told to, and where the name isn't held, and then reads nothing.
+        ensures told { OnOk result (¬ (IsNextFailing (calls_of self.old))) }
+        ensures found { OnOk result (ForSome (shelf_state self.old).held (λ files. IsHeld files name.now)) }
+        ensures failed { IsErrOf result PartAnswer.Failed → ForSome (shelf_state self.old).held
+            (λ files. IsNextFailing (calls_of self.old) ⊎ (get files name.now ≡ None)) }
+        ensures counts { CountsCall (calls_of self.old) (calls_of self.new) }
+    {
+        let fails = self.calls.next_fails();
+        if fails || self.stored.file(name).is_none() {
+            let name = String::from_str(self.stored.alloc(), name)?;
+            self.faults.add(Access::Read, name);
+            return Err(PartAnswer::Failed);
+        }
+        self.stored.read_part(name, at, limit, into)
     }
 
     fn start(&mut self, name: &str) -> Result<(), WriteAnswer>

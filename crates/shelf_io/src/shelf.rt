@@ -1,13 +1,14 @@
-ghost use Rattle.std.specs.Prelude.{◌≡◌, ℕ, ◌^◌, ◌≤◌, ◌<◌, ◌⊎◌, List, [], ◌++◌, length, take, Some, None, OnOk, OnErr, IsErrOf};
+ghost use Rattle.std.specs.Prelude.{◌≡◌, ℕ, ◌^◌, ◌≤◌, ◌<◌, ◌⊎◌, List, [], ◌++◌, ◌↔◌, length, take, Some, None, IfOk, OnOk, OnErr, IsErrOf};
 ghost use Rattle.std.specs.Option.{ForSome};
-ghost use Rattle.shelf_io.specs.Files.{Files, IsHeld, bytes_of, with_bytes, with_piece};
-ghost use Rattle.shelf_io.specs.Faults.{HasReadCause, HasWriteCause};
+ghost use Rattle.shelf_io.specs.Files.{Files, IsHeld, bytes_of, part_from, with_bytes, with_piece};
+ghost use Rattle.shelf_io.specs.Faults.{HasPartCause, HasReadCause, HasWriteCause};
 ghost use Rattle.shelf_io.specs.States.{ShelfState};
 
+use crate::part_answer::PartAnswer;
 use crate::read_answer::ReadAnswer;
 use crate::write_answer::WriteAnswer;
 
-/// Named files, read whole and written from their start, one at a time.
+/// Named files, read whole or in parts, and written from their start, one at a time.
 pub trait Shelf {
     /// What contracts see of it at one moment.
     ghost state: { Self → ShelfState };
@@ -27,6 +28,29 @@ pub trait Shelf {
         ensures held { (state self.new).held ≡ (state self.old).held }
         ensures started { (state self.new).started ≡ (state self.old).started }
         ensures cause { HasReadCause result name.now (state self.old) (state self.new) };
+
+    /// Appends the bytes of the file from `at` on to `into`, as many as there are up to `limit`, and
+    /// answers how many: 0 where the file ends at `at` or before.
+    fn read_part(
+        &mut self,
+        name: &str,
+        at: u64,
+        limit: u64,
+        into: &mut Vec<u8>,
+    ) -> Result<u64, PartAnswer>
+        requires some { 1 ≤ limit }
+        requires few { limit ≤ 65536 }
+        requires near { at ≤ 2 ^ 32 }
+        ensures appends { IfOk result (λ count. (bytes : List ℕ) × (length bytes ≡ count) × (count ≤ limit)
+            × (into.new.items ≡ into.old.items ++ bytes)) }
+        ensures bytes { OnOk result (ForSome (state self.old).held
+            (λ files. into.new.items ≡ into.old.items ++ part_from at limit (bytes_of files name.now))) }
+        ensures ends { IfOk result (λ count. ForSome (state self.old).held
+            (λ files. count ≡ 0 ↔ length (bytes_of files name.now) ≤ at)) }
+        ensures unread { OnErr result (into.new.items ≡ into.old.items) }
+        ensures held { (state self.new).held ≡ (state self.old).held }
+        ensures started { (state self.new).started ≡ (state self.old).started }
+        ensures cause { HasPartCause result name.now (state self.old) (state self.new) };
 
     /// Makes the name hold no bytes, ready to be appended to. After a refusal no name is.
     fn start(&mut self, name: &str) -> Result<(), WriteAnswer>

@@ -1,9 +1,10 @@
-ghost use Rattle.std.specs.Prelude.{◌≡◌, ◌<◌, ◌≤◌, [], ◌∷◌, ◌++◌, length, Some, None, OnOk, OnErr, IsErrOf};
+ghost use Rattle.std.specs.Prelude.{◌≡◌, ◌<◌, ◌≤◌, [], ◌∷◌, ◌++◌, ◌↔◌, ℕ, List, length, Some, None, IfOk, OnOk, OnErr, IsErrOf};
 ghost use Rattle.std.specs.Option.{option_copied};
 ghost use Rattle.std.specs.FinMap.{empty, get};
-ghost use Rattle.shelf_io.specs.Files.{bytes_of, with_bytes, with_piece};
+ghost use Rattle.shelf_io.specs.Files.{bytes_of, part_from, with_bytes, with_piece};
 ghost use Rattle.shelf_io.specs.Stored.{files_of, started_of};
 
+use crate::part_answer::PartAnswer;
 use crate::read_answer::ReadAnswer;
 use crate::stored_file::StoredFile;
 use geo_base::NoMemory;
@@ -66,6 +67,32 @@ impl StoredFiles {
         match into.extend_from_slice(bytes) {
             Ok(()) => Ok(()),
             Err(_) => Err(ReadAnswer::NoMemory),
+        }
+    }
+
+    /// Appends the part of the file's bytes from `at` on, and answers how many they are: none where there
+    /// is no such file.
+    pub(crate) fn read_part(
+        &self,
+        name: &str,
+        at: u64,
+        limit: u64,
+        into: &mut Vec<u8>,
+    ) -> Result<u64, PartAnswer>
+        requires { 1 ≤ limit }
+        ensures appends { IfOk result (λ count. (bytes : List ℕ) × (length bytes ≡ count) × (count ≤ limit)
+            × (into.new.items ≡ into.old.items ++ bytes)) }
+        ensures bytes { OnOk result (into.new.items
+            ≡ into.old.items ++ part_from at limit (bytes_of (files_of self.now.files.items) name.now)) }
+        ensures ends { IfOk result (λ count. count ≡ 0
+            ↔ length (bytes_of (files_of self.now.files.items) name.now) ≤ at) }
+        ensures sure { IsErrOf result PartAnswer.Failed → ⊥ }
+        ensures unread { OnErr result (into.new.items ≡ into.old.items) }
+    {
+        let part = part_of(self.bytes(name), at, limit);
+        match into.extend_from_slice(part) {
+            Ok(()) => Ok(part.len() as u64),
+            Err(_) => Err(PartAnswer::NoMemory),
         }
     }
 
@@ -137,4 +164,14 @@ impl StoredFiles {
         self.files.insert(0, file)?;
         Ok(())
     }
+}
+
+// The bytes from `at` on, as many as there are up to the limit.
+fn part_of(bytes: &[u8], at: u64, limit: u64) -> &[u8]
+    ensures { result.now ≡ part_from at limit bytes.now }
+{
+    let length = bytes.len() as u64;
+    let start = at.min(length);
+    let end = start + limit.min(length - start);
+    &bytes[start as usize..end as usize]
 }

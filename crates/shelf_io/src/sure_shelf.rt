@@ -5,6 +5,7 @@ ghost use Rattle.shelf_io.specs.Files.{with_bytes};
 ghost use Rattle.shelf_io.specs.States.{new_shelf};
 ghost use Rattle.shelf_io.specs.Stored.{files_of, started_of, started_of-held};
 
+use crate::part_answer::PartAnswer;
 use crate::read_answer::ReadAnswer;
 use crate::shelf::Shelf;
 use crate::stored_files::StoredFiles;
@@ -30,6 +31,16 @@ impl Shelf for SureShelf {
 
     fn read_whole(&mut self, name: &str, limit: u64, into: &mut Vec<u8>) -> Result<(), ReadAnswer> {
         self.stored.read(name, limit, into)
+    }
+
+    fn read_part(
+        &mut self,
+        name: &str,
+        at: u64,
+        limit: u64,
+        into: &mut Vec<u8>,
+    ) -> Result<u64, PartAnswer> {
+        self.stored.read_part(name, at, limit, into)
     }
 
     fn start(&mut self, name: &str) -> Result<(), WriteAnswer> {
