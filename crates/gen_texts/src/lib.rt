@@ -1,0 +1,2 @@
+//! The tables of a seed, read back.
+#![tactic(auto)]
