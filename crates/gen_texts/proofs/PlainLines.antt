@@ -16,7 +16,7 @@ use Rattle.table_rows.proofs.HeaderFacts.{under-header}
 use Rattle.gen_texts.proofs.PlainTexts.{IsPlain, plain-bare, plain-field}
 
 -- a line's texts after the first one, and its end
-pub line_rest : List (List ℕ) → List ℕ
+unfoldable pub line_rest : List (List ℕ) → List ℕ
 line_rest [] = 10 ∷ []
 line_rest (field ∷ fields) = 44 ∷ (field ++ line_rest fields)
 
