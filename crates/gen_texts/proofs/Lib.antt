@@ -5,3 +5,6 @@ pub mod KeptRules
 pub mod PointRows
 pub mod PointTexts
 pub mod CandidateRows
+pub mod NamedPoints
+pub mod CandidateTexts
+pub mod ReadTables

@@ -1,19 +1,15 @@
 -- Numbers as fields of a table: they are plain, and read back as themselves.
-use Rattle.std.proofs.Common.{◌≡◌, ◌∙◌, ◌<◌, ◌≤◌, ◌+◌, ◌*◌, ◌/◌, ◌^◌, ℕ, zero, suc, Bool, true, false, List, [], ◌∷◌, ◌++◌, Option, Some, None, length, refl, sym, ap, arith, ℤ, pos, ◌≤ℤ◌, neg_ℤ}
-use Rattle.std.specs.Prelude.{codes, unsigned_abs, int_le, not, ◌&&◌, is_none}
+use Rattle.std.proofs.Common.{◌≡◌, ◌∙◌, ◌<◌, ◌≤◌, ◌/◌, ◌^◌, ℕ, zero, suc, true, false, List, [], ◌∷◌, Option, Some, None, length, refl, sym, ap, arith, ℤ, pos}
+use Rattle.std.specs.Prelude.{codes}
 use Rattle.std.specs.Fmt.{decimal}
-use Rattle.std.specs.Str.{bytes_eq}
 use Rattle.std.proofs.lemmas.Bool.{false_from_ne_true, ne_eqb}
 use Rattle.std.proofs.lemmas.Fmt.{decimal_is_IsNumeral_wide}
-use Rattle.std.proofs.lemmas.Int.{ints}
 use Rattle.std.proofs.lemmas.List.{append-nil}
 use Rattle.std.proofs.lemmas.Slice.Eq.{bytes_eq-Decides}
 use Rattle.text_num.specs.Decimal.{decimal_of, unsigned_of}
 use Rattle.text_num.specs.DecimalText.{decimal_text, last_digits}
 use Rattle.text_num.proofs.Writing.{decimal_of-decimal_text, last_digits-digits}
-use Rattle.table_rows.specs.Faults.{first_broken}
-use Rattle.table_columns.specs.Columns.{IsNumber, is_empty, number_rules}
-use Rattle.table_columns.specs.declared.kinds.NumberKinds.{NumberKinds}
+use Rattle.table_columns.specs.Columns.{is_empty}
 use Rattle.point_tables.specs.PointTable.{is_fixed}
 use Rattle.gen_net.specs.Fields.{metres, tenths}
 use Rattle.gen_texts.proofs.PlainTexts.{IsPlain, plain-append, plain-digits, plain-tested}

@@ -1,17 +1,16 @@
 -- A table of lines of plain texts, parted by commas: its records are these texts.
-use Rattle.std.proofs.Common.{◌≡◌, ◌≢◌, ◌∙◌, ◌<◌, ◌≤◌, ◌+◌, ℕ, zero, suc, Bool, true, false, List, [], ◌∷◌, ◌++◌, ◌==◌, Some, None, length, map, refl, sym, ap, ap₂, arith, append_assoc, length-append, filter}
-use Rattle.std.specs.List.{AllByRecursion, list_any}
+use Rattle.std.proofs.Common.{◌≡◌, ◌∙◌, ◌≤◌, ◌+◌, ℕ, zero, suc, true, List, [], ◌∷◌, ◌++◌, Some, length, map, refl, sym, ap, ap₂, arith, append_assoc, length-append}
+use Rattle.std.specs.List.{AllByRecursion}
 use Rattle.std.proofs.lemmas.Bool.{ne_eqb}
 use Rattle.csv.specs.Machine.{next_record}
 use Rattle.csv.specs.Reading.{default_config, records, records_from, strip_bom}
-use Rattle.csv.specs.Writing.{default_writer, fields_text, is_blank as is_blank_row, needs_byte, read_back, row_text}
+use Rattle.csv.specs.Writing.{default_writer, fields_text, is_blank as is_blank_row, read_back, row_text}
 use Rattle.csv.specs.Writing.{field_text as written}
 use Rattle.csv.specs.declared.parser.State.TheVariants as st
 use Rattle.csv.proofs.RoundTrip.{read-write, rows_text}
-use Rattle.table_rows.specs.FieldText.{field_text}
 use Rattle.table_rows.specs.Header.{rows_under, same_texts}
 use Rattle.table_rows.specs.Mark.{HasSecondMark}
-use Rattle.table_rows.specs.Rows.{is_blank, table_rows, texts_of, without_blanks}
+use Rattle.table_rows.specs.Rows.{table_rows, texts_of, without_blanks}
 use Rattle.table_rows.proofs.HeaderFacts.{under-header}
 use Rattle.gen_texts.proofs.PlainTexts.{IsPlain, plain-bare, plain-field}
 

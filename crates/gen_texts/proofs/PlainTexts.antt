@@ -1,6 +1,6 @@
 -- Texts that stand in a table as they are: each byte is from 45 to 126, so none is a space, a quote, a comma or a line's end.
-use Rattle.std.proofs.Common.{◌≡◌, ◌∙◌, ◌<◌, ◌≤◌, ◌+◌, ℕ, zero, suc, Bool, true, false, List, [], ◌∷◌, ◌++◌, ◌==◌, length, refl, sym, ap, arith, ◌⊎◌, inl, inr, get_or}
-use Rattle.std.specs.Prelude.{nat_le, ◌&&◌, slice_index}
+use Rattle.std.proofs.Common.{◌≡◌, ◌∙◌, ◌<◌, ◌≤◌, ℕ, zero, suc, Bool, true, false, List, [], ◌∷◌, ◌++◌, ◌==◌, refl, ap, arith, inl, inr}
+use Rattle.std.specs.Prelude.{nat_le, ◌&&◌}
 use Rattle.std.specs.List.{AllByRecursion, list_all, list_any}
 use Rattle.std.specs.Str.{IsAscii, is_utf8}
 use Rattle.std.specs.Str.Parse.{AllDigits}

@@ -1,18 +1,16 @@
 -- The lines of a points table, as records of texts: they are read back as the points of the seed, and break no rule.
-use Rattle.std.proofs.Common.{◌≡◌, ◌∙◌, ◌<◌, ◌≤◌, ◌+◌, ◌*◌, ◌^◌, ◌==◌, ℕ, zero, suc, Bool, true, false, List, [], ◌∷◌, ◌++◌, Some, None, length, map, refl, sym, ap, arith, ℤ, pos, neg_ℤ, ◌≤ℤ◌, append_assoc}
-use Rattle.std.specs.Prelude.{codes, nat_lt, unsigned_abs}
-use Rattle.std.specs.List.{AllByRecursion}
+use Rattle.std.proofs.Common.{◌≡◌, ◌∙◌, ◌<◌, ◌≤◌, ◌+◌, ◌*◌, ◌^◌, ℕ, false, List, [], ◌∷◌, ◌++◌, Some, None, refl, sym, ap, arith, pos, neg_ℤ, append_assoc}
+use Rattle.std.specs.Prelude.{codes}
 use Rattle.std.proofs.lemmas.Int.{ints}
 use Rattle.table_rows.specs.Faults.{first_broken}
-use Rattle.table_columns.specs.Columns.{IsNumber, is_empty, named_rules, number_rules, text_at}
-use Rattle.table_columns.specs.Names.{is_among}
+use Rattle.table_columns.specs.Columns.{IsNumber}
 use Rattle.table_columns.proofs.NumberFacts.{number-within}
 use Rattle.point_tables.specs.declared.part.Part.{Part}
 use Rattle.point_tables.specs.declared.part.Part.TheVariants as part
 use Rattle.point_tables.specs.declared.record.PointRecord.{PointRecord}
 use Rattle.point_tables.specs.Columns.{number_kinds}
-use Rattle.point_tables.specs.PointTable.{column_rules, coordinate_rules, is_fixed, part_rules, point_of, point_rules}
-use Rattle.point_tables.specs.Read.{IsColumns, IsCoordinateOf, IsPartOf, has_missing}
+use Rattle.point_tables.specs.PointTable.{coordinate_rules, part_rules, point_of, point_rules}
+use Rattle.point_tables.specs.Read.{IsCoordinateOf, IsPartOf, has_missing}
 use Rattle.point_tables.proofs.ColumnFacts.{broken-missing, coordinate-given, coordinate-some, missing-none, part-fixed, part-given, part-new}
 use Rattle.point_tables.proofs.RecordFacts.{read-point}
 use Rattle.gen_net.specs.Draws.{drawn}
@@ -100,9 +98,9 @@ point-row name x y z plane height p h plain in_x in_y in_z in_plane in_height co
     right = refl;
     plain = (plain, (in_x.plain, (in_y.plain, (in_z.plain, (in_plane.plain, (in_height.plain, tt))))));
     columns =
-      broken-missing (row_of name x y z plane height) None in_x.kept in_y.kept in_z.kept in_plane.kept in_height.kept
-      (missing-none (row_of name x y z plane height) (record { x = Some (pos x); y = Some (pos y); z = Some (pos z); plane = p; height = h })
-      in_x.reads in_y.reads in_z.reads in_plane.reads in_height.reads complete);
+        broken-missing (row_of name x y z plane height) None in_x.kept in_y.kept in_z.kept in_plane.kept in_height.kept
+        (missing-none (row_of name x y z plane height) (record { x = Some (pos x); y = Some (pos y); z = Some (pos z); plane = p; height = h })
+        in_x.reads in_y.reads in_z.reads in_plane.reads in_height.reads complete);
   };
 }
 

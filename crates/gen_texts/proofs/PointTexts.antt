@@ -1,20 +1,20 @@
 -- The points table of a seed is accepted, and stands for the points of the seed.
-use Rattle.std.proofs.Common.{◌≡◌, ◌∙◌, ◌<◌, ◌≤◌, ◌+◌, ◌==◌, ℕ, Bool, true, false, List, [], ◌∷◌, ◌++◌, Some, None, Option, length, map, refl, sym, ap, ap₂, arith, append_assoc, drop}
-use Rattle.std.specs.Prelude.{codes, nat_lt}
+use Rattle.std.proofs.Common.{◌≡◌, ◌∙◌, ℕ, true, List, [], ◌∷◌, ◌++◌, Some, None, map, refl, sym, ap, ap₂, arith, append_assoc, drop}
+use Rattle.std.specs.Prelude.{codes}
 use Rattle.std.specs.List.{AllByRecursion}
 use Rattle.std.proofs.lemmas.List.{append-nil}
 use Rattle.table_rows.specs.Faults.{first_fault}
 use Rattle.table_rows.specs.Header.{rows_under}
 use Rattle.table_rows.specs.Rows.{table_rows}
 use Rattle.table_columns.specs.Columns.{named_table}
-use Rattle.table_columns.specs.Names.{is_among, is_name}
+use Rattle.table_columns.specs.Names.{is_among}
 use Rattle.point_tables.specs.declared.record.PointRecord.{PointRecord}
 use Rattle.point_tables.specs.PointTable.{point_header, point_of, point_rules, points_fault, points_of}
 use Rattle.gen_net.specs.Points.{fixed_line, new_line, points_text}
 use Rattle.gen_records.specs.Records.{fixed_point, new_point, point_records}
 use Rattle.gen_texts.proofs.KeptRules.{IsKeptRow, are_fresh, fresh-kept, table-kept}
-use Rattle.gen_texts.proofs.PlainLines.{IsLine, line, line_rest, lines, rows-read, under-read}
-use Rattle.gen_texts.proofs.PlainTexts.{IsPlain, plain-tested}
+use Rattle.gen_texts.proofs.PlainLines.{IsLine, line_rest, lines, rows-read, under-read}
+use Rattle.gen_texts.proofs.PlainTexts.{plain-tested}
 use Rattle.gen_texts.proofs.PointRows.{IsPointRow, fixed-line, fixed-row, fixed_row, new-line, new-row, new_row, row_line}
 
 -- the records of the table as texts
