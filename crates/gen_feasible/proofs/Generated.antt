@@ -1,5 +1,5 @@
 -- The network of a seed: its size, and that the plan of all candidates meets its limits.
-use Rattle.std.proofs.Common.{◌≡◌, ◌∙◌, ◌≤◌, ◌+◌, ℕ, true, List, length, map, refl, sym, ap, arith, ℤ, replicate, length-append, subst}
+use Rattle.std.proofs.Common.{◌≡◌, ◌∙◌, ◌≤◌, ◌+◌, ℕ, true, List, length, map, refl, sym, ap, arith, ℤ, replicate, length-append, subst, None}
 use Rattle.std.specs.Prelude.{All, sum_by}
 use Rattle.std.specs.List.{list_all}
 use Rattle.std.proofs.lemmas.List.{length-map}
@@ -15,7 +15,7 @@ use Rattle.candidate_tables.specs.Kinds.{rules_of}
 use Rattle.design_rows.specs.Equations.{equations_of}
 use Rattle.design_rows.specs.Rows.{rows_of}
 use Rattle.design_rows.specs.Unknowns.{unknowns_of}
-use Rattle.net_build.specs.Build.{candidate_of, limits_of, limits_of_point, network_of, network_on, point_limits, redundancy_limits}
+use Rattle.net_build.specs.Build.{candidate_of, count_fault, limits_of, limits_of_point, network_fault, network_of, network_on, point_limits, redundancy_limits, row_count}
 use Rattle.net_build.proofs.RedundancyFacts.{redundancies-count}
 use Rattle.gen_net.specs.Draws.{drawn}
 use Rattle.gen_records.specs.Records.{angle_record, angle_records, candidate_records, direction_record, direction_records, distance_record, distance_records, fixed_point, level_record, level_records, new_point, other_records, point_records, vector_record, vector_records}
@@ -87,6 +87,19 @@ size-of seed = record {
 
 pub generated-sizes : GeneratedNetworksAreOfOneSize
 generated-sizes seed = subst IsGeneratedSize (sym (network-is seed)) (size-of seed)
+
+-- it isn't too large
+fault-none : (m n : ℕ) → m ≡ 17 → n ≡ 48 → count_fault m n ≡ None
+fault-none m n e f = rw (e, f) refl
+
+rows-many : (seed : ℕ) (unknowns : List Unknown) → row_count (point_records seed) unknowns (candidate_records seed) ≡ 48
+unfolding row_count candidate_records vector_records distance_records direction_records angle_records level_records vector_record distance_record direction_record angle_record level_record rows_of equations_of
+rows-many seed unknowns = refl
+
+pub generated-accepted : (seed : ℕ) → network_fault (point_records seed) (candidate_records seed) ≡ None
+unfolding network_fault unknowns_by
+generated-accepted seed =
+    fault-none (length (unknowns_by seed)) (row_count (point_records seed) (unknowns_by seed) (candidate_records seed)) (unknowns-counted seed) (rows-many seed (unknowns_by seed))
 
 -- ---- the limits
 

@@ -7,3 +7,4 @@ pub mod Limits
 pub mod Whole
 pub mod Assembly
 pub mod Generated
+pub mod Tables
