@@ -15,7 +15,7 @@ use Rattle.candidate_tables.specs.declared.record.CandidateRecord.{CandidateReco
 use Rattle.design_rows.specs.Equations.{Equation, equations_of}
 use Rattle.design_rows.specs.Rows.{entries_of, row_of, rows_of}
 use Rattle.net_build.specs.Build.{candidate_of}
-use Rattle.net_build.proofs.ListFacts.{sum-nonneg}
+use Rattle.geo_model.proofs.RowLoads.{sum-nonneg}
 
 -- the energy under the plan of all candidates
 pub energy-all : (candidates : List CandidateOf) (x : Displaced) → energy candidates (replicate (length candidates) true) x ≡ full_energy candidates x

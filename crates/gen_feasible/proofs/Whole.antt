@@ -9,7 +9,7 @@ use Rattle.geo_model.specs.Energy.{full_energy}
 use Rattle.point_tables.specs.declared.record.PointRecord.{PointRecord}
 use Rattle.candidate_tables.specs.declared.record.CandidateRecord.{CandidateRecord}
 use Rattle.net_build.specs.Build.{candidate_of}
-use Rattle.net_build.proofs.ListFacts.{sum-nonneg}
+use Rattle.geo_model.proofs.RowLoads.{sum-nonneg}
 use Rattle.gen_net.specs.Candidates.{first_fixed, second_fixed}
 use Rattle.gen_records.specs.Records.{candidate_records, other_records, vector_record, vector_records}
 use Rattle.gen_records.proofs.CountFacts.{drawn-below, rest-below}
