@@ -8,19 +8,19 @@ use Rattle.geo_model.specs.declared.network.Unknown.{Unknown}
 use Rattle.geo_model.specs.Row.{Displaced}
 use Rattle.geo_model.specs.Candidate.{CandidateOf}
 use Rattle.geo_model.specs.Energy.{energy}
-use Rattle.geo_model.specs.Limit.{IsInForce}
+use Rattle.geo_model.specs.Limit.{IsInForce, LimitOf}
 use Rattle.geo_model.specs.Meeting.{MeetsLimit}
 use Rattle.geo_model.specs.Network.{NetworkOf}
 use Rattle.candidate_tables.specs.Kinds.{rules_of}
 use Rattle.design_rows.specs.Equations.{equations_of}
 use Rattle.design_rows.specs.Rows.{rows_of}
 use Rattle.design_rows.specs.Unknowns.{unknowns_of}
-use Rattle.net_build.specs.Build.{candidate_of, count_fault, limits_of, limits_of_point, network_fault, network_of, network_on, point_limits, redundancy_limits, row_count}
+use Rattle.net_build.specs.Build.{candidate_of, count_fault, limits_of, limits_of_point, network_fault, network_of, point_limits, redundancy_limits, row_count}
 use Rattle.net_build.proofs.RedundancyFacts.{redundancies-count}
 use Rattle.gen_net.specs.Draws.{drawn}
 use Rattle.gen_records.specs.Records.{angle_record, angle_records, candidate_records, direction_record, direction_records, distance_record, distance_records, fixed_point, level_record, level_records, new_point, other_records, point_records, vector_record, vector_records}
 use Rattle.gen_records.proofs.CountFacts.{candidates-counted}
-use Rattle.gen_feasible.specs.Feasible.{GeneratedNetworksAreFeasible, GeneratedNetworksAreOfOneSize, IsGeneratedSize, generated_network}
+use Rattle.gen_feasible.specs.Feasible.{GeneratedNetworksAreFeasible, GeneratedNetworksAreOfOneSize, generated_network}
 use Rattle.gen_feasible.proofs.Assembly.{generated-borne}
 use Rattle.gen_feasible.proofs.Borne.{AreBorne}
 use Rattle.gen_feasible.proofs.Limits.{BearsVectors, IsBorneBy, axis-met, height-met, redundancies-met}
@@ -72,21 +72,30 @@ limits-counted seed =
     ∙ sum_is (length (point_limits (point_records seed) (unknowns_by seed))) (length (redundancy_limits 200 candidates)) (sum_by (λ candidate. length candidate.rows) candidates)
     (point-limits-counted seed (unknowns_by seed)) (redundancies-count 200 candidates) (rows-counted seed (unknowns_by seed))
 
-network-is : (seed : ℕ) → generated_network seed ≡ network_on 200 (point_records seed) (unknowns_by seed) (candidates_by seed)
-unfolding network_of unknowns_by candidates_by
-network-is seed = refl
+-- what the network of a seed has
+unknowns-are : (seed : ℕ) → (generated_network seed).unknowns ≡ unknowns_by seed
+unfolding network_of unknowns_by
+unknowns-are seed = refl
 
-size-of : (seed : ℕ) → IsGeneratedSize (network_on 200 (point_records seed) (unknowns_by seed) (candidates_by seed))
+candidates-are : (seed : ℕ) → (generated_network seed).candidates ≡ candidates_by seed
+unfolding network_of unknowns_by candidates_by
+candidates-are seed = refl
+
+limits-are : (seed : ℕ) → (generated_network seed).limits ≡ limits_of 200 (point_records seed) (unknowns_by seed) (candidates_by seed)
+unfolding network_of unknowns_by candidates_by
+limits-are seed = refl
+
+all-rows-counted : (seed : ℕ) → sum_by (λ candidate. length candidate.rows) (candidates_by seed) ≡ 48
 unfolding candidates_by
-size-of seed = record {
-  unknowns = unknowns-counted seed;
-  candidates = built-counted seed;
-  rows = rows-counted seed (unknowns_by seed);
-  limits = limits-counted seed;
-}
+all-rows-counted seed = rows-counted seed (unknowns_by seed)
 
 pub generated-sizes : GeneratedNetworksAreOfOneSize
-generated-sizes seed = subst IsGeneratedSize (sym (network-is seed)) (size-of seed)
+generated-sizes seed = record {
+  unknowns = ap length (unknowns-are seed) ∙ unknowns-counted seed;
+  candidates = ap length (candidates-are seed) ∙ built-counted seed;
+  rows = ap (sum_by (λ candidate. length candidate.rows)) (candidates-are seed) ∙ all-rows-counted seed;
+  limits = ap length (limits-are seed) ∙ limits-counted seed;
+}
 
 -- it isn't too large
 fault-none : (m n : ℕ) → m ≡ 17 → n ≡ 48 → count_fault m n ≡ None
@@ -103,16 +112,13 @@ generated-accepted seed =
 
 -- ---- the limits
 
-whole-energy : (seed : ℕ) (x : Displaced) → energy (candidates_by seed) (replicate 28 true) x ≡ energy_of (point_records seed) (unknowns_by seed) (candidate_records seed) x
+whole-energy : (seed : ℕ) (x : Displaced) → energy (generated_network seed).candidates (replicate 28 true) x ≡ energy_of (point_records seed) (unknowns_by seed) (candidate_records seed) x
 unfolding candidates_by
-whole-energy seed x = ap (λ (n : ℕ). energy (candidates_by seed) (replicate n true) x) (sym (built-counted seed)) ∙ energy-all (candidates_by seed) x
+whole-energy seed x =
+    ap (λ (candidates : List CandidateOf). energy candidates (replicate 28 true) x) (candidates-are seed)
+    ∙ ap (λ (n : ℕ). energy (candidates_by seed) (replicate n true) x) (sym (built-counted seed)) ∙ energy-all (candidates_by seed) x
 
--- the network of a seed, as it is built
-network_by : ℕ → NetworkOf
-network_by seed = network_on 200 (point_records seed) (unknowns_by seed) (candidates_by seed)
-
-bears : (seed : ℕ) (x : Displaced) → BearsVectors (network_by seed) (replicate 28 true) (unknowns_by seed) x
-unfolding network_by
+bears : (seed : ℕ) (x : Displaced) → BearsVectors (generated_network seed) (replicate 28 true) (unknowns_by seed) x
 bears seed x = record {
   others = energy_of (point_records seed) (unknowns_by seed) (other_records seed) x;
   is =
@@ -120,13 +126,12 @@ bears seed x = record {
       (sym (whole-energy seed x)) (generated-whole (point_records seed) (unknowns_by seed) seed x (unknowns-new seed));
 }
 
-borne-at : (seed : ℕ) (x : Displaced) → All (λ candidate. AreBorne (energy (candidates_by seed) (replicate 28 true) x) x candidate.rows) (candidates_by seed)
+borne-at : (seed : ℕ) (x : Displaced) → All (λ candidate. AreBorne (energy (generated_network seed).candidates (replicate 28 true) x) x candidate.rows) (candidates_by seed)
 unfolding candidates_by
 borne-at seed x =
     subst (λ (whole : ℤ). All (λ candidate. AreBorne whole x candidate.rows) (candidates_by seed)) (sym (whole-energy seed x)) (generated-borne (unknowns_by seed) seed x (unknowns-new seed))
 
-rows-borne : (seed : ℕ) → All (λ candidate. All (IsBorneBy (network_by seed) (replicate 28 true)) candidate.rows) (candidates_by seed)
-unfolding network_by
+rows-borne : (seed : ℕ) → All (λ candidate. All (IsBorneBy (generated_network seed) (replicate 28 true)) candidate.rows) (candidates_by seed)
 rows-borne seed k d inside j e within x = borne-at seed x k d inside j e within
 
 axis-high : (d : ℕ) → 75 ≤ 75 + d
@@ -173,19 +178,21 @@ points-met seed network unknowns bears =
       ),
     )
 
-limits-met : (seed : ℕ) → All (MeetsLimit (network_by seed) (replicate 28 true)) (limits_of 200 (point_records seed) (unknowns_by seed) (candidates_by seed))
-unfolding limits_of network_by
-limits-met seed =
-    All-append (MeetsLimit (network_by seed) (replicate 28 true)) (point_limits (point_records seed) (unknowns_by seed)) (redundancy_limits 200 (candidates_by seed))
-    (points-met seed (network_by seed) (unknowns_by seed) (bears seed))
-    (redundancies-met (network_by seed) (replicate 28 true) (rows-borne seed))
+-- those of the candidates
+redundancies-of : (seed : ℕ) → All (MeetsLimit (generated_network seed) (replicate 28 true)) (redundancy_limits 200 (candidates_by seed))
+redundancies-of seed =
+    subst (λ (candidates : List CandidateOf). All (MeetsLimit (generated_network seed) (replicate 28 true)) (redundancy_limits 200 candidates)) (candidates-are seed)
+    (redundancies-met (generated_network seed) (replicate 28 true)
+    (subst (λ (candidates : List CandidateOf). All (λ candidate. All (IsBorneBy (generated_network seed) (replicate 28 true)) candidate.rows) candidates) (sym (candidates-are seed)) (rows-borne seed)))
 
-all-met : (seed : ℕ) → All (λ limit. IsInForce limit (replicate 28 true) → MeetsLimit (network_by seed) (replicate 28 true) limit) (limits_of 200 (point_records seed) (unknowns_by seed) (candidates_by seed))
-all-met seed =
-    All-weaker (MeetsLimit (network_by seed) (replicate 28 true)) (λ limit. IsInForce limit (replicate 28 true) → MeetsLimit (network_by seed) (replicate 28 true) limit)
-    (λ limit met in_force. met) (limits_of 200 (point_records seed) (unknowns_by seed) (candidates_by seed)) (limits-met seed)
+limits-met : (seed : ℕ) → All (MeetsLimit (generated_network seed) (replicate 28 true)) (limits_of 200 (point_records seed) (unknowns_by seed) (candidates_by seed))
+unfolding limits_of
+limits-met seed =
+    All-append (MeetsLimit (generated_network seed) (replicate 28 true)) (point_limits (point_records seed) (unknowns_by seed)) (redundancy_limits 200 (candidates_by seed))
+    (points-met seed (generated_network seed) (unknowns_by seed) (bears seed)) (redundancies-of seed)
 
 pub generated-feasible : GeneratedNetworksAreFeasible
-unfolding network_by
 generated-feasible seed =
-    subst (λ (network : NetworkOf). All (λ limit. IsInForce limit (replicate 28 true) → MeetsLimit network (replicate 28 true) limit) network.limits) (sym (network-is seed)) (all-met seed)
+    All-weaker (MeetsLimit (generated_network seed) (replicate 28 true)) (λ limit. IsInForce limit (replicate 28 true) → MeetsLimit (generated_network seed) (replicate 28 true) limit)
+    (λ limit met in_force. met) (generated_network seed).limits
+    (subst (λ (limits : List LimitOf). All (MeetsLimit (generated_network seed) (replicate 28 true)) limits) (sym (limits-are seed)) (limits-met seed))
