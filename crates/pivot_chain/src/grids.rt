@@ -10,10 +10,10 @@ use lent_parts::Tri;
 use limit_forms::{LimitGrid, grid_row};
 use normal_matrix::Normal;
 
-// What the rows of both grid matrices are made of: the normal matrix of a plan, and the grid, the
-// factor and the squares of a limit.
+/// What the rows of both grid matrices are made of: the normal matrix of a plan, and the grid, the
+/// factor and the squares of a limit.
 #[derive(Clone, Copy)]
-pub(crate) struct Grids<'a> {
+pub struct Grids<'a> {
     pub network: &'a Network,
     pub normal: &'a Normal,
     pub grid: &'a LimitGrid,
@@ -21,8 +21,8 @@ pub(crate) struct Grids<'a> {
     pub squares: &'a [Square],
 }
 
-// Writes row `k` of both matrices. No other row changes.
-pub(crate) fn write_rows(grids: &Grids<'_>, k: u32, lower: &mut Tri, upper: &mut Tri)
+/// Writes row `k` of both matrices. No other row changes.
+pub fn write_rows(grids: &Grids<'_>, k: u32, lower: &mut Tri, upper: &mut Tri)
     requires made { IsMade grids.now }
     requires within { k < length grids.now.network.now.unknowns }
     requires lower_room { length lower.old ≡ length grids.now.network.now.unknowns }

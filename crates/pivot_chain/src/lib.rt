@@ -24,9 +24,11 @@ mod run;
 mod tests;
 
 pub use chain::{Stop, step_row};
+pub use grids::{Grids, write_rows};
 pub use judging::{redundancy_at, verdict, verdict_at};
 pub use laws::{
     certified_plans_meet_limits, met_is_sound, open_intervals_contain_zero, refuted_is_sound,
     refuted_plans_fail,
 };
+pub use plan::bring_to;
 pub use room::ChainRoom;

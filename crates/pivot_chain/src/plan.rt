@@ -6,7 +6,7 @@ use geo_model::{Network, Plan};
 use normal_matrix::Normal;
 
 /// Makes a normal matrix of the network that of a plan, whatever plan it was of before.
-pub(crate) fn bring_to(normal: &mut Normal, network: &Network, plan: &Plan)
+pub fn bring_to(normal: &mut Normal, network: &Network, plan: &Plan)
     requires made { IsNormalOf network.now normal.old }
     requires places { length plan.now ≡ length network.now.candidates }
     ensures sum { IsNormalOf network.now normal.new }
