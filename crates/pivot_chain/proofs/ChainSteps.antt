@@ -54,12 +54,12 @@ stops_at side (suc k) (suc n) (row ∷ rest) v lt t go e =
     (stops_at side k n (next (over_of side) row rest) v (omega arith) (triangle_next side n row rest t.0 t.1 (go 0 (omega arith))) (λ s l. go (suc s) (omega arith)) e)
 
 -- ---- the pivots of a chain that doesn't stop
-each_goes_on : (steps : List Step) (k : ℕ) → stops steps ≡ false → is_stop (get_or steps k free) ≡ false
+pub each_goes_on : (steps : List Step) (k : ℕ) → stops steps ≡ false → is_stop (get_or steps k free) ≡ false
 each_goes_on [] k e = refl
 each_goes_on (s ∷ steps) zero e = (parts (is_stop s) (stops steps) e).0
 each_goes_on (s ∷ steps) (suc k) e = each_goes_on steps k (parts (is_stop s) (stops steps) e).1
 
-step_of_row : (rows : List (List ℤ)) (k : ℕ) → get_or (map step_of rows) k free ≡ step_of (row_at rows k)
+pub step_of_row : (rows : List (List ℤ)) (k : ℕ) → get_or (map step_of rows) k free ≡ step_of (row_at rows k)
 step_of_row [] k = refl
 step_of_row (row ∷ rows) zero = refl
 step_of_row (row ∷ rows) (suc k) = step_of_row rows k

@@ -1,0 +1,5 @@
+pub mod SavedRows
+pub mod StopReads
+pub mod ChainImages
+pub mod CarriedRows
+pub mod Running

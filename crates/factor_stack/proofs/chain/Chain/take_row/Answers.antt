@@ -1,0 +1,21 @@
+use Rattle.std.proofs.Common.{rules, ◌≡◌, List, length, ap, sym, ◌∙◌, subst, FitsSigned, ℤ}
+use Rattle.std.specs.Int.{w128}
+use Rattle.std.proofs.lemmas.Int.{to_z-of_z}
+use Rattle.whole_algebra.specs.Matrices.{IsTriangle}
+use Rattle.lent_parts.specs.Triangle.{tri_row}
+use Rattle.factor_stack.specs.Running.{HasRun}
+use Rattle.factor_stack.specs.declared.chain.Chain.{Chain}
+use Rattle.factor_stack.proofs.Running.{stops_there, so_far, none_yet}
+use Rattle.factor_stack.proofs.StopReads.{stop_read}
+use Rattle.factor_stack.proofs.ChainImages.{image_by_run}
+use Rattle.factor_stack.proofs.CarriedRows.{carried}
+use Rattle.factor_stack.proofs.chain.Chain.take_row.Goals as goal
+
+pub returns-in-Some-clause-run : goal.returns-in-Some-clause-run
+returns-in-Some-clause-run c = λ first small run here.
+    let f : FitsSigned w128 c.in-Some.value = search rules in
+    let open_yet = none_yet c.args.side first c.args.k c.args.self.now (sym c.if-is_some.false ∙ c.is_some.ensures) run in
+    let done = (so_far c.args.side first c.args.self.now.rows c.args.k open_yet).done in
+    simp (to_z-of_z, f)
+    (stops_there c.args.side first c.args.self.now.rows c.step_row.new.rows c.args.k c.in-Some.value small c.requires.within open_yet c.step_row.ensures.places c.step_row.ensures.others
+    (c.step_row.ensures.exact first (subst (λ n. IsTriangle n first) (sym run.places) small.shape) done here) c.in-Some.ensures.answer)

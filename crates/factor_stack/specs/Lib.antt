@@ -1,0 +1,4 @@
+pub mod Image
+pub mod Stored
+pub mod Running
+pub mod Stack
