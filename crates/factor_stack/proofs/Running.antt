@@ -11,7 +11,7 @@ use Rattle.pivot_chain.specs.declared.chain.Stop.{Stop}
 use Rattle.pivot_chain.proofs.ChainRun.{IsSoFar, done_more, one_more, stops_here}
 use Rattle.pivot_chain.proofs.Judged.{step_range}
 use Rattle.factor_stack.specs.declared.chain.Chain.{Chain}
-use Rattle.factor_stack.specs.Stored.{IsHeldChain}
+use Rattle.factor_stack.specs.Stored.{IsHeldChain, stop_within, cut_chain}
 use Rattle.factor_stack.specs.Running.{HasRows, GoesOnTo, HasStopped, HasRun}
 
 pub none_yet : (side : Side) (first : List (List ℤ)) (k : ℕ) (chain : Chain) → false ≡ is_some chain.stop → HasRun side first k chain → HasRun side first k (record { rows = chain.rows; stop = None })
@@ -64,3 +64,9 @@ kept_by side n k first rows (Some stop) tall run =
 
 pub kept_by_run : (side : Side) (n k : ℕ) (first : List (List ℤ)) (chain : Chain) → length first ≡ n → HasRun side first k chain → IsHeldChain n chain
 kept_by_run side n k first chain tall run = kept_by side n k first chain.rows chain.stop tall run
+
+-- a chain of which nothing is computed
+pub not_begun : (side : Side) (first : List (List ℤ)) (chain : Chain) → length chain.rows ≡ length first → chain.stop ≡ None → HasRun side first 0 (cut_chain 0 chain)
+not_begun side first chain places e =
+    subst (λ s. HasRun side first 0 (record { rows = chain.rows; stop = stop_within 0 s })) (sym e)
+    (record { places = places; state = record { done = λ j lt. absurd (omega arith); pivots = λ j lt. absurd (omega arith) } })

@@ -1,6 +1,7 @@
 //! The first place that a candidate touches.
 ghost use Rattle.std.specs.Prelude.{◌≡◌, ◌≤◌, length};
 ghost use Rattle.std.specs.List.{position_or_len};
+ghost use Rattle.limit_forms.specs.Grid.{has_column};
 ghost use Rattle.factor_stack.specs.Image.{touches};
 
 use geo_model::Candidate;
@@ -12,11 +13,18 @@ fn touches(candidate: &Candidate, unknown: u32) -> bool
 {
     let rows = candidate.rows.as_slice();
     for row in rows {
-        if row.entries().iter().any(|entry| entry.0 == unknown) {
+        if names_column(row.entries(), unknown) {
             return true;
         }
     }
     false
+}
+
+// Whether a linear form has an entry in a column.
+fn names_column(entries: &[(u32, i64)], column: u32) -> bool
+    ensures { result ≡ has_column entries.now column }
+{
+    entries.iter().any(|entry| entry.0 == column)
 }
 
 // The first place of `n` in a limit's order whose unknown a candidate touches, and `n` where there is
