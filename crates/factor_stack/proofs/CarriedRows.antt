@@ -1,17 +1,16 @@
 -- Rows that a chain keeps where the first rows of its matrix stay.
-use Rattle.std.proofs.Common.{◌≡◌, ℕ, suc, ◌+◌, ◌-◌, ◌^◌, ◌<◌, ◌≤◌, Bool, true, false, if◌then◌else◌, List, [], length, take, map, get_or, refl, sym, ◌∙◌, ap, subst, arith, ℤ, pos, ◌≤ℤ◌}
+use Rattle.std.proofs.Common.{◌≡◌, ℕ, suc, ◌-◌, ◌^◌, ◌<◌, ◌≤◌, Bool, true, false, if◌then◌else◌, List, [], length, take, get_or, refl, sym, ◌∙◌, ap, subst, arith, ℤ, pos, ◌≤ℤ◌}
 use Rattle.std.specs.Prelude.{Option, Some, None, nat_le, MatchOption}
 use Rattle.std.proofs.lemmas.List.{get_or-take}
 use Rattle.std.proofs.lemmas.Bool.Decides.{nat_tests}
-use Rattle.std.proofs.lemmas.Grind.{common_steps}
 use Rattle.whole_algebra.specs.Matrices.{at, IsTriangle}
 use Rattle.whole_algebra.specs.Chains.{Step, free, stop as halt, step_of, is_stop, chain_rows, chain_steps, matrix_after, stops, stop_place, stop_value}
 use Rattle.whole_algebra.specs.Grid.{row_at, SameFirstRows}
 use Rattle.whole_algebra.proofs.Places.{row_at-chain_rows}
 use Rattle.whole_algebra.proofs.Shapes.{length-row_at}
-use Rattle.whole_algebra.proofs.VerdictLaws.{stop_place-range, length-chain}
+use Rattle.whole_algebra.proofs.VerdictLaws.{stop_place-range}
 use Rattle.lent_parts.specs.Triangle.{tri_row}
-use Rattle.chain_step.specs.Step.{over_of, IsPivotRow}
+use Rattle.chain_step.specs.Step.{over_of}
 use Rattle.chain_step.specs.declared.side.Side.{Side}
 use Rattle.chain_step.proofs.Matrices.{GoesOn, triangle_after}
 use Rattle.chain_step.proofs.SameRows.{chain_rows_same}
@@ -20,8 +19,8 @@ use Rattle.pivot_chain.specs.declared.chain.Stop.{Stop}
 use Rattle.pivot_chain.proofs.ChainSteps.{each_goes_on, step_of_row, stops_at}
 use Rattle.factor_stack.specs.declared.chain.Chain.{Chain}
 use Rattle.factor_stack.specs.Image.{ChainOf, stop_in, chain_image}
-use Rattle.factor_stack.specs.Stored.{count_of, held_chain, stop_within, cut_chain}
-use Rattle.factor_stack.specs.Running.{HasRows, GoesOnTo, HasStopped, HasRun}
+use Rattle.factor_stack.specs.Stored.{count_of, held_chain, cut_chain}
+use Rattle.factor_stack.specs.Running.{GoesOnTo, HasStopped, HasRun}
 use Rattle.factor_stack.proofs.StopReads.{stop_read, goes_before}
 
 -- rows and a stop that are those of a chain of matrix m, and another matrix with the same first rows

@@ -1,23 +1,20 @@
 -- A chain that is computed to its end is the one of its matrix.
-use Rattle.std.proofs.Common.{◌≡◌, ℕ, suc, ◌-◌, ◌<◌, ◌≤◌, true, false, if◌then◌else◌, List, [], length, take, refl, sym, ◌∙◌, ap, ap₂, arith, ℤ}
+use Rattle.std.proofs.Common.{◌≡◌, ℕ, ◌<◌, ◌≤◌, true, false, if◌then◌else◌, List, [], length, take, sym, ◌∙◌, ap, ap₂, arith, ℤ}
 use Rattle.std.specs.Prelude.{Option, Some, None}
-use Rattle.std.proofs.lemmas.List.{ext_get_or, get_or-take, length-take-le, take_all}
-use Rattle.whole_algebra.specs.Matrices.{IsTriangle}
-use Rattle.whole_algebra.specs.Chains.{step_of, is_stop, chain_rows, matrix_after, stops, stop_place, stop_value}
-use Rattle.whole_algebra.specs.Grid.{row_at}
+use Rattle.std.proofs.lemmas.List.{ext_get_or, get_or-take, length-take-le}
+use Rattle.whole_algebra.specs.Chains.{chain_rows, stops, stop_place, stop_value}
 use Rattle.whole_algebra.proofs.Places.{row_at-chain_rows}
-use Rattle.whole_algebra.proofs.VerdictLaws.{stop_place-range, length-chain}
 use Rattle.chain_step.specs.Step.{over_of}
 use Rattle.chain_step.specs.declared.side.Side.{Side}
 use Rattle.chain_step.proofs.Matrices.{GoesOn}
-use Rattle.pivot_chain.specs.Chain.{chain_of, StopsAt, IsSmall}
+use Rattle.pivot_chain.specs.Chain.{chain_of, IsSmall}
 use Rattle.pivot_chain.specs.declared.chain.Stop.{Stop}
 use Rattle.pivot_chain.proofs.ChainSteps.{no_stop}
 use Rattle.pivot_chain.proofs.ChainRun.{goes_on_so_far}
 use Rattle.factor_stack.specs.declared.chain.Chain.{Chain}
 use Rattle.factor_stack.specs.Image.{ChainOf, stop_in, chain_image}
-use Rattle.factor_stack.specs.Stored.{count_of, held_chain}
-use Rattle.factor_stack.specs.Running.{HasRows, GoesOnTo, HasStopped, HasRun}
+use Rattle.factor_stack.specs.Stored.{held_chain}
+use Rattle.factor_stack.specs.Running.{HasRows, HasRun}
 use Rattle.factor_stack.proofs.StopReads.{rows_of_whole, rows_to_stop}
 
 -- the first rows, as many as the chain has

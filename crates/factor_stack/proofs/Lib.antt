@@ -6,3 +6,6 @@ pub mod Running
 pub mod Stacks
 pub mod Verdicts
 pub mod FirstPlaces
+pub mod Untouched
+pub mod CarriedGrids
+pub mod Changes

@@ -1,18 +1,18 @@
 -- A chain that is computed place by place.
-use Rattle.std.proofs.Common.{◌≡◌, ℕ, ◌+◌, ◌<◌, ◌≤◌, List, [], length, refl, sym, ◌∙◌, ap, subst, arith, ℤ}
+use Rattle.std.proofs.Common.{◌≡◌, ℕ, ◌+◌, ◌<◌, ◌≤◌, List, length, sym, ◌∙◌, subst, arith, ℤ}
 use Rattle.std.specs.Prelude.{Option, Some, None, is_some, false}
 use Rattle.whole_algebra.specs.Chains.{step_of, stop as halt, matrix_after}
 use Rattle.whole_algebra.specs.Grid.{row_at}
 use Rattle.lent_parts.specs.Triangle.{tri_row}
 use Rattle.chain_step.specs.Step.{over_of, IsPivotRow}
 use Rattle.chain_step.specs.declared.side.Side.{Side}
-use Rattle.pivot_chain.specs.Chain.{chain_of, StopsAt, IsSmall}
+use Rattle.pivot_chain.specs.Chain.{IsSmall}
 use Rattle.pivot_chain.specs.declared.chain.Stop.{Stop}
 use Rattle.pivot_chain.proofs.ChainRun.{IsSoFar, done_more, one_more, stops_here}
 use Rattle.pivot_chain.proofs.Judged.{step_range}
 use Rattle.factor_stack.specs.declared.chain.Chain.{Chain}
 use Rattle.factor_stack.specs.Stored.{IsHeldChain, stop_within, cut_chain}
-use Rattle.factor_stack.specs.Running.{HasRows, GoesOnTo, HasStopped, HasRun}
+use Rattle.factor_stack.specs.Running.{HasRun}
 
 pub none_yet : (side : Side) (first : List (List ℤ)) (k : ℕ) (chain : Chain) → false ≡ is_some chain.stop → HasRun side first k chain → HasRun side first k (record { rows = chain.rows; stop = None })
 none_yet side first k chain e run = by chain.rows chain.stop e run

@@ -1,19 +1,17 @@
 -- A stack whose changes come and go.
-use Rattle.std.proofs.Common.{◌≡◌, ℕ, suc, ◌+◌, ◌<◌, ◌≤◌, ◌^◌, List, [], ◌∷◌, ◌++◌, length, refl, sym, ◌∙◌, ap, subst, arith, length-append, length-set, take, drop}
-use Rattle.std.specs.Prelude.{All, reverse, slice_set, Some, None, Option, IfSome, slice_get, option_to_list}
+use Rattle.std.proofs.Common.{◌≡◌, ℕ, suc, ◌<◌, List, [], ◌∷◌, ◌++◌, length, refl, sym, ◌∙◌, ap, subst, arith, length-append, length-set, take}
+use Rattle.std.specs.Prelude.{All, reverse, Some, IfSome, slice_get, option_to_list}
 use Rattle.std.proofs.lemmas.List.{length-reverse, reverse-append, length-take-le}
 use Rattle.std.proofs.lemmas.Grind.{reverse_onto}
-use Rattle.std.proofs.lemmas.List.Elements.{All-pop, All-same, All-push}
+use Rattle.std.proofs.lemmas.List.Elements.{All-pop}
 use Rattle.geo_model.specs.Limit.{LimitOf}
 use Rattle.geo_model.specs.Network.{NetworkOf}
 use Rattle.normal_matrix.specs.Normal.{IsNormalOf}
 use Rattle.factor_stack.specs.declared.held.Held.{Held}
 use Rattle.factor_stack.specs.declared.held.Saved.{Saved}
-use Rattle.factor_stack.specs.declared.held.Factors.{Factors}
 use Rattle.factor_stack.specs.declared.chain.Chain.{Chain}
 use Rattle.factor_stack.specs.declared.run.GridRows.{GridRows}
-use Rattle.factor_stack.specs.Image.{ImageOf}
-use Rattle.factor_stack.specs.Stored.{images_before, held_image, taken_back, put_chain, IsHeldChain, IsHeld, IsSavedChain, IsSaved}
+use Rattle.factor_stack.specs.Stored.{images_before, held_image, taken_back, put_chain, IsHeldChain, IsSavedChain, IsSaved}
 use Rattle.factor_stack.specs.Stack.{StackOf, IsImage, IsStackOf, IsKept}
 
 -- ---- the number of changes

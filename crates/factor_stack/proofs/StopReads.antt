@@ -1,5 +1,5 @@
 -- Where a chain stops, read from its steps.
-use Rattle.std.proofs.Common.{◌≡◌, ℕ, zero, suc, ◌-◌, ◌<◌, ◌≤◌, Bool, true, false, cond, List, [], ◌∷◌, length, get_or, refl, sym, ◌∙◌, ap, arith, ℤ}
+use Rattle.std.proofs.Common.{◌≡◌, ℕ, zero, suc, ◌-◌, ◌<◌, true, false, cond, List, [], ◌∷◌, length, get_or, refl, sym, ◌∙◌, ap, arith, ℤ}
 use Rattle.whole_algebra.specs.Matrices.{IsTriangle}
 use Rattle.whole_algebra.specs.Chains.{Step, free, pivot, stop, step_of, is_stop, beside, next, left_after, chain_rows, chain_steps, stops, stop_place, stop_value}
 use Rattle.whole_algebra.proofs.VerdictLaws.{stop_place-range}

@@ -1,20 +1,19 @@
 -- The verdict that two chains tell.
-use Rattle.std.proofs.Common.{◌≡◌, ℕ, ◌-◌, ◌<◌, ◌≤◌, Bool, List, [], length, take, refl, sym, ◌∙◌, ap, ap₂, subst, arith, ℤ, true, false, cond}
+use Rattle.std.proofs.Common.{◌≡◌, ℕ, ◌-◌, ◌<◌, ◌≤◌, Bool, List, [], length, refl, sym, ◌∙◌, ap, ap₂, subst, arith, ℤ, true, false, cond}
 use Rattle.std.specs.Prelude.{Option, Some, None, IfSome}
 use Rattle.std.proofs.lemmas.List.{get_or-take}
 use Rattle.whole_algebra.specs.Matrices.{at}
-use Rattle.whole_algebra.specs.Chains.{lower_chain, upper_chain, stops, stop_place, stop_value, pivot_at, matrix_after, met, refuted, open_at, chain_rows, Outcome}
+use Rattle.whole_algebra.specs.Chains.{lower_chain, upper_chain, stops, stop_place, stop_value, pivot_at, matrix_after, met, refuted, open_at}
 use Rattle.whole_algebra.specs.Grid.{row_at}
 use Rattle.whole_algebra.proofs.Places.{row_at-chain_rows}
 use Rattle.geo_model.specs.Limit.{LimitOf, SquareOf}
 use Rattle.geo_model.specs.Network.{NetworkOf}
-use Rattle.geo_model.specs.declared.verdict.Verdict.{Verdict}
 use Rattle.geo_model.specs.declared.verdict.Verdict.TheVariants.{Met, Refuted, Open}
 use Rattle.limit_forms.specs.Grid.{lower_grid, upper_grid}
 use Rattle.lent_parts.specs.Triangle.{tri_row}
 use Rattle.chain_step.specs.Step.{over_of}
 use Rattle.chain_step.specs.declared.side.Side.TheVariants.{Lower, Upper}
-use Rattle.pivot_chain.specs.Chain.{chain_of, StopsAt}
+use Rattle.pivot_chain.specs.Chain.{StopsAt}
 use Rattle.pivot_chain.specs.Verdict.{verdict_from, verdict_of}
 use Rattle.pivot_chain.specs.declared.chain.Stop.{Stop}
 use Rattle.pivot_chain.proofs.ChainSteps.{outcome_open, pivot_read}
@@ -22,7 +21,7 @@ use Rattle.pivot_chain.proofs.Judged.{step_range, tall_lower, tall_upper}
 use Rattle.factor_stack.specs.declared.chain.Chain.{Chain}
 use Rattle.factor_stack.specs.declared.held.Held.{Held}
 use Rattle.factor_stack.specs.declared.held.Factors.{Factors}
-use Rattle.factor_stack.specs.Image.{ImageOf, ChainOf, chain_image, image_of, stop_in}
+use Rattle.factor_stack.specs.Image.{ImageOf, chain_image, image_of}
 use Rattle.factor_stack.specs.Stored.{held_chain, held_image, IsHeldChain}
 use Rattle.factor_stack.specs.Stack.{IsImage}
 use Rattle.factor_stack.proofs.CarriedRows.{image_rows, image_stop, never_in, stop_here}

@@ -1,5 +1,5 @@
 -- The image of a limit under a plan: what a stack of factors stands for. This project's own.
-use Rattle.std.specs.Prelude.{◌≡◌, ℕ, Bool, if◌then◌else◌, List, length, ℤ, Option, Some, None}
+use Rattle.std.specs.Prelude.{ℕ, Bool, if◌then◌else◌, List, length, ℤ, Option, Some, None}
 use Rattle.std.specs.List.{list_any, position_or_len}
 use Rattle.whole_algebra.specs.Chains.{Step, chain_rows, stops, stop_place, stop_value}
 use Rattle.geo_model.specs.Candidate.{CandidateOf}

@@ -1,6 +1,6 @@
 -- What a stack stores of its plan and of its changes, in the words of the private functions that store it. This project's
 -- own layout.
-use Rattle.std.specs.Prelude.{◌≡◌, ℕ, ◌+◌, ◌<◌, ◌≤◌, if◌then◌else◌, List, [], ◌∷◌, ◌++◌, length, take, drop, ℤ, Option, Some, None, slice_set, All, nat_le, IfSome}
+use Rattle.std.specs.Prelude.{◌≡◌, ℕ, ◌+◌, ◌<◌, ◌≤◌, if◌then◌else◌, List, [], ◌∷◌, ◌++◌, length, take, drop, Option, Some, None, slice_set, nat_le, IfSome}
 use Rattle.factor_stack.specs.declared.chain.Chain.{Chain}
 use Rattle.factor_stack.specs.declared.held.Factors.{Factors}
 use Rattle.factor_stack.specs.declared.held.Held.{Held}

@@ -8,9 +8,9 @@ ghost use Rattle.pivot_chain.specs.Chain.{IsSmall};
 ghost use Rattle.factor_stack.specs.Stored.{stop_within};
 ghost use Rattle.factor_stack.specs.Running.{HasRun};
 
+use crate::rows::{put_rows, save_rows};
 use chain_step::Side;
 use geo_base::NoMemory;
-use crate::rows::{put_rows, save_rows};
 use lent_parts::Tri;
 use pivot_chain::{Stop, step_row};
 use std::alloc::Global;

@@ -74,7 +74,11 @@ impl Held {
         ensures { self.new ≡ taken_back self.old saved.now }
     {
         self.plan.set(saved.candidate, saved.chosen);
-        self.factors.lower.give_back(saved.first, &saved.factors.lower);
-        self.factors.upper.give_back(saved.first, &saved.factors.upper);
+        self.factors
+            .lower
+            .give_back(saved.first, &saved.factors.lower);
+        self.factors
+            .upper
+            .give_back(saved.first, &saved.factors.upper);
     }
 }

@@ -123,13 +123,7 @@ impl FactorStack {
             alpha: form.alpha,
             squares: form.squares.as_slice(),
         };
-        recompute(
-            &grids,
-            first,
-            &mut self.room,
-            &mut self.held.factors,
-            steps,
-        );
+        recompute(&grids, first, &mut self.room, &mut self.held.factors, steps);
         Ok(())
     }
 

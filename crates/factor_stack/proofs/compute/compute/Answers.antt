@@ -1,4 +1,4 @@
-use Rattle.std.proofs.Common.{◌≡◌, length, sym, ◌∙◌}
+use Rattle.std.proofs.Common.{sym, ◌∙◌}
 use Rattle.chain_step.specs.declared.side.Side.TheVariants.{Lower, Upper}
 use Rattle.pivot_chain.specs.Judging.{lower_of, upper_of}
 use Rattle.pivot_chain.proofs.Judged.{tall_lower_of, tall_upper_of}

@@ -1,4 +1,4 @@
-use Rattle.std.proofs.Common.{rules, ◌≡◌, length, sym, ◌∙◌, ap, subst, arith}
+use Rattle.std.proofs.Common.{length, sym, subst}
 use Rattle.chain_step.specs.declared.side.Side.TheVariants.{Lower, Upper}
 use Rattle.pivot_chain.specs.Judging.{lower_of, upper_of}
 use Rattle.pivot_chain.proofs.Judged.{small_lower_of, small_upper_of, tall_lower_of, tall_upper_of}

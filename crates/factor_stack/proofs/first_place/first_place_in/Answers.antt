@@ -1,4 +1,4 @@
-use Rattle.std.proofs.Common.{◌≡◌, ◌<◌, ◌≤◌, length, sym, ◌∙◌, ap, arith}
+use Rattle.std.proofs.Common.{sym, ◌∙◌, ap, arith}
 use Rattle.factor_stack.specs.Image.{touches}
 use Rattle.factor_stack.proofs.FirstPlaces.{is_position, got_at, untouched_more}
 use Rattle.factor_stack.proofs.first_place.first_place_in.Goals as goal

@@ -1,4 +1,4 @@
-use Rattle.std.proofs.Common.{◌≡◌, ◌+◌, length, ◌∙◌, arith}
+use Rattle.std.proofs.Common.{arith}
 use Rattle.factor_stack.proofs.SavedRows.{put_all}
 use Rattle.factor_stack.proofs.rows.put_rows.Goals as goal
 

@@ -1,4 +1,4 @@
-use Rattle.std.proofs.Common.{◌≡◌, ◌+◌, length, ◌∙◌, arith}
+use Rattle.std.proofs.Common.{arith}
 use Rattle.factor_stack.proofs.SavedRows.{saved_all}
 use Rattle.factor_stack.proofs.rows.save_rows.Goals as goal
 

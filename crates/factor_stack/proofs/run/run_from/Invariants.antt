@@ -1,4 +1,4 @@
-use Rattle.std.proofs.Common.{◌≡◌, ℕ, ◌+◌, ◌≤◌, length}
+use Rattle.std.proofs.Common.{◌+◌, ◌≤◌, length}
 use Rattle.factor_stack.specs.Running.{HaveRun, IsRoom, KeepsFirst}
 use Rattle.factor_stack.proofs.run.run_from.Given as goal
 

@@ -1,4 +1,4 @@
-use Rattle.std.proofs.Common.{rules, ◌≡◌, ◌+◌, ◌<◌, ◌≤◌, ◌^◌, length, sym, ◌∙◌, ap, subst, arith, unsigned_abs, pos, ◌≤ℤ◌}
+use Rattle.std.proofs.Common.{◌+◌, ◌<◌, ◌^◌, sym, ◌∙◌, subst, arith, unsigned_abs, pos, ◌≤ℤ◌}
 use Rattle.whole_algebra.specs.Matrices.{at}
 use Rattle.pivot_chain.specs.Judging.{lower_of, upper_of}
 use Rattle.pivot_chain.proofs.Judged.{small_lower_of, small_upper_of, tall_lower_of, tall_upper_of}

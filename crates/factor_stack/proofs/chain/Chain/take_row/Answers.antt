@@ -1,14 +1,8 @@
-use Rattle.std.proofs.Common.{rules, ◌≡◌, List, length, ap, sym, ◌∙◌, subst, FitsSigned, ℤ}
+use Rattle.std.proofs.Common.{rules, sym, ◌∙◌, subst, FitsSigned}
 use Rattle.std.specs.Int.{w128}
 use Rattle.std.proofs.lemmas.Int.{to_z-of_z}
 use Rattle.whole_algebra.specs.Matrices.{IsTriangle}
-use Rattle.lent_parts.specs.Triangle.{tri_row}
-use Rattle.factor_stack.specs.Running.{HasRun}
-use Rattle.factor_stack.specs.declared.chain.Chain.{Chain}
 use Rattle.factor_stack.proofs.Running.{stops_there, so_far, none_yet}
-use Rattle.factor_stack.proofs.StopReads.{stop_read}
-use Rattle.factor_stack.proofs.ChainImages.{image_by_run}
-use Rattle.factor_stack.proofs.CarriedRows.{carried}
 use Rattle.factor_stack.proofs.chain.Chain.take_row.Goals as goal
 
 pub returns-in-Some-clause-run : goal.returns-in-Some-clause-run

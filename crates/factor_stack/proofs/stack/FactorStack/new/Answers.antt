@@ -1,12 +1,11 @@
-use Rattle.std.proofs.Common.{rules, ◌≡◌, ◌≤◌, ◌^◌, [], length, refl, sym, ◌∙◌, ap, ap₂, subst, arith, w64, FitsSigned}
-use Rattle.std.specs.Prelude.{All, reverse}
+use Rattle.std.proofs.Common.{rules, ◌≡◌, [], length, sym, ◌∙◌, ap, ap₂, subst, arith, w64, FitsSigned}
+use Rattle.std.specs.Prelude.{reverse}
 use Rattle.std.proofs.lemmas.Int.{to_z-of_z}
 use Rattle.std.proofs.lemmas.List.Elements.{All-nil, All-same}
 use Rattle.geo_model.specs.Limit.{LimitOf}
 use Rattle.limit_forms.specs.Grid.{grid_of}
 use Rattle.limit_forms.proofs.GridReads.{length-grid_of}
 use Rattle.pivot_chain.proofs.Judged.{same_limit}
-use Rattle.factor_stack.specs.Image.{ImageOf}
 use Rattle.factor_stack.specs.Stored.{images_before, IsHeld, IsSaved}
 use Rattle.factor_stack.specs.Running.{IsRoom}
 use Rattle.factor_stack.specs.Stack.{IsImage}
