@@ -9,7 +9,8 @@ use Rattle.geo_model.specs.Row.{RowOf, IsRow, IsSparse, unit_at}
 use Rattle.geo_model.specs.Candidate.{CandidateOf, IsCandidate}
 use Rattle.geo_model.specs.Energy.{full_energy}
 use Rattle.geo_model.specs.Limit.{SquareOf, LimitOf, load}
-use Rattle.geo_model.specs.Network.{NetworkOf, IsNetwork, IsLimit}
+use Rattle.geo_model.specs.Network.{NetworkOf, IsNetwork, IsLimit, network_of_lists}
+use Rattle.geo_model.proofs.StationLemmas.{no_stations}
 use Rattle.geo_model.specs.declared.limit.LimitKind.TheVariants.{Added, Redundancy}
 use Rattle.geo_model.specs.declared.network.Unknown.{Unknown}
 
@@ -142,18 +143,18 @@ missed_bounds network inside is = record {
 -- ---- the networks
 
 same_lists : (unknowns : List Unknown) (candidates cs : List CandidateOf) (limits ls : List LimitOf) → candidates ≡ cs → limits ≡ ls →
-    IsNetwork (record { unknowns = unknowns; candidates = cs; limits = ls }) →
-    IsNetwork (record { unknowns = unknowns; candidates = candidates; limits = limits })
+    IsNetwork (network_of_lists unknowns cs ls) →
+    IsNetwork (network_of_lists unknowns candidates limits)
 same_lists unknowns candidates cs limits ls is limited whole =
-    subst (λ (c : List CandidateOf). IsNetwork (record { unknowns = unknowns; candidates = c; limits = limits })) (sym is)
-    (subst (λ (l : List LimitOf). IsNetwork (record { unknowns = unknowns; candidates = cs; limits = l })) (sym limited) whole)
+    subst (λ (c : List CandidateOf). IsNetwork (network_of_lists unknowns c limits)) (sym is)
+    (subst (λ (l : List LimitOf). IsNetwork (network_of_lists unknowns cs l)) (sym limited) whole)
 
 pub two_levels : (unknowns : List Unknown) (candidates : List CandidateOf) (limits : List LimitOf) (alpha : ℤ) → length unknowns ≡ 1 →
     candidates ≡ level (pos 10000) 5 ∷ level (pos 10000) 7 ∷ [] → limits ≡ height_limit ∷ redundancy_limit alpha 0 ∷ redundancy_limit alpha 1 ∷ [] →
-    pos 1 ≤ℤ alpha → alpha ≤ℤ pos 1000000 → IsNetwork (record { unknowns = unknowns; candidates = candidates; limits = limits })
+    pos 1 ≤ℤ alpha → alpha ≤ℤ pos 1000000 → IsNetwork (network_of_lists unknowns candidates limits)
 two_levels unknowns candidates limits alpha tall is limited low high =
     let network : NetworkOf =
-    record { unknowns = unknowns; candidates = level (pos 10000) 5 ∷ level (pos 10000) 7 ∷ []; limits = height_limit ∷ redundancy_limit alpha 0 ∷ redundancy_limit alpha 1 ∷ [] } in
+    network_of_lists unknowns (level (pos 10000) 5 ∷ level (pos 10000) 7 ∷ []) (height_limit ∷ redundancy_limit alpha 0 ∷ redundancy_limit alpha 1 ∷ []) in
     same_lists unknowns candidates network.candidates limits network.limits is limited (record {
       unknowns = omega arith;
       candidates = omega arith;
@@ -166,13 +167,14 @@ two_levels unknowns candidates limits alpha tall is limited low high =
           (two (IsLimit network) (redundancy_limit alpha 0) (redundancy_limit alpha 1)
           (redundancy_bounds network alpha 0 (omega arith) low high (omega arith)) (redundancy_bounds network alpha 1 (omega arith) low high (omega arith)));
       one_limit = λ i. omega arith;
+      stations = no_stations _;
     })
 
 pub missed : (unknowns : List Unknown) (candidates : List CandidateOf) (limits : List LimitOf) → length unknowns ≡ 1 →
     candidates ≡ level (pos 1000000) 5 ∷ [] → limits ≡ missed_limit ∷ [] →
-    IsNetwork (record { unknowns = unknowns; candidates = candidates; limits = limits })
+    IsNetwork (network_of_lists unknowns candidates limits)
 missed unknowns candidates limits tall is limited =
-    let network : NetworkOf = record { unknowns = unknowns; candidates = level (pos 1000000) 5 ∷ []; limits = missed_limit ∷ [] } in
+    let network : NetworkOf = network_of_lists unknowns (level (pos 1000000) 5 ∷ []) (missed_limit ∷ []) in
     same_lists unknowns candidates network.candidates limits network.limits is limited (record {
       unknowns = omega arith;
       candidates = omega arith;
@@ -181,4 +183,5 @@ missed unknowns candidates limits tall is limited =
       each_candidate = one (IsCandidate (length unknowns)) (level (pos 1000000) 5) (level_candidate (length unknowns) (pos 1000000) 5 (omega arith) (omega (arith, ints)) (omega (arith, ints)) (omega arith));
       each_limit = one (IsLimit network) missed_limit (missed_bounds network (omega arith) refl);
       one_limit = λ i. omega arith;
+      stations = no_stations _;
     })

@@ -8,7 +8,8 @@ use Rattle.geo_model.specs.Row.{IsRow, IsSparse, unit_at}
 use Rattle.geo_model.specs.Candidate.{CandidateOf, IsCandidate}
 use Rattle.geo_model.specs.Energy.{full_energy}
 use Rattle.geo_model.specs.Limit.{SquareOf, LimitOf, IsLoad, load}
-use Rattle.geo_model.specs.Network.{NetworkOf, IsNetwork, IsLimit}
+use Rattle.geo_model.specs.Network.{NetworkOf, IsNetwork, IsLimit, network_of_lists}
+use Rattle.geo_model.proofs.StationLemmas.{no_stations}
 use Rattle.geo_model.specs.declared.limit.LimitKind.TheVariants.{Height}
 use Rattle.geo_model.specs.declared.network.Unknown.{Unknown}
 
@@ -71,10 +72,10 @@ load_bounds n candidates tall = record {
 abbrev pub levels : List CandidateOf
 levels = level 5 ∷ level 7 ∷ level 9 ∷ []
 
-whole : (unknowns : List Unknown) → length unknowns ≡ 1 → IsNetwork (record { unknowns = unknowns; candidates = levels; limits = height_limit ∷ [] })
+whole : (unknowns : List Unknown) → length unknowns ≡ 1 → IsNetwork (network_of_lists unknowns levels (height_limit ∷ []))
 whole unknowns tall =
     let n = length unknowns in
-    let network : NetworkOf = record { unknowns = unknowns; candidates = levels; limits = height_limit ∷ [] } in
+    let network : NetworkOf = network_of_lists unknowns levels (height_limit ∷ []) in
     record {
       unknowns = omega arith;
       candidates = omega arith;
@@ -84,6 +85,7 @@ whole unknowns tall =
           (All-cons (IsCandidate n) (level 7) (level 9 ∷ []) (level_bounds n 7 tall (omega arith)) (one (IsCandidate n) (level 9) (level_bounds n 9 tall (omega arith))));
       each_limit = one (IsLimit network) height_limit (record { bounded = load_bounds n levels tall; owner = λ owner e. absurd (apart owner e); unowned = λ point. refl });
       one_limit = λ i. at_most_one (int_lt (pos 0) (load (square ∷ []) (unit_at i)));
+      stations = no_stations _;
     }
   where
     apart : (owner : ℕ) → None ≡ Some owner → ⊥
@@ -95,7 +97,7 @@ whole unknowns tall =
 
 -- three levels of 1.00 mm to one height with a limit of 0.9 mm
 pub three_levels : (unknowns : List Unknown) (candidates : List CandidateOf) (limits : List LimitOf) → length unknowns ≡ 1 → candidates ≡ levels → limits ≡ height_limit ∷ []
-    → IsNetwork (record { unknowns = unknowns; candidates = candidates; limits = limits })
+    → IsNetwork (network_of_lists unknowns candidates limits)
 three_levels unknowns candidates limits tall are limited_by =
-    subst (λ c. IsNetwork (record { unknowns = unknowns; candidates = c; limits = limits })) (sym are)
-    (subst (λ l. IsNetwork (record { unknowns = unknowns; candidates = levels; limits = l })) (sym limited_by) (whole unknowns tall))
+    subst (λ c. IsNetwork (network_of_lists unknowns c limits)) (sym are)
+    (subst (λ l. IsNetwork (network_of_lists unknowns levels l)) (sym limited_by) (whole unknowns tall))

@@ -1,52 +1,9 @@
 use Rattle.std.proofs.lemmas.Bool.{false≢true}
-use Rattle.std.proofs.Common.{◌≡◌, ◌<◌, ◌≤◌, ℕ, zero, suc, ◌+◌, ◌*◌, if◌then◌else◌, Bool, true, false, List, [], ◌∷◌, length, take, set, replicate, arith, refl, ap, ap₂, sym, Some, get_or}
-use Rattle.std.specs.Prelude.{slice_get, All}
-use Rattle.std.proofs.lemmas.List.Elements.{All-head, All-tail}
-use Rattle.geo_model.specs.Candidate.{CandidateOf, IsCandidate}
-use Rattle.geo_model.specs.Energy.{cost_of, IsWithin}
+use Rattle.std.proofs.Common.{◌≡◌, ℕ, zero, suc, Bool, true, false, List, [], ◌∷◌, length, set, replicate, refl, ap, Some}
+use Rattle.std.specs.Prelude.{slice_get}
+use Rattle.geo_model.specs.Energy.{IsWithin}
 
--- Laws of the price of a plan, and of plans within plans.
-
--- the price of one candidate, where it is chosen
-abbrev part_cost : Bool → CandidateOf → ℕ
-part_cost chosen candidate = if chosen then candidate.price else 0
-
-part_cost-le : (chosen : Bool) (candidate : CandidateOf) → part_cost chosen candidate ≤ candidate.price
-part_cost-le true candidate = omega arith
-part_cost-le false candidate = omega arith
-
-first_price : (first candidate : CandidateOf) (b chosen : Bool) (rest : List CandidateOf) (plan : List Bool) → candidate ≡ first → Some b ≡ Some chosen → cost_of (take 1 (first ∷ rest)) (b ∷ plan) ≡ 0 + part_cost chosen candidate
-first_price first candidate b chosen rest plan here flag =
-    let same : b ≡ chosen = cc in
-    let prices : part_cost b first ≡ part_cost chosen candidate = ap₂ part_cost same (sym here) in
-    omega arith
-
--- no plan of the first n candidates is dearer than n candidates of the highest price
-pub cost_of-take-le : (n unknowns : ℕ) (candidates : List CandidateOf) (plan : List Bool) → All (IsCandidate unknowns) candidates → cost_of (take n candidates) plan ≤ n * 1000000000
-cost_of-take-le zero unknowns candidates plan all = omega arith
-cost_of-take-le (suc n) unknowns [] plan all = omega arith
-cost_of-take-le (suc n) unknowns (candidate ∷ rest) [] all = omega arith
-cost_of-take-le (suc n) unknowns (candidate ∷ rest) (chosen ∷ plan) all =
-    omega (arith, part_cost-le chosen candidate, (All-head (IsCandidate unknowns) candidate rest all).price, cost_of-take-le n unknowns rest plan (All-tail (IsCandidate unknowns) candidate rest all))
-
--- the price of one candidate more
-pub cost_of-take-suc : (n : ℕ) (candidates : List CandidateOf) (plan : List Bool) (candidate : CandidateOf) (chosen : Bool) → n < length candidates → candidate ≡ get_or candidates n candidate → slice_get plan n ≡ Some chosen → cost_of (take (suc n) candidates) plan ≡ cost_of (take n candidates) plan + (if chosen then candidate.price else 0)
-cost_of-take-suc n [] plan candidate chosen inside here flag = absurd (omega arith)
-cost_of-take-suc n (first ∷ rest) [] candidate chosen inside here flag = absurd (cc)
-cost_of-take-suc zero (first ∷ rest) (b ∷ plan) candidate chosen inside here flag =
-    first_price first candidate b chosen rest plan here flag
-cost_of-take-suc (suc n) (first ∷ rest) (b ∷ plan) candidate chosen inside here flag =
-    let later : n < length rest = omega arith in
-    omega (arith, cost_of-take-suc n rest plan candidate chosen later here flag)
-
--- a larger plan costs at least as much
-pub cost_of-grows : (candidates : List CandidateOf) (small large : List Bool) → IsWithin small large → cost_of candidates small ≤ cost_of candidates large
-cost_of-grows [] small large within = omega arith
-cost_of-grows (candidate ∷ rest) [] large within = omega arith
-cost_of-grows (candidate ∷ rest) (few ∷ small) [] within = absurd within
-cost_of-grows (candidate ∷ rest) (false ∷ small) (more ∷ large) within = omega (arith, cost_of-grows rest small large within.1)
-cost_of-grows (candidate ∷ rest) (true ∷ small) (true ∷ large) within = omega (arith, cost_of-grows rest small large within.1)
-cost_of-grows (candidate ∷ rest) (true ∷ small) (false ∷ large) within = absurd (false≢true (within.0 refl))
+-- Laws of plans within plans.
 
 -- each plan is within itself
 pub IsWithin-refl : (plan : List Bool) → IsWithin plan plan

@@ -1,4 +1,4 @@
-use Rattle.std.specs.Prelude.{ℕ, ◌+◌, ℤ, pos, ◌+ℤ◌, if◌then◌else◌, IsTrue, Bool, List, [], ◌∷◌}
+use Rattle.std.specs.Prelude.{ℤ, pos, ◌+ℤ◌, if◌then◌else◌, IsTrue, Bool, List, [], ◌∷◌}
 use Rattle.whole_algebra.specs.Sums.{int_sum_by}
 use Rattle.geo_model.specs.Row.{Displaced}
 use Rattle.geo_model.specs.Candidate.{CandidateOf, candidate_energy}
@@ -16,12 +16,6 @@ energy (candidate ∷ rest) (chosen ∷ plan) x =
 -- the energy under the plan of all candidates
 abbrev pub full_energy : List CandidateOf → Displaced → ℤ
 full_energy candidates x = int_sum_by (λ candidate. candidate_energy candidate x) candidates
-
--- the price of a plan: the sum of the prices of its candidates
-abbrev pub cost_of : List CandidateOf → List Bool → ℕ
-cost_of [] plan = 0
-cost_of (candidate ∷ rest) [] = 0
-cost_of (candidate ∷ rest) (chosen ∷ plan) = (if chosen then candidate.price else 0) + cost_of rest plan
 
 -- each candidate of the first plan is in the second, and the plans are as long
 abbrev pub IsWithin : List Bool → List Bool → Type 0

@@ -8,3 +8,5 @@ pub mod Verdicts
 pub mod Nodes
 pub mod Cover
 pub mod Values
+pub mod Below
+pub mod Prices

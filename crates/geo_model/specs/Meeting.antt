@@ -1,6 +1,6 @@
-use Rattle.std.specs.Prelude.{◌≤◌, ◌*ℤ◌, ◌≤ℤ◌, ◌<ℤ◌, List, All, Bool}
+use Rattle.std.specs.Prelude.{◌*ℤ◌, ◌≤ℤ◌, ◌<ℤ◌, List, All, Bool}
 use Rattle.geo_model.specs.Row.{Displaced}
-use Rattle.geo_model.specs.Energy.{energy, cost_of, IsWithin}
+use Rattle.geo_model.specs.Energy.{energy, IsWithin}
 use Rattle.geo_model.specs.Limit.{LimitOf, load, IsInForce}
 use Rattle.geo_model.specs.Network.{NetworkOf, IsNetwork, IsLimit}
 
@@ -25,9 +25,3 @@ abbrev pub LargerPlansKeepLimits : Type 0
 LargerPlansKeepLimits =
     (network : NetworkOf) (limit : LimitOf) (small large : List Bool) → IsNetwork network → IsLimit network limit →
     IsWithin small large → MeetsLimit network small limit → MeetsLimit network large limit
-
--- a larger plan costs at least as much
-abbrev pub LargerPlansCostMore : Type 0
-LargerPlansCostMore =
-    (network : NetworkOf) (small large : List Bool) → IsWithin small large →
-    cost_of network.candidates small ≤ cost_of network.candidates large

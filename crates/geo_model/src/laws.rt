@@ -5,14 +5,15 @@ ghost use Rattle.geo_model.specs.Candidate.{CandidateOf};
 ghost use Rattle.geo_model.specs.Energy.{energy};
 ghost use Rattle.geo_model.specs.Limit.{SquareOf, IsLoad, load};
 ghost use Rattle.geo_model.specs.Network.{NetworkOf, IsNetwork};
-ghost use Rattle.geo_model.specs.Meeting.{LargerPlansKeepLimits, LargerPlansCostMore};
+ghost use Rattle.geo_model.specs.Meeting.{LargerPlansKeepLimits};
+ghost use Rattle.geo_model.specs.Prices.{LargerPlansCostMore};
 
 /// A limit that a plan meets is met by every larger plan.
 pub fn larger_plans_keep_limits()
     ensures { LargerPlansKeepLimits }
 {}
 
-/// A larger plan costs at least as much.
+/// A larger plan costs at least as much, whatever the prices of candidates and stations.
 pub fn larger_plans_cost_more()
     ensures { LargerPlansCostMore }
 {}

@@ -19,7 +19,9 @@ mod laws;
 mod limit;
 mod network;
 mod plan;
+mod price;
 mod row;
+mod stations;
 mod verdict;
 
 pub use answer::{Answer, Counts, SearchDone};
@@ -28,8 +30,9 @@ pub use displacement::Displacement;
 pub use forms::{breaks, candidate_energy, energy, load};
 pub use laws::{larger_plans_cost_more, larger_plans_keep_limits, sums_stay_within_128_bits};
 pub use limit::{Limit, LimitKind, Square};
-pub use network::{Component, Network, Unknown, cost};
+pub use network::{Component, Network, Unknown};
 pub use plan::{Node, Plan};
+pub use price::cost;
 pub use row::Row;
 pub use verdict::Verdict;
 

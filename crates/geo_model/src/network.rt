@@ -1,9 +1,9 @@
-ghost use Rattle.std.specs.Prelude.{◌≡◌, length};
-ghost use Rattle.geo_model.specs.Energy.{cost_of};
+ghost use Rattle.std.specs.Prelude.{◌≡◌, ◌<◌, ◌++◌, Some, length, slice_get, OnErr, OnOk};
 
 use crate::candidate::Candidate;
 use crate::limit::Limit;
-use crate::plan::Plan;
+use crate::stations::Stations;
+use geo_base::NoMemory;
 use std::marker::Model;
 
 /// What an unknown is of its point: a coordinate in mm, or the orientation of a station in cc.
@@ -29,28 +29,32 @@ pub struct Unknown {
 }
 
 /// A control network with its possible observations: unknowns, candidates and limits, each by its
-/// number from 0. It keeps bounds, so that no sum over it leaves 128 bits.
+/// number from 0, and the stations of the candidates. It keeps bounds, so that no sum over it leaves
+/// 128 bits.
 #[derive(Debug, Drop)]
 pub struct Network {
     unknowns: Vec<Unknown>,
     candidates: Vec<Candidate>,
     limits: Vec<Limit>,
+    // None: no candidate has a station.
+    stations: Option<Stations>,
 }
 
 impl Model for Network {
-    ghost use Rattle.geo_model.specs.Network.{NetworkOf, IsNetwork};
+    ghost use Rattle.std.specs.Prelude.{length};
+    ghost use Rattle.geo_model.specs.Network.{NetworkOf, IsNetwork, network_with, stations_or_none};
 
     ghost Value = { NetworkOf };
 
-    ghost view = { λ network. record { unknowns = network.unknowns.items; candidates = network.candidates.items; limits = network.limits.items } };
+    ghost view = { λ network. network_with network.unknowns.items network.candidates.items network.limits.items (stations_or_none (length network.candidates.items) network.stations) };
 
-    ghost invariant = { λ network. IsNetwork (record { unknowns = network.unknowns.items; candidates = network.candidates.items; limits = network.limits.items }) };
+    ghost invariant = { λ network. IsNetwork (network_with network.unknowns.items network.candidates.items network.limits.items (stations_or_none (length network.candidates.items) network.stations)) };
 }
 
 impl Network {
-    ghost use Rattle.geo_model.specs.Network.{IsNetwork};
+    ghost use Rattle.geo_model.specs.Network.{IsNetwork, AreStations, network_of_lists};
 
-    /// The network of these lists. It takes no memory.
+    /// The network of these lists, without stations. It takes no memory.
     ///
     /// There are at most 64 unknowns, 256 candidates with at most 512 rows together, and 20000
     /// limits. Each column of a row or a square is the number of an unknown.
@@ -65,14 +69,40 @@ impl Network {
     /// An owner is the number of a candidate. Axis and height limits have no owner, and at most one of
     /// them has a load at a displacement by 1 in one unknown.
     pub fn new(unknowns: Vec<Unknown>, candidates: Vec<Candidate>, limits: Vec<Limit>) -> Network
-        requires { IsNetwork (record { unknowns = unknowns.items; candidates = candidates.items; limits = limits.items }) }
-        ensures { result ≡ record { unknowns = unknowns.items; candidates = candidates.items; limits = limits.items } }
+        requires { IsNetwork (network_of_lists unknowns.items candidates.items limits.items) }
+        ensures { result ≡ network_of_lists unknowns.items candidates.items limits.items }
     {
         Network {
             unknowns,
             candidates,
             limits,
+            stations: None,
         }
+    }
+
+    /// Gives each candidate its station, if any, and each station, by its number from 0, its price.
+    /// There is an entry for each candidate, and there are at most 1000 prices, each at most
+    /// 1000000000. It takes no memory.
+    pub fn set_stations(&mut self, station_of: Vec<Option<u32>>, prices: Vec<u64>)
+        requires { AreStations (length self.old.candidates) station_of.items prices.items }
+        ensures { self.new ≡ record self.old { stations = station_of.items; station_prices = prices.items } }
+    {
+        self.stations = Some(Stations {
+            of_candidates: station_of,
+            prices,
+        });
+    }
+
+    /// Adds limits behind the others. With them the network is within the bounds that `new` asks for.
+    /// Refused for want of memory alone, and then as before.
+    pub fn add_limits(&mut self, limits: Vec<Limit>) -> Result<(), NoMemory>
+        requires { IsNetwork (record self.old { limits = self.old.limits ++ limits.items }) }
+        ensures added { OnOk result (self.new ≡ record self.old { limits = self.old.limits ++ limits.items }) }
+        ensures refused { OnErr result (self.new ≡ self.old) }
+    {
+        let mut limits = limits;
+        self.limits.append(&mut limits)?;
+        Ok(())
     }
 
     /// The unknowns, each by its number from 0: at most 64.
@@ -98,20 +128,26 @@ impl Network {
     {
         self.limits.as_slice()
     }
-}
 
-/// The price of a plan: the sum of the prices of its candidates. The plan has an entry for each
-/// candidate of the network.
-pub fn cost(network: &Network, plan: &Plan) -> u64
-    requires { length plan.now ≡ length network.now.candidates }
-    ensures { result ≡ cost_of network.now.candidates plan.now }
-{
-    let candidates = network.candidates();
-    let mut sum = 0;
-    for (i, candidate) in candidates.iter().enumerate() {
-        if plan.has(i as u32) {
-            sum += candidate.price;
+    /// The station of candidate `i`, by its number from 0, if it has one.
+    pub fn station_of(&self, i: u32) -> Option<u32>
+        requires { i < length self.now.candidates }
+        ensures { slice_get self.now.stations i ≡ Some result }
+    {
+        match &self.stations {
+            Some(stations) => stations.of_candidates[i as usize],
+            None => None,
         }
     }
-    sum
+
+    /// The price of each station, by its number from 0: at most 1000.
+    pub fn station_prices(&self) -> &[u64]
+        ensures value { result.now ≡ self.now.station_prices }
+        ensures bounds { IsNetwork self.now }
+    {
+        match &self.stations {
+            Some(stations) => stations.prices.as_slice(),
+            None => &[],
+        }
+    }
 }

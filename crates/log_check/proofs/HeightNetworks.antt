@@ -9,7 +9,8 @@ use Rattle.geo_model.specs.Row.{IsRow, IsSparse, unit_at}
 use Rattle.geo_model.specs.Candidate.{CandidateOf, IsCandidate}
 use Rattle.geo_model.specs.Energy.{full_energy}
 use Rattle.geo_model.specs.Limit.{SquareOf, LimitOf, IsLoad, load}
-use Rattle.geo_model.specs.Network.{NetworkOf, IsNetwork, IsLimit}
+use Rattle.geo_model.specs.Network.{NetworkOf, IsNetwork, IsLimit, network_of_lists}
+use Rattle.geo_model.proofs.StationLemmas.{no_stations}
 use Rattle.geo_model.specs.declared.limit.LimitKind.TheVariants.{Height, Redundancy}
 use Rattle.geo_model.specs.declared.network.Unknown.{Unknown}
 
@@ -119,9 +120,9 @@ one_of_three : (b : Bool) → 0 + cond b 1 0 + 0 + 0 ≤ 1
 one_of_three true = omega arith
 one_of_three false = omega arith
 
-pub one_level : (unknowns : List Unknown) (candidates : List CandidateOf) (limits : List LimitOf) (alpha : ℤ) → length unknowns ≡ 1 → candidates ≡ level 5 ∷ [] → limits ≡ height_limit alpha ∷ [] → pos 1 ≤ℤ alpha → alpha ≤ℤ pos 1000000 → IsNetwork (record { unknowns = unknowns; candidates = candidates; limits = limits })
+pub one_level : (unknowns : List Unknown) (candidates : List CandidateOf) (limits : List LimitOf) (alpha : ℤ) → length unknowns ≡ 1 → candidates ≡ level 5 ∷ [] → limits ≡ height_limit alpha ∷ [] → pos 1 ≤ℤ alpha → alpha ≤ℤ pos 1000000 → IsNetwork (network_of_lists unknowns candidates limits)
 one_level unknowns candidates limits alpha tall is limited low high =
-    let network : NetworkOf = record { unknowns = unknowns; candidates = level 5 ∷ []; limits = height_limit alpha ∷ [] } in
+    let network : NetworkOf = network_of_lists unknowns (level 5 ∷ []) (height_limit alpha ∷ []) in
     let whole : IsNetwork network = record {
       unknowns = omega arith;
       candidates = omega arith;
@@ -130,13 +131,14 @@ one_level unknowns candidates limits alpha tall is limited low high =
       each_candidate = one (IsCandidate (length unknowns)) (level 5) (level_candidate (length unknowns) 5 (omega arith) (omega arith));
       each_limit = one (IsLimit network) (height_limit alpha) (height_bounds network alpha (omega arith) low high);
       one_limit = λ i. one_of_one (int_lt (pos 0) (load (height_square ∷ []) (unit_at i)));
+      stations = no_stations _;
     } in
-    subst (λ (c : List CandidateOf). IsNetwork (record { unknowns = unknowns; candidates = c; limits = limits })) (sym is)
-    (subst (λ (l : List LimitOf). IsNetwork (record { unknowns = unknowns; candidates = level 5 ∷ []; limits = l })) (sym limited) whole)
+    subst (λ (c : List CandidateOf). IsNetwork (network_of_lists unknowns c limits)) (sym is)
+    (subst (λ (l : List LimitOf). IsNetwork (network_of_lists unknowns (level 5 ∷ []) l)) (sym limited) whole)
 
-pub two_levels : (unknowns : List Unknown) (candidates : List CandidateOf) (limits : List LimitOf) → length unknowns ≡ 1 → candidates ≡ level 5 ∷ level 7 ∷ [] → limits ≡ height_limit (pos 100) ∷ redundancy_limit 0 ∷ redundancy_limit 1 ∷ [] → IsNetwork (record { unknowns = unknowns; candidates = candidates; limits = limits })
+pub two_levels : (unknowns : List Unknown) (candidates : List CandidateOf) (limits : List LimitOf) → length unknowns ≡ 1 → candidates ≡ level 5 ∷ level 7 ∷ [] → limits ≡ height_limit (pos 100) ∷ redundancy_limit 0 ∷ redundancy_limit 1 ∷ [] → IsNetwork (network_of_lists unknowns candidates limits)
 two_levels unknowns candidates limits tall is limited =
-    let network : NetworkOf = record { unknowns = unknowns; candidates = level 5 ∷ level 7 ∷ []; limits = height_limit (pos 100) ∷ redundancy_limit 0 ∷ redundancy_limit 1 ∷ [] } in
+    let network : NetworkOf = network_of_lists unknowns (level 5 ∷ level 7 ∷ []) (height_limit (pos 100) ∷ redundancy_limit 0 ∷ redundancy_limit 1 ∷ []) in
     let whole : IsNetwork network = record {
       unknowns = omega arith;
       candidates = omega arith;
@@ -148,6 +150,7 @@ two_levels unknowns candidates limits tall is limited =
           (All-cons (IsLimit network) (redundancy_limit 0) (redundancy_limit 1 ∷ []) (redundancy_bounds network 0 (omega arith) (omega arith))
           (one (IsLimit network) (redundancy_limit 1) (redundancy_bounds network 1 (omega arith) (omega arith))));
       one_limit = λ i. one_of_three (int_lt (pos 0) (load (height_square ∷ []) (unit_at i)));
+      stations = no_stations _;
     } in
-    subst (λ (c : List CandidateOf). IsNetwork (record { unknowns = unknowns; candidates = c; limits = limits })) (sym is)
-    (subst (λ (l : List LimitOf). IsNetwork (record { unknowns = unknowns; candidates = level 5 ∷ level 7 ∷ []; limits = l })) (sym limited) whole)
+    subst (λ (c : List CandidateOf). IsNetwork (network_of_lists unknowns c limits)) (sym is)
+    (subst (λ (l : List LimitOf). IsNetwork (network_of_lists unknowns (level 5 ∷ level 7 ∷ []) l)) (sym limited) whole)

@@ -13,6 +13,7 @@ use Rattle.geo_model.specs.Candidate.{CandidateOf, IsCandidate, candidate_energy
 use Rattle.geo_model.specs.Energy.{full_energy}
 use Rattle.geo_model.specs.Limit.{LimitOf, is_point_limit, load}
 use Rattle.geo_model.specs.Network.{IsLimit, IsNetwork}
+use Rattle.geo_model.proofs.StationLemmas.{no_stations}
 use Rattle.geo_model.proofs.EnergyLemmas.{candidate_energy-nonneg, row_energy-nonneg}
 use Rattle.point_tables.specs.declared.record.PointRecord.{PointRecord}
 use Rattle.point_tables.specs.Accepted.{IsAccepted}
@@ -140,6 +141,7 @@ network-bounded points candidates q are =
         each_candidate = each;
         each_limit = limits-bounded q points unknowns built are.redundancy apart are.accepted each;
         one_limit = limits-one q points unknowns built;
+        stations = no_stations _;
       },
       most,
     )

@@ -10,7 +10,7 @@ use Rattle.geo_model.specs.declared.network.Component.TheVariants as component
 use Rattle.geo_model.specs.Row.{RowOf}
 use Rattle.geo_model.specs.Candidate.{CandidateOf}
 use Rattle.geo_model.specs.Limit.{LimitOf, SquareOf}
-use Rattle.geo_model.specs.Network.{NetworkOf}
+use Rattle.geo_model.specs.Network.{NetworkOf, network_of_lists}
 use Rattle.point_tables.specs.declared.record.PointRecord.{PointRecord}
 use Rattle.candidate_tables.specs.declared.kind.Kind.{Kind}
 use Rattle.candidate_tables.specs.declared.kind.Kind.TheVariants as kind
@@ -87,13 +87,13 @@ owned-is q owner place row alpha squares e f =
 
 pub network-is : (points : List PointRecord) (candidates : List CandidateRecord) (q : ℕ) (columns unknowns : List Unknown) (built : List CandidateOf) (limits : List LimitOf)
     → columns ≡ unknowns_of points candidates → unknowns ≡ columns → built ≡ map (candidate_of points columns) candidates → limits ≡ limits_of q points columns built
-    → ◌≡◌ {A = NetworkOf} (record { unknowns = unknowns; candidates = built; limits = limits }) (network_of points candidates q)
+    → ◌≡◌ {A = NetworkOf} (network_of_lists unknowns built limits) (network_of points candidates q)
 unfolding network_of
 network-is points candidates q columns unknowns built limits numbered same made given =
-    let first : ◌≡◌ {A = NetworkOf} (record { unknowns = unknowns; candidates = built; limits = limits }) (record { unknowns = columns; candidates = built; limits = limits }) =
-    ap (λ (us : List Unknown). record { unknowns = us; candidates = built; limits = limits }) same in
-    let second : ◌≡◌ {A = NetworkOf} (record { unknowns = columns; candidates = built; limits = limits }) (network_on q points columns built) =
-    ap (λ (ls : List LimitOf). record { unknowns = columns; candidates = built; limits = ls }) given in
+    let first : ◌≡◌ {A = NetworkOf} (network_of_lists unknowns built limits) (network_of_lists columns built limits) =
+    ap (λ (us : List Unknown). (network_of_lists us built limits)) same in
+    let second : ◌≡◌ {A = NetworkOf} (network_of_lists columns built limits) (network_on q points columns built) =
+    ap (λ (ls : List LimitOf). (network_of_lists columns built ls)) given in
     first
     ∙ second
     ∙ ap (network_on q points columns) made

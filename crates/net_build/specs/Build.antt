@@ -8,7 +8,7 @@ use Rattle.geo_model.specs.declared.network.Unknown.{Unknown}
 use Rattle.geo_model.specs.Row.{RowOf}
 use Rattle.geo_model.specs.Candidate.{CandidateOf}
 use Rattle.geo_model.specs.Limit.{SquareOf, LimitOf}
-use Rattle.geo_model.specs.Network.{NetworkOf}
+use Rattle.geo_model.specs.Network.{NetworkOf, network_of_lists}
 use Rattle.point_tables.specs.declared.fault.FaultKind.{FaultKind}
 use Rattle.point_tables.specs.declared.fault.FaultKind.TheVariants as fault
 use Rattle.point_tables.specs.declared.part.Part.{Part}
@@ -90,13 +90,9 @@ limits_of q points unknowns candidates = point_limits points unknowns ++ (if q =
 abbrev pub candidate_of : List PointRecord → List Unknown → CandidateRecord → CandidateOf
 candidate_of points unknowns candidate = record { price = candidate.price; rows = rows_of points unknowns candidate }
 
--- the network of these points, unknowns and candidates
+-- the network of these points, unknowns and candidates, without stations
 abbrev pub network_on : ℕ → List PointRecord → List Unknown → List CandidateOf → NetworkOf
-network_on q points unknowns candidates = record {
-  unknowns = unknowns;
-  candidates = candidates;
-  limits = limits_of q points unknowns candidates;
-}
+network_on q points unknowns candidates = network_of_lists unknowns candidates (limits_of q points unknowns candidates)
 
 -- the network of two tables, with a redundancy limit of q thousandths
 unfoldable pub network_of : List PointRecord → List CandidateRecord → ℕ → NetworkOf

@@ -8,7 +8,8 @@ use Rattle.geo_model.specs.Row.{IsRow, IsSparse, unit_at}
 use Rattle.geo_model.specs.Candidate.{CandidateOf, IsCandidate}
 use Rattle.geo_model.specs.Energy.{full_energy}
 use Rattle.geo_model.specs.Limit.{SquareOf, LimitOf, IsLoad, load}
-use Rattle.geo_model.specs.Network.{NetworkOf, IsNetwork, IsLimit}
+use Rattle.geo_model.specs.Network.{NetworkOf, IsNetwork, IsLimit, network_of_lists}
+use Rattle.geo_model.proofs.StationLemmas.{no_stations}
 use Rattle.geo_model.specs.declared.limit.LimitKind.{LimitKind}
 use Rattle.geo_model.specs.declared.limit.LimitKind.TheVariants.{Height, Added}
 use Rattle.geo_model.specs.declared.network.Unknown.{Unknown}
@@ -128,7 +129,7 @@ two_limits point unknown narrow wide = limit_on (Height point) unknown narrow �
 
 limited : (unknowns : List Unknown) (candidates : List CandidateOf) (point unknown : ℕ) (narrow wide : ℤ) → length unknowns ≤ 64 → unknown < length unknowns → length candidates ≤ 256
     → sum_by (λ candidate. length candidate.rows) candidates ≤ 512 → All (IsCandidate (length unknowns)) candidates → pos 1 ≤ℤ narrow → narrow ≤ℤ pos 1000000 → pos 1 ≤ℤ wide → wide ≤ℤ pos 1000000
-    → IsNetwork (record { unknowns = unknowns; candidates = candidates; limits = two_limits point unknown narrow wide })
+    → IsNetwork (network_of_lists unknowns candidates (two_limits point unknown narrow wide))
 limited unknowns candidates point unknown narrow wide few inside count rows each n0 n1 w0 w1 =
     record {
       unknowns = few;
@@ -136,22 +137,23 @@ limited unknowns candidates point unknown narrow wide few inside count rows each
       rows = rows;
       limits = omega arith;
       each_candidate = each;
-      each_limit = two (IsLimit (record { unknowns = unknowns; candidates = candidates; limits = two_limits point unknown narrow wide })) (limit_on (Height point) unknown narrow) (limit_on (Added 1) unknown wide)
-          (bounded_limit (record { unknowns = unknowns; candidates = candidates; limits = two_limits point unknown narrow wide }) (Height point) unknown narrow inside n0 n1)
-          (bounded_limit (record { unknowns = unknowns; candidates = candidates; limits = two_limits point unknown narrow wide }) (Added 1) unknown wide inside w0 w1);
+      each_limit = two (IsLimit (network_of_lists unknowns candidates (two_limits point unknown narrow wide))) (limit_on (Height point) unknown narrow) (limit_on (Added 1) unknown wide)
+          (bounded_limit (network_of_lists unknowns candidates (two_limits point unknown narrow wide)) (Height point) unknown narrow inside n0 n1)
+          (bounded_limit (network_of_lists unknowns candidates (two_limits point unknown narrow wide)) (Added 1) unknown wide inside w0 w1);
       one_limit = λ i. at_most_one (int_lt (pos 0) (load (square_on unknown ∷ []) (unit_at i)));
+      stations = no_stations _;
     }
 
 -- a network of these candidates and limits, told by equations
 told : (unknowns : List Unknown) (candidates is_candidates : List CandidateOf) (limits is_limits : List LimitOf) → candidates ≡ is_candidates → limits ≡ is_limits
-    → IsNetwork (record { unknowns = unknowns; candidates = is_candidates; limits = is_limits }) → IsNetwork (record { unknowns = unknowns; candidates = candidates; limits = limits })
+    → IsNetwork (network_of_lists unknowns is_candidates is_limits) → IsNetwork (network_of_lists unknowns candidates limits)
 told unknowns candidates is_candidates limits is_limits e f bounds =
-    subst (λ c. IsNetwork (record { unknowns = unknowns; candidates = c; limits = limits })) (sym e)
-    (subst (λ l. IsNetwork (record { unknowns = unknowns; candidates = is_candidates; limits = l })) (sym f) bounds)
+    subst (λ c. IsNetwork (network_of_lists unknowns c limits)) (sym e)
+    (subst (λ l. IsNetwork (network_of_lists unknowns is_candidates l)) (sym f) bounds)
 
 pub one_height : (unknowns : List Unknown) (candidates : List CandidateOf) (limits : List LimitOf) → length unknowns ≡ 1
     → candidates ≡ level_to 0 (pos 10000) ∷ [] → limits ≡ limit_on (Height 1) 0 (pos 100) ∷ limit_on (Added 1) 0 (pos 81) ∷ []
-    → IsNetwork (record { unknowns = unknowns; candidates = candidates; limits = limits })
+    → IsNetwork (network_of_lists unknowns candidates limits)
 one_height unknowns candidates limits tall is limited_by =
     let each : All (IsCandidate (length unknowns)) (level_to 0 (pos 10000) ∷ []) =
     one (IsCandidate (length unknowns)) (level_to 0 (pos 10000)) (candidate_to (length unknowns) 0 (pos 10000) (omega arith) (omega (arith, ints)) (omega (arith, ints))) in
@@ -164,10 +166,10 @@ line = level_to 0 (pos 40000) ∷ next_level 0 ∷ next_level 1 ∷ next_level 2
 abbrev line_limits : List LimitOf
 line_limits = limit_on (Height 4) 3 (pos 100) ∷ limit_on (Added 1) 3 (pos 121) ∷ limit_on (Added 2) 0 (pos 2500) ∷ []
 
-line_bounds : (unknowns : List Unknown) → length unknowns ≡ 4 → IsNetwork (record { unknowns = unknowns; candidates = line; limits = line_limits })
+line_bounds : (unknowns : List Unknown) → length unknowns ≡ 4 → IsNetwork (network_of_lists unknowns line line_limits)
 line_bounds unknowns tall =
     let n = length unknowns in
-    let network : NetworkOf = record { unknowns = unknowns; candidates = line; limits = line_limits } in
+    let network : NetworkOf = network_of_lists unknowns line line_limits in
     record {
       unknowns = omega arith;
       candidates = omega arith;
@@ -180,6 +182,7 @@ line_bounds unknowns tall =
           (bounded_limit network (Added 1) 3 (pos 121) (omega arith) (omega (arith, ints)) (omega (arith, ints)))
           (bounded_limit network (Added 2) 0 (pos 2500) (omega arith) (omega (arith, ints)) (omega (arith, ints)));
       one_limit = λ i. one_of_three (int_lt (pos 0) (load (square_on 3 ∷ []) (unit_at i)));
+      stations = no_stations _;
     }
   where
     one_of_three : (b : Bool) → 0 + cond b 1 0 + 0 + 0 ≤ 1
@@ -189,7 +192,7 @@ line_bounds unknowns tall =
 pub levelling_line : (unknowns : List Unknown) (candidates : List CandidateOf) (limits : List LimitOf) → length unknowns ≡ 4
     → candidates ≡ level_to 0 (pos 40000) ∷ next_level 0 ∷ next_level 1 ∷ next_level 2 ∷ []
     → limits ≡ limit_on (Height 4) 3 (pos 100) ∷ limit_on (Added 1) 3 (pos 121) ∷ limit_on (Added 2) 0 (pos 2500) ∷ []
-    → IsNetwork (record { unknowns = unknowns; candidates = candidates; limits = limits })
+    → IsNetwork (network_of_lists unknowns candidates limits)
 levelling_line unknowns candidates limits tall is limited_by = told unknowns candidates line limits line_limits is limited_by (line_bounds unknowns tall)
 
 -- ---- two heights at the very bound of a limit
@@ -236,10 +239,10 @@ tight_load n e =
       diagonal = λ i lt. tight_diagonal i (omega arith);
     }
 
-tight_bounds : (unknowns : List Unknown) → length unknowns ≡ 2 → IsNetwork (record { unknowns = unknowns; candidates = fine_levels; limits = tight_limit ∷ [] })
+tight_bounds : (unknowns : List Unknown) → length unknowns ≡ 2 → IsNetwork (network_of_lists unknowns fine_levels (tight_limit ∷ []))
 tight_bounds unknowns tall =
     let n = length unknowns in
-    let network : NetworkOf = record { unknowns = unknowns; candidates = fine_levels; limits = tight_limit ∷ [] } in
+    let network : NetworkOf = network_of_lists unknowns fine_levels (tight_limit ∷ []) in
     record {
       unknowns = omega arith;
       candidates = omega arith;
@@ -249,6 +252,7 @@ tight_bounds unknowns tall =
           (candidate_to n 0 (pos 1000000) (omega arith) (omega (arith, ints)) (omega (arith, ints))) (candidate_to n 1 (pos 1000000) (omega arith) (omega (arith, ints)) (omega (arith, ints)));
       each_limit = one (IsLimit network) tight_limit (record { bounded = tight_load n tall; owner = λ owner e. absurd (apart owner e); unowned = λ point. refl });
       one_limit = λ i. omega arith;
+      stations = no_stations _;
     }
   where
     apart : (owner : ℕ) → None ≡ Some owner → ⊥
@@ -256,5 +260,5 @@ tight_bounds unknowns tall =
 
 pub two_heights : (unknowns : List Unknown) (candidates : List CandidateOf) (limits : List LimitOf) → length unknowns ≡ 2
     → candidates ≡ fine_levels → limits ≡ tight_limit ∷ []
-    → IsNetwork (record { unknowns = unknowns; candidates = candidates; limits = limits })
+    → IsNetwork (network_of_lists unknowns candidates limits)
 two_heights unknowns candidates limits tall is limited_by = told unknowns candidates fine_levels limits (tight_limit ∷ []) is limited_by (tight_bounds unknowns tall)

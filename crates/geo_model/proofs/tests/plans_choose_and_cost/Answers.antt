@@ -4,8 +4,9 @@ use Rattle.std.specs.Prelude.{All}
 use Rattle.geo_model.specs.Row.{RowOf, IsRow}
 use Rattle.geo_model.specs.Candidate.{CandidateOf, IsCandidate}
 use Rattle.geo_model.specs.Limit.{LimitOf}
-use Rattle.geo_model.specs.Network.{IsNetwork, IsLimit}
+use Rattle.geo_model.specs.Network.{IsNetwork, IsLimit, network_of_lists}
 use Rattle.geo_model.specs.declared.network.Unknown.{Unknown}
+use Rattle.geo_model.proofs.StationLemmas.{no_stations}
 use Rattle.geo_model.proofs.tests.plans_choose_and_cost.Goals as goal
 
 abbrev no_rows : ℕ → CandidateOf
@@ -22,7 +23,7 @@ two-each =
     All-cons (IsCandidate 0) (no_rows 5) (no_rows 7 ∷ []) (no_rows-bounds 5 (lit≤ tt))
     (All-cons (IsCandidate 0) (no_rows 7) [] (no_rows-bounds 7 (lit≤ tt)) (All-nil (IsCandidate 0)))
 
-two-network : (unknowns : List Unknown) (candidates : List CandidateOf) (limits : List LimitOf) → unknowns ≡ [] → candidates ≡ two → limits ≡ [] → IsNetwork (record { unknowns = unknowns; candidates = candidates; limits = limits })
+two-network : (unknowns : List Unknown) (candidates : List CandidateOf) (limits : List LimitOf) → unknowns ≡ [] → candidates ≡ two → limits ≡ [] → IsNetwork (network_of_lists unknowns candidates limits)
 two-network unknowns candidates limits no_unknowns are no_limits =
     rw no_unknowns (rw are (rw no_limits (record {
       unknowns = lit≤ tt;
@@ -30,8 +31,9 @@ two-network unknowns candidates limits no_unknowns are no_limits =
       rows = lit≤ tt;
       limits = lit≤ tt;
       each_candidate = two-each;
-      each_limit = All-nil (IsLimit (record { unknowns = []; candidates = two; limits = [] }));
+      each_limit = All-nil (IsLimit (network_of_lists [] two []));
       one_limit = λ i. lit≤ tt;
+      stations = no_stations 2;
     })))
 
 pub new-network-requires : goal.new-network-requires
