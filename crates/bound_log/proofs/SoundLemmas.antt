@@ -1,18 +1,20 @@
 use Rattle.std.proofs.Common.{◌≡◌, ◌<◌, ℕ, zero, suc, Bool, true, false, List, [], ◌∷◌, length, replicate, arith, refl, ap, sym, Some, subst, ◌⊎◌, inl, inr}
 use Rattle.std.specs.Prelude.{slice_get, All}
 use Rattle.std.proofs.lemmas.Option.{get_or_from_slice_get, slice_get_within}
-use Rattle.geo_model.specs.Energy.{cost_of, IsWithin}
+use Rattle.geo_model.specs.Energy.{IsWithin}
 use Rattle.geo_model.specs.Limit.{LimitOf, IsInForce}
 use Rattle.geo_model.specs.Meeting.{MeetsLimits, MeetsLimit}
 use Rattle.geo_model.specs.Network.{NetworkOf, IsNetwork, IsLimit}
 use Rattle.geo_model.specs.declared.plan.Node.{Node}
-use Rattle.geo_model.proofs.PlanLemmas.{cost_of-grows, IsWithin-with, IsWithin-without, IsWithin-none, IsWithin-all, IsWithin-length}
+use Rattle.geo_model.specs.Prices.{PricesOf, HasStationPrices, plan_price, prices_of}
+use Rattle.geo_model.proofs.PriceLemmas.{plan_price-grows, network_stations}
+use Rattle.geo_model.proofs.PlanLemmas.{IsWithin-with, IsWithin-without, IsWithin-none, IsWithin-all, IsWithin-length}
 use Rattle.pivot_chain.proofs.Verdicts.{refuted_fails}
 use Rattle.bound_log.specs.declared.bound.Bound.{Bound}
 use Rattle.bound_log.specs.declared.bound.Bound.TheVariants.{NoPlan, AtLeast}
 use Rattle.bound_log.specs.Bound.{lesser, IsAtMost}
-use Rattle.bound_log.specs.LogTree.{root_of, with_chosen, without_chosen, IsAllowed, leaf_bound, bound_at, HasBound}
-use Rattle.bound_log.specs.Sound.{IsLowerBound}
+use Rattle.bound_log.specs.LogTree.{root_of, with_chosen, without_chosen, IsAllowed, leaf_bound_for, bound_for, HasBoundFor, HasBound}
+use Rattle.bound_log.specs.Sound.{IsLowerBoundFor, IsLowerBound}
 use Rattle.bound_log.specs.declared.log_leaf.LogLeaf.TheVariants.{Cost, Pivot}
 use Rattle.bound_log.specs.Tree.{Tree, fork, tip}
 use Rattle.bound_log.proofs.AllowedLemmas.{pivot_refuted, split_open}
@@ -65,30 +67,34 @@ each_named_meets network number limit plan all named =
     at_place (λ l. IsInForce l plan → MeetsLimit network plan l) network.limits number limit all named
 
 -- each plan between the inner and the upper plan of a node that meets the limits costs at least the bound
-pub bound_at-below : (network : NetworkOf) (node : Node) (tree : Tree) → IsNetwork network → IsAllowed network node tree → (plan : List Bool) → IsWithin node.inside plan → IsWithin plan node.upper → MeetsLimits network plan → IsAtMost (bound_at network node tree) (cost_of network.candidates plan)
-unfolding leaf_bound
-bound_at-below network node (tip Cost) bounds allowed plan above below meets = cost_of-grows network.candidates node.inside plan above
-bound_at-below network node (tip (Pivot number)) bounds allowed plan above below meets =
+pub bound_for-below : (prices : PricesOf) (network : NetworkOf) (node : Node) (tree : Tree) → IsNetwork network → IsAllowed network node tree → (plan : List Bool) → IsWithin node.inside plan → IsWithin plan node.upper → MeetsLimits network plan → IsAtMost (bound_for prices network node tree) (plan_price prices plan)
+unfolding leaf_bound_for
+bound_for-below prices network node (tip Cost) bounds allowed plan above below meets = plan_price-grows prices node.inside plan above
+bound_for-below prices network node (tip (Pivot number)) bounds allowed plan above below meets =
     let by = pivot_refuted network node number allowed in
     let limit : LimitOf = by.limit in
     let kept : IsLimit network limit = each_named network number limit bounds.each_limit by.named in
     let met : MeetsLimit network plan limit =
     each_named_meets network number limit plan meets by.named (IsInForce-grows limit node.inside plan above by.owned) in
     absurd (refuted_fails network plan node.upper limit bounds kept below by.refuted met)
-bound_at-below network node (fork candidate with_it without_it) bounds allowed plan above below meets =
+bound_for-below prices network node (fork candidate with_it without_it) bounds allowed plan above below meets =
     let inside : candidate < length plan = omega (arith, IsWithin-length plan node.upper below, slice_get_within node.upper candidate true (split_open network node candidate allowed.0).in_upper) in
     elim (entry_at plan candidate inside) [
-      | inl has ↦ IsAtMost-lesser_left (bound_at network (with_chosen node candidate) with_it) (bound_at network (without_chosen node candidate) without_it) (cost_of network.candidates plan)
-          (bound_at-below network (with_chosen node candidate) with_it bounds allowed.1 plan (IsWithin-with node.inside plan candidate above has) below meets)
-      | inr lacks ↦ IsAtMost-lesser_right (bound_at network (with_chosen node candidate) with_it) (bound_at network (without_chosen node candidate) without_it) (cost_of network.candidates plan)
-          (bound_at-below network (without_chosen node candidate) without_it bounds allowed.2 plan above (IsWithin-without plan node.upper candidate below lacks) meets)
+      | inl has ↦ IsAtMost-lesser_left (bound_for prices network (with_chosen node candidate) with_it) (bound_for prices network (without_chosen node candidate) without_it) (plan_price prices plan)
+          (bound_for-below prices network (with_chosen node candidate) with_it bounds allowed.1 plan (IsWithin-with node.inside plan candidate above has) below meets)
+      | inr lacks ↦ IsAtMost-lesser_right (bound_for prices network (with_chosen node candidate) with_it) (bound_for prices network (without_chosen node candidate) without_it) (plan_price prices plan)
+          (bound_for-below prices network (without_chosen node candidate) without_it bounds allowed.2 plan above (IsWithin-without plan node.upper candidate below lacks) meets)
     ]
 
--- the bound of a log is a lower bound
-pub HasBound-below : (network : NetworkOf) (text : List ℕ) (bound : Bound) → IsNetwork network → HasBound network text bound → IsLowerBound network bound
-HasBound-below network text bound bounds log = λ plan long meets.
-    let below : IsAtMost (bound_at network (root_of network) log.tree) (cost_of network.candidates plan) =
-    bound_at-below network (root_of network) log.tree bounds log.log.allowed plan
+-- the bound of a log is a lower bound, under any prices
+pub HasBoundFor-below : (prices : PricesOf) (network : NetworkOf) (text : List ℕ) (bound : Bound) → HasStationPrices prices → IsNetwork network → HasBoundFor prices network text bound → IsLowerBoundFor prices network bound
+HasBoundFor-below prices network text bound stations bounds log = λ plan long meets.
+    let below : IsAtMost (bound_for prices network (root_of network) log.tree) (plan_price prices plan) =
+    bound_for-below prices network (root_of network) log.tree bounds log.log.allowed plan
     (subst (λ (n : ℕ). IsWithin (replicate n false) plan) long (IsWithin-none plan))
     (subst (λ (n : ℕ). IsWithin plan (replicate n true)) long (IsWithin-all plan)) meets in
-    subst (λ (b : Bound). IsAtMost b (cost_of network.candidates plan)) (sym log.least) below
+    subst (λ (b : Bound). IsAtMost b (plan_price prices plan)) (sym log.least) below
+
+-- .. under those of the network
+pub HasBound-below : (network : NetworkOf) (text : List ℕ) (bound : Bound) → IsNetwork network → HasBound network text bound → IsLowerBound network bound
+HasBound-below network text bound bounds log = HasBoundFor-below (prices_of network) network text bound (network_stations network bounds) bounds log

@@ -1,8 +1,8 @@
 use Rattle.std.specs.Prelude.{◌≡◌, ℕ, ◌<◌, true, false, List, length, Some, slice_get, slice_set}
-use Rattle.geo_model.specs.Energy.{cost_of}
 use Rattle.geo_model.specs.Limit.{LimitOf, IsInForce}
 use Rattle.geo_model.specs.Network.{NetworkOf}
 use Rattle.geo_model.specs.Nodes.{all_plans}
+use Rattle.geo_model.specs.Prices.{PricesOf, plan_price, prices_of}
 use Rattle.geo_model.specs.declared.plan.Node.{Node}
 use Rattle.geo_model.specs.declared.verdict.Verdict.TheVariants.{Refuted}
 use Rattle.pivot_chain.specs.Verdict.{verdict_of}
@@ -56,25 +56,36 @@ IsAllowed network node (fork candidate with_it without_it) =
     IsAllowed network (with_chosen node candidate) with_it ×
     IsAllowed network (without_chosen node candidate) without_it
 
--- the bound of a leaf at a node: the price of the inner plan, or that no plan is left
-unfoldable pub leaf_bound : NetworkOf → Node → LogLeaf → Bound
-leaf_bound network node Cost = AtLeast (cost_of network.candidates node.inside)
-leaf_bound network node (Pivot limit) = NoPlan
+-- the bound of a leaf at a node under these prices: the price of the inner plan, or that no plan is left
+unfoldable pub leaf_bound_for : PricesOf → NetworkOf → Node → LogLeaf → Bound
+leaf_bound_for prices network node Cost = AtLeast (plan_price prices node.inside)
+leaf_bound_for prices network node (Pivot limit) = NoPlan
 
--- the bound of a tree at a node: the least bound of its leaves
+-- the bound of a tree at a node under these prices: the least bound of its leaves
+abbrev pub bound_for : PricesOf → NetworkOf → Node → Tree → Bound
+bound_for prices network node (tip end) = leaf_bound_for prices network node end
+bound_for prices network node (fork candidate with_it without_it) =
+    lesser (bound_for prices network (with_chosen node candidate) with_it)
+    (bound_for prices network (without_chosen node candidate) without_it)
+
+-- the bounds of a leaf and of a tree under the network's own prices
+abbrev pub leaf_bound : NetworkOf → Node → LogLeaf → Bound
+leaf_bound network node end = leaf_bound_for (prices_of network) network node end
+
 abbrev pub bound_at : NetworkOf → Node → Tree → Bound
-bound_at network node (tip end) = leaf_bound network node end
-bound_at network node (fork candidate with_it without_it) =
-    lesser (bound_at network (with_chosen node candidate) with_it)
-    (bound_at network (without_chosen node candidate) without_it)
+bound_at network node tree = bound_for (prices_of network) network node tree
 
 -- a text is a log of the network, with this tree
 pub record IsLog (network : NetworkOf) (text : List ℕ) (tree : Tree) : Type 0 where
   pub spells : Spells text tree
   pub allowed : IsAllowed network (root_of network) tree
 
--- a text is a log of the network, and this is its bound
-pub record HasBound (network : NetworkOf) (text : List ℕ) (bound : Bound) : Type 0 where
+-- a text is a log of the network, and this is its bound under these prices
+pub record HasBoundFor (prices : PricesOf) (network : NetworkOf) (text : List ℕ) (bound : Bound) : Type 0 where
   pub tree : Tree
   pub log : IsLog network text tree
-  pub least : bound ≡ bound_at network (root_of network) tree
+  pub least : bound ≡ bound_for prices network (root_of network) tree
+
+-- a text is a log of the network, and this is its bound
+abbrev pub HasBound : NetworkOf → List ℕ → Bound → Type 0
+HasBound network text bound = HasBoundFor (prices_of network) network text bound

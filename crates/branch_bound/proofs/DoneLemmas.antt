@@ -2,12 +2,14 @@ use Rattle.std.proofs.Common.{◌≡◌, ◌<◌, ◌≤◌, ℕ, Bool, true, fa
 use Rattle.std.specs.Prelude.{slice_get}
 use Rattle.std.proofs.lemmas.Bool.{cases_lt, cases_Bool, false≢true}
 use Rattle.std.proofs.lemmas.Option.{slice_get_within, slice_get-get_or}
-use Rattle.geo_model.specs.Energy.{cost_of, IsWithin}
+use Rattle.geo_model.specs.Energy.{IsWithin}
+use Rattle.geo_model.specs.Prices.{price_of, prices_of}
 use Rattle.geo_model.specs.Limit.{IsInForce}
 use Rattle.geo_model.specs.Network.{NetworkOf, IsNetwork, IsLimit}
 use Rattle.geo_model.specs.declared.plan.Node.{Node}
 use Rattle.geo_model.specs.declared.verdict.Verdict.TheVariants.{Met}
-use Rattle.geo_model.proofs.PlanLemmas.{cost_of-grows, IsWithin-with, IsWithin-without, IsWithin-length}
+use Rattle.geo_model.proofs.PriceLemmas.{plan_price-grows}
+use Rattle.geo_model.proofs.PlanLemmas.{IsWithin-with, IsWithin-without, IsWithin-length}
 use Rattle.pivot_chain.specs.Verdict.{verdict_of}
 use Rattle.pivot_chain.proofs.Verdicts.{met_sound, refuted_fails}
 use Rattle.bound_log.specs.declared.bound.Bound.{Bound}
@@ -39,52 +41,52 @@ less_than_bound : (a b : ℕ) → a < b → a ≤ b
 less_than_bound a b less = omega arith
 
 -- a plan that costs no less than a covered one is covered
-IsCovered-dearer : (network : NetworkOf) (found : Best) (plan other : List Bool) → cost_of network.candidates plan ≤ cost_of network.candidates other →
+IsCovered-dearer : (network : NetworkOf) (found : Best) (plan other : List Bool) → price_of network plan ≤ price_of network other →
     IsCovered network found plan → IsCovered network found other
 IsCovered-dearer network best.NoPlan plan other le covered = covered
 IsCovered-dearer network (best.Certified kept) plan other le covered = omega arith
 IsCovered-dearer network (best.Unsettled kept) plan other le covered = omega arith
 
 covered_price : (network : NetworkOf) (found : Best) (plan : List Bool) → IsCovered network found plan →
-    best_bound network found ≡ lesser (best_bound network found) (AtLeast (cost_of network.candidates plan))
+    best_bound network found ≡ lesser (best_bound network found) (AtLeast (price_of network plan))
 covered_price network best.NoPlan plan covered = absurd covered
-covered_price network (best.Certified kept) plan covered = first_least (cost_of network.candidates kept) (cost_of network.candidates plan) covered
+covered_price network (best.Certified kept) plan covered = first_least (price_of network kept) (price_of network plan) covered
 covered_price network (best.Unsettled kept) plan covered =
-    first_least (cost_of network.candidates kept) (cost_of network.candidates plan) (less_than_bound (cost_of network.candidates kept) (cost_of network.candidates plan) covered)
+    first_least (price_of network kept) (price_of network plan) (less_than_bound (price_of network kept) (price_of network plan) covered)
 
 uncovered_price : (network : NetworkOf) (found : Best) (plan : List Bool) → (IsCovered network found plan → ⊥) →
-    AtLeast (cost_of network.candidates plan) ≡ lesser (best_bound network found) (AtLeast (cost_of network.candidates plan))
+    AtLeast (price_of network plan) ≡ lesser (best_bound network found) (AtLeast (price_of network plan))
 uncovered_price network best.NoPlan plan uncovered = refl
 uncovered_price network (best.Certified kept) plan uncovered =
-    let less = not_le (cost_of network.candidates kept) (cost_of network.candidates plan) uncovered in
-    second_least (cost_of network.candidates kept) (cost_of network.candidates plan) (less_than_bound (cost_of network.candidates plan) (cost_of network.candidates kept) less)
+    let less = not_le (price_of network kept) (price_of network plan) uncovered in
+    second_least (price_of network kept) (price_of network plan) (less_than_bound (price_of network plan) (price_of network kept) less)
 uncovered_price network (best.Unsettled kept) plan uncovered =
-    second_least (cost_of network.candidates kept) (cost_of network.candidates plan) (not_lt (cost_of network.candidates kept) (cost_of network.candidates plan) uncovered)
+    second_least (price_of network kept) (price_of network plan) (not_lt (price_of network kept) (price_of network plan) uncovered)
 
 -- a plan that isn't covered costs less than each one that is
 uncovered_less : (network : NetworkOf) (found : Best) (plan other : List Bool) → (IsCovered network found plan → ⊥) → IsCovered network found other →
-    cost_of network.candidates plan < cost_of network.candidates other
+    price_of network plan < price_of network other
 uncovered_less network best.NoPlan plan other uncovered covered = absurd covered
 uncovered_less network (best.Certified kept) plan other uncovered covered =
-    let less = not_le (cost_of network.candidates kept) (cost_of network.candidates plan) uncovered in omega arith
+    let less = not_le (price_of network kept) (price_of network plan) uncovered in omega arith
 uncovered_less network (best.Unsettled kept) plan other uncovered covered =
-    let less = not_lt (cost_of network.candidates kept) (cost_of network.candidates plan) uncovered in omega arith
+    let less = not_lt (price_of network kept) (price_of network plan) uncovered in omega arith
 
-above_price : (network : NetworkOf) (found : Best) (plan : List Bool) → (IsBelow (cost_of network.candidates plan) (best_bound network found) → ⊥) →
-    best_bound network found ≡ lesser (best_bound network found) (AtLeast (cost_of network.candidates plan))
+above_price : (network : NetworkOf) (found : Best) (plan : List Bool) → (IsBelow (price_of network plan) (best_bound network found) → ⊥) →
+    best_bound network found ≡ lesser (best_bound network found) (AtLeast (price_of network plan))
 above_price network best.NoPlan plan above = absurd (above tt)
 above_price network (best.Certified kept) plan above =
-    first_least (cost_of network.candidates kept) (cost_of network.candidates plan) (not_lt (cost_of network.candidates plan) (cost_of network.candidates kept) above)
+    first_least (price_of network kept) (price_of network plan) (not_lt (price_of network plan) (price_of network kept) above)
 above_price network (best.Unsettled kept) plan above =
-    first_least (cost_of network.candidates kept) (cost_of network.candidates plan) (not_lt (cost_of network.candidates plan) (cost_of network.candidates kept) above)
+    first_least (price_of network kept) (price_of network plan) (not_lt (price_of network plan) (price_of network kept) above)
 
 -- a node is cut off by its price
 pub IsDone-cut_off : (network : NetworkOf) (node : Node) (found : Best) → IsKept network found → IsCovered network found node.inside →
-    IsDone network node (AtLeast (cost_of network.candidates node.inside)) found found
+    IsDone network node (AtLeast (price_of network node.inside)) found found
 IsDone-cut_off network node found kept cut = record {
   price = covered_price network found node.inside cut;
   kept = kept;
-  covered = λ other certified above below. IsCovered-dearer network found node.inside other (cost_of-grows network.candidates node.inside other above) cut;
+  covered = λ other certified above below. IsCovered-dearer network found node.inside other (plan_price-grows (prices_of network) node.inside other above) cut;
   still = λ other covered. covered;
 }
 
@@ -109,14 +111,14 @@ IsDone-refuted network node number found bounds kept refuted = record {
 
 -- the inner plan is certified, and becomes the best one
 pub IsDone-certified : (network : NetworkOf) (node : Node) (found : Best) (plan : List Bool) → plan ≡ node.inside → IsCertified network node.inside →
-    (IsCovered network found node.inside → ⊥) → IsDone network node (AtLeast (cost_of network.candidates node.inside)) found (best.Certified plan)
+    (IsCovered network found node.inside → ⊥) → IsDone network node (AtLeast (price_of network node.inside)) found (best.Certified plan)
 IsDone-certified network node found plan same certified uncovered =
-    subst (λ (p : List Bool). IsDone network node (AtLeast (cost_of network.candidates node.inside)) found (best.Certified p)) (sym same)
+    subst (λ (p : List Bool). IsDone network node (AtLeast (price_of network node.inside)) found (best.Certified p)) (sym same)
     (record {
       price = uncovered_price network found node.inside uncovered;
       kept = certified;
-      covered = λ other _ above below. cost_of-grows network.candidates node.inside other above;
-      still = λ other covered. less_than_bound (cost_of network.candidates node.inside) (cost_of network.candidates other) (uncovered_less network found node.inside other uncovered covered);
+      covered = λ other _ above below. plan_price-grows (prices_of network) node.inside other above;
+      still = λ other covered. less_than_bound (price_of network node.inside) (price_of network other) (uncovered_less network found node.inside other uncovered covered);
     })
 
 -- plans within one another are the same
@@ -139,9 +141,9 @@ unsettled_empty network node other same unsettled certified above below =
 -- the inner plan is the node's only one and unsettled, and becomes the best one
 pub IsDone-unsettled : (network : NetworkOf) (node : Node) (found : Best) (plan : List Bool) → plan ≡ node.inside → node.inside ≡ node.upper →
     IsUnsettled network node.inside → (IsCovered network found node.inside → ⊥) →
-    IsDone network node (AtLeast (cost_of network.candidates node.inside)) found (best.Unsettled plan)
+    IsDone network node (AtLeast (price_of network node.inside)) found (best.Unsettled plan)
 IsDone-unsettled network node found plan copied same unsettled uncovered =
-    subst (λ (p : List Bool). IsDone network node (AtLeast (cost_of network.candidates node.inside)) found (best.Unsettled p)) (sym copied)
+    subst (λ (p : List Bool). IsDone network node (AtLeast (price_of network node.inside)) found (best.Unsettled p)) (sym copied)
     (record {
       price = uncovered_price network found node.inside uncovered;
       kept = unsettled;
@@ -151,8 +153,8 @@ IsDone-unsettled network node found plan copied same unsettled uncovered =
 
 -- .. or stays behind one that is as cheap
 pub IsDone-undercut : (network : NetworkOf) (node : Node) (found : Best) → IsKept network found → node.inside ≡ node.upper →
-    IsUnsettled network node.inside → (IsBelow (cost_of network.candidates node.inside) (best_bound network found) → ⊥) →
-    IsDone network node (AtLeast (cost_of network.candidates node.inside)) found found
+    IsUnsettled network node.inside → (IsBelow (price_of network node.inside) (best_bound network found) → ⊥) →
+    IsDone network node (AtLeast (price_of network node.inside)) found found
 IsDone-undercut network node found kept same unsettled above_it = record {
   price = above_price network found node.inside above_it;
   kept = kept;

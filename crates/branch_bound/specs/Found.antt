@@ -1,5 +1,6 @@
 use Rattle.std.specs.Prelude.{◌≡◌, ℕ, ◌<◌, ◌≤◌, ℤ, Bool, List}
-use Rattle.geo_model.specs.Energy.{cost_of, IsWithin}
+use Rattle.geo_model.specs.Energy.{IsWithin}
+use Rattle.geo_model.specs.Prices.{price_of}
 use Rattle.geo_model.specs.Network.{NetworkOf}
 use Rattle.geo_model.specs.declared.answer.Answer.{Answer}
 use Rattle.geo_model.specs.declared.answer.Answer.TheVariants as answer
@@ -16,8 +17,8 @@ use Rattle.branch_bound.specs.Searched.{IsCertified, IsUnsettled, IsFirstOpen}
 -- the price of the best plan, as a bound
 abbrev pub best_bound : NetworkOf → Best → Bound
 best_bound network best.NoPlan = NoPlan
-best_bound network (best.Certified plan) = AtLeast (cost_of network.candidates plan)
-best_bound network (best.Unsettled plan) = AtLeast (cost_of network.candidates plan)
+best_bound network (best.Certified plan) = AtLeast (price_of network plan)
+best_bound network (best.Unsettled plan) = AtLeast (price_of network plan)
 
 -- the best plan is what it is called
 abbrev pub IsKept : NetworkOf → Best → Type 0
@@ -28,8 +29,8 @@ IsKept network (best.Unsettled plan) = IsUnsettled network plan
 -- a plan is covered by the best one: it costs no less, and where the best one is unsettled it costs more
 abbrev pub IsCovered : NetworkOf → Best → List Bool → Type 0
 IsCovered network best.NoPlan other = ⊥
-IsCovered network (best.Certified plan) other = cost_of network.candidates plan ≤ cost_of network.candidates other
-IsCovered network (best.Unsettled plan) other = cost_of network.candidates plan < cost_of network.candidates other
+IsCovered network (best.Certified plan) other = price_of network plan ≤ price_of network other
+IsCovered network (best.Unsettled plan) other = price_of network plan < price_of network other
 
 -- a price is below a bound
 abbrev pub IsBelow : ℕ → Bound → Type 0

@@ -1,5 +1,5 @@
 use Rattle.std.specs.Prelude.{◌≡◌, ◌≢◌, ℕ, ◌<◌, ℤ, pos, ◌≤ℤ◌, Bool, List, length, Some, slice_get}
-use Rattle.geo_model.specs.Energy.{cost_of}
+use Rattle.geo_model.specs.Prices.{price_of}
 use Rattle.geo_model.specs.Limit.{LimitOf, IsInForce}
 use Rattle.geo_model.specs.Network.{NetworkOf}
 use Rattle.geo_model.specs.Verdicts.{IsCertifiedBy, IsUnsettledBy}
@@ -41,7 +41,7 @@ pub record IsOpenLimit (network : NetworkOf) (plan : List Bool) (number step : �
 -- a certified plan whose price is the bound
 pub record IsBest (network : NetworkOf) (bound : Bound) (plan : List Bool) : Type 0 where
   pub certified : IsCertified network plan
-  pub price : bound ≡ AtLeast (cost_of network.candidates plan)
+  pub price : bound ≡ AtLeast (price_of network plan)
 
 -- the first limit in force for a plan whose verdict is Open, with its step and interval
 pub record IsFirstOpen (network : NetworkOf) (plan : List Bool) (number step : ℕ) (lo hi : ℤ) : Type 0 where
@@ -53,8 +53,8 @@ pub record IsFirstOpen (network : NetworkOf) (plan : List Bool) (number step : �
 -- an unsettled plan whose price is the bound, where every certified plan costs more
 pub record IsUndecided (network : NetworkOf) (bound : Bound) (plan : List Bool) (limit step : ℕ) (lo hi : ℤ) : Type 0 where
   pub unsettled : IsUnsettled network plan
-  pub price : bound ≡ AtLeast (cost_of network.candidates plan)
-  pub dearer : (other : List Bool) → IsCertified network other → cost_of network.candidates plan < cost_of network.candidates other
+  pub price : bound ≡ AtLeast (price_of network plan)
+  pub dearer : (other : List Bool) → IsCertified network other → price_of network plan < price_of network other
   pub open_limit : IsFirstOpen network plan limit step lo hi
 
 -- an answer fits a bound

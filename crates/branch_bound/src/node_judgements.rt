@@ -1,6 +1,6 @@
 //! What the search asks of a node.
 ghost use Rattle.std.specs.Prelude.{◌≡◌, ◌↔◌, ◌<◌, ℕ, length, IsTrue, IfSome, IfNone, IfOk};
-ghost use Rattle.geo_model.specs.Energy.{cost_of};
+ghost use Rattle.geo_model.specs.Prices.{price_of};
 ghost use Rattle.geo_model.specs.Network.{IsNetwork};
 ghost use Rattle.pivot_chain.specs.Room.{IsRoomOf};
 ghost use Rattle.bound_log.specs.LogTree.{IsRefutedBy};
@@ -111,7 +111,7 @@ fn is_cut_off(network: &Network, plan: &Plan, best: &Best) -> bool
 fn is_cheaper(network: &Network, plan: &Plan, best: &Best) -> bool
     requires plan { length plan.now ≡ length network.now.candidates }
     requires kept { IsKept network.now best.now }
-    ensures { IsTrue result ↔ IsBelow (cost_of network.now.candidates plan.now) (best_bound network.now best.now) }
+    ensures { IsTrue result ↔ IsBelow (price_of network.now plan.now) (best_bound network.now best.now) }
 {
     let price = cost(network, plan);
     match best {

@@ -7,7 +7,7 @@ use Rattle.geo_model.specs.Candidate.{CandidateOf, IsCandidate}
 use Rattle.geo_model.specs.Cover.{chosen_sum}
 use Rattle.geo_model.specs.Energy.{IsWithin}
 use Rattle.geo_model.specs.Network.{NetworkOf, IsNetwork}
-use Rattle.geo_model.specs.Prices.{PricesOf, chooses, chooses_at, is_station, uses_station, station_part, stations_price, plan_price, prices_of}
+use Rattle.geo_model.specs.Prices.{PricesOf, HasStationPrices, chooses, chooses_at, is_station, uses_station, station_part, stations_price, plan_price, prices_of}
 use Rattle.geo_model.proofs.BelowLemmas.{sum_below-more, sum_below-le, any_below-some, chosen_at}
 use Rattle.geo_model.proofs.PlanLemmas.{IsWithin-length}
 
@@ -137,3 +137,8 @@ candidate_price-few network n candidate kept inside here =
 -- the price of a station of a network
 pub station_price-few : (network : NetworkOf) (k : ℕ) → IsNetwork network → k < length network.station_prices → get_or network.station_prices k 0 ≤ 1000000000
 station_price-few network k kept inside = kept.stations.price k 0 inside
+
+-- each station of a network has a price
+pub network_stations : (network : NetworkOf) → IsNetwork network → HasStationPrices (prices_of network)
+unfolding prices_of
+network_stations network kept = kept.stations.in_range

@@ -7,7 +7,7 @@ use Rattle.shelf_io.specs.States.{ShelfState}
 use Rattle.branch_bound.specs.declared.search_fault.SearchFault.{SearchFault}
 use Rattle.branch_bound.specs.declared.search_fault.SearchFault.TheVariants as search
 use Rattle.branch_bound.specs.Searched.{IsAnswer, IsCertified}
-use Rattle.geo_model.specs.Energy.{cost_of}
+use Rattle.geo_model.specs.Prices.{price_of}
 use Rattle.geo_model.specs.Network.{IsNetwork}
 use Rattle.geo_model.specs.declared.answer.Answer.{Answer}
 use Rattle.geo_model.specs.declared.answer.Answer.TheVariants as answer
@@ -96,7 +96,7 @@ module _ (tables : TablesOf) (name : List ℕ) (before now : ShelfState) (bound 
       (λ said. record {
         plan = plan;
         counts = counts;
-        leaves = leaves_as (AtLeast (cost_of tables.network.candidates plan)) is.price;
+        leaves = leaves_as (AtLeast (price_of tables.network plan)) is.price;
         certified = is.certified;
         meets = certified_meets tables.network plan leaves.network is.certified.certified;
         precise = means plan (certified_meets tables.network plan leaves.network is.certified.certified);
@@ -114,7 +114,7 @@ module _ (tables : TablesOf) (name : List ℕ) (before now : ShelfState) (bound 
         lo = lo;
         hi = hi;
         counts = counts;
-        leaves = leaves_as (AtLeast (cost_of tables.network.candidates plan)) is.price;
+        leaves = leaves_as (AtLeast (price_of tables.network plan)) is.price;
         unsettled = is.unsettled;
         dearer = is.dearer;
         open_limit = is.open_limit;
@@ -169,7 +169,7 @@ module _ (tables : TablesOf) (name : List ℕ) (before middle now : ShelfState) 
   Plans-before status.Found text found = record {
     plan = found.plan;
     counts = found.counts;
-    leaves = LeavesLog-before (priced (cost_of tables.network.candidates found.plan) found.counts) found.leaves;
+    leaves = LeavesLog-before (priced (price_of tables.network found.plan) found.counts) found.leaves;
     certified = found.certified;
     meets = found.meets;
     precise = found.precise;
@@ -190,7 +190,7 @@ module _ (tables : TablesOf) (name : List ℕ) (before middle now : ShelfState) 
     lo = left.lo;
     hi = left.hi;
     counts = left.counts;
-    leaves = LeavesLog-before (priced (cost_of tables.network.candidates left.plan) left.counts) left.leaves;
+    leaves = LeavesLog-before (priced (price_of tables.network left.plan) left.counts) left.leaves;
     unsettled = left.unsettled;
     dearer = left.dearer;
     open_limit = left.open_limit;

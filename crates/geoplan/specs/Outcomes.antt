@@ -3,7 +3,7 @@ use Rattle.std.specs.Option.{ForSome}
 use Rattle.shelf_io.specs.Files.{Files, bytes_of, with_bytes}
 use Rattle.shelf_io.specs.Faults.{Rose, KeepsFaults, read_of, write_of}
 use Rattle.shelf_io.specs.States.{ShelfState}
-use Rattle.geo_model.specs.Energy.{cost_of}
+use Rattle.geo_model.specs.Prices.{price_of}
 use Rattle.geo_model.specs.Meeting.{MeetsLimits}
 use Rattle.covariance_words.specs.Meaning.{HoldsAndIsPrecise}
 use Rattle.geo_model.specs.Network.{IsNetwork}
@@ -51,7 +51,7 @@ priced price counts = record { bound = AtLeast price; counts = counts }
 pub record FindsPlan (tables : TablesOf) (name : List ℕ) (before now : ShelfState) (text : List ℕ) : Type 0 where
   pub plan : List Bool
   pub counts : Counts
-  pub leaves : LeavesLog tables name (priced (cost_of tables.network.candidates plan) counts) before now
+  pub leaves : LeavesLog tables name (priced (price_of tables.network plan) counts) before now
   pub certified : IsCertified tables.network plan
   pub meets : MeetsLimits tables.network plan
   pub precise : HoldsAndIsPrecise tables.points tables.network tables.redundancy plan
@@ -73,9 +73,9 @@ pub record LeavesOpen (tables : TablesOf) (name : List ℕ) (before now : ShelfS
   pub lo : ℤ
   pub hi : ℤ
   pub counts : Counts
-  pub leaves : LeavesLog tables name (priced (cost_of tables.network.candidates plan) counts) before now
+  pub leaves : LeavesLog tables name (priced (price_of tables.network plan) counts) before now
   pub unsettled : IsUnsettled tables.network plan
-  pub dearer : (other : List Bool) → IsCertified tables.network other → cost_of tables.network.candidates plan < cost_of tables.network.candidates other
+  pub dearer : (other : List Bool) → IsCertified tables.network other → price_of tables.network plan < price_of tables.network other
   pub open_limit : IsFirstOpen tables.network plan number step lo hi
   pub printed : text ≡ tables_undecided_text tables plan open_limit.here.limit.kind step lo hi
 

@@ -81,12 +81,12 @@ log_fault_text fault = codes "refused," ++ (decimal fault.line ++ (codes "," ++ 
 
 -- .. of a plan of their candidates
 abbrev pub tables_plan_text : TablesOf → List Bool → List ℕ
-tables_plan_text tables plan = plan_text (candidate.names_of tables.candidates) tables.network.candidates plan
+tables_plan_text tables plan = plan_text (candidate.names_of tables.candidates) tables.network plan
 
 -- .. of such a plan that is not decided, with the kind of its open limit, the step and the interval
 abbrev pub tables_undecided_text : TablesOf → List Bool → LimitKind → ℕ → ℤ → ℤ → List ℕ
 tables_undecided_text tables plan kind step lo hi =
-    undecided_text (candidate.names_of tables.candidates) tables.network.candidates plan
+    undecided_text (candidate.names_of tables.candidates) tables.network plan
     (open_text (which_text (point.names_of tables.points) (candidate.names_of tables.candidates) kind) step lo hi)
 
 -- .. of the unknowns and the rows of their network

@@ -2,7 +2,7 @@
 ghost use Rattle.std.specs.Prelude.{◌≡◌, ℕ, List, Some};
 ghost use Rattle.std.specs.Option.{ForSome};
 ghost use Rattle.shelf_io.specs.States.{ShelfState, SinkState};
-ghost use Rattle.geo_model.specs.Energy.{cost_of};
+ghost use Rattle.geo_model.specs.Prices.{price_of};
 ghost use Rattle.bound_log.specs.declared.bound.Bound.TheVariants.{NoPlan};
 ghost use Rattle.geoplan.specs.Checked.{planning, ChecksWith};
 ghost use Rattle.geoplan.specs.CommandOf.{SourcesOf, CommandOf, FileOf, command_of};
@@ -19,7 +19,7 @@ pub fn what_plan_writes_check_accepts()
     ensures plan { (words : List (List ℕ)) (sources : SourcesOf) (tables : TablesOf) (before now : ShelfState) (text : List ℕ) →
         command_of words ≡ Some (planning sources) → AreHeldTables (planning sources) before.held tables →
         (found : FindsPlan tables sources.log before now text) →
-        ForSome now.held (ChecksWith sources tables (priced (cost_of tables.network.candidates found.plan) found.counts)) }
+        ForSome now.held (ChecksWith sources tables (priced (price_of tables.network found.plan) found.counts)) }
     ensures none { (words : List (List ℕ)) (sources : SourcesOf) (tables : TablesOf) (before now : ShelfState) (text : List ℕ) →
         command_of words ≡ Some (planning sources) → AreHeldTables (planning sources) before.held tables →
         (found : FindsNone tables sources.log before now text) →
@@ -27,7 +27,7 @@ pub fn what_plan_writes_check_accepts()
     ensures undecided { (words : List (List ℕ)) (sources : SourcesOf) (tables : TablesOf) (before now : ShelfState) (text : List ℕ) →
         command_of words ≡ Some (planning sources) → AreHeldTables (planning sources) before.held tables →
         (left : LeavesOpen tables sources.log before now text) →
-        ForSome now.held (ChecksWith sources tables (priced (cost_of tables.network.candidates left.plan) left.counts)) }
+        ForSome now.held (ChecksWith sources tables (priced (price_of tables.network left.plan) left.counts)) }
 {}
 
 /// Over a shelf and a sink of which no call fails, what statuses 5 and 6 say doesn't come.

@@ -1,6 +1,6 @@
 -- What a line of each kind does at the next node.
 use Rattle.std.proofs.Common.{◌≡◌, ℕ, List, [], ◌∷◌, sym, ap, ◌∙◌, subst}
-use Rattle.geo_model.specs.Energy.{cost_of}
+use Rattle.geo_model.specs.Prices.{price_of}
 use Rattle.geo_model.specs.Network.{NetworkOf}
 use Rattle.geo_model.specs.declared.plan.Node.{Node}
 use Rattle.bound_log.specs.declared.bound.Bound.TheVariants.{AtLeast}
@@ -11,7 +11,7 @@ use Rattle.bound_log.specs.declared.log_leaf.LogLeaf.TheVariants.{Cost, Pivot}
 use Rattle.bound_log.specs.Bound.{lesser}
 use Rattle.bound_log.specs.Counted.{counts_with}
 use Rattle.bound_log.specs.Lines.{kind_of}
-use Rattle.bound_log.specs.LogTree.{with_chosen, without_chosen, leaf_bound}
+use Rattle.bound_log.specs.LogTree.{with_chosen, without_chosen, leaf_bound, leaf_bound_for}
 use Rattle.bound_log.proofs.BoundLemmas.{lesser_none}
 use Rattle.log_check.specs.declared.progress.Progress.{Progress}
 use Rattle.log_check.specs.Places.{OpenOf}
@@ -45,12 +45,12 @@ leaf_taken network node rest line end before counted now is stack bound counts n
 
 -- ---- the end of a node
 
-pub closed_by_price : (network : NetworkOf) (node : Node) (rest : List Node) (end : LogLeaf) (before now : Progress) → end ≡ Cost → EndsAt rest (AtLeast (cost_of network.candidates node.inside)) before now → EndsAt rest (leaf_bound network node end) before now
-unfolding leaf_bound
+pub closed_by_price : (network : NetworkOf) (node : Node) (rest : List Node) (end : LogLeaf) (before now : Progress) → end ≡ Cost → EndsAt rest (AtLeast (price_of network node.inside)) before now → EndsAt rest (leaf_bound network node end) before now
+unfolding leaf_bound_for
 closed_by_price network node rest end before now is ends = subst (λ (e : LogLeaf). EndsAt rest (leaf_bound network node e) before now) (sym is) ends
 
 pub closed_by_pivot : (network : NetworkOf) (node : Node) (rest : List Node) (end : LogLeaf) (limit : ℕ) (before now : Progress) → end ≡ Pivot limit → now.stack ≡ record { candidates = before.stack.candidates; nodes = rest } → now.bound ≡ before.bound → now.counts ≡ before.counts → now.lines ≡ before.lines → EndsAt rest (leaf_bound network node end) before now
-unfolding leaf_bound
+unfolding leaf_bound_for
 closed_by_pivot network node rest end limit before now is stack bound counts numbered =
     subst (λ (e : LogLeaf). EndsAt rest (leaf_bound network node e) before now) (sym is)
     (record { stack = stack; least = bound ∙ sym (lesser_none before.bound); counted = counts; numbered = numbered })

@@ -1,6 +1,6 @@
 //! How far a replay has come.
 ghost use Rattle.std.specs.Prelude.{◌≡◌, ◌<◌, ◌≤◌, List, [], ◌∷◌, length, IfOk};
-ghost use Rattle.geo_model.specs.Energy.{cost_of};
+ghost use Rattle.geo_model.specs.Prices.{price_of};
 ghost use Rattle.geo_model.specs.Nodes.{all_plans};
 ghost use Rattle.geo_model.specs.declared.plan.Node.{Node as NodeOf};
 ghost use Rattle.bound_log.specs.declared.bound.Bound.TheVariants.{NoPlan, AtLeast};
@@ -79,7 +79,7 @@ impl Progress {
         requires ready { IsReady network.now self.old.stack }
         requires some { 0 < length self.old.stack.nodes }
         ensures { (node : NodeOf) (rest : List NodeOf) → self.old.stack.nodes ≡ node ∷ rest →
-            EndsAt rest (AtLeast (cost_of network.now.candidates node.inside)) self.old self.new }
+            EndsAt rest (AtLeast (price_of network.now node.inside)) self.old self.new }
     {
         let price = cost(network, &self.stack.top().inside);
         self.bound = lesser_bound(self.bound, u128::from(price));

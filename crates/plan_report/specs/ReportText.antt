@@ -2,8 +2,8 @@
 use Rattle.std.specs.Prelude.{ℕ, ◌+◌, ℤ, List, [], ◌∷◌, ◌++◌, Bool, if◌then◌else◌, codes, get_or}
 use Rattle.std.specs.Fmt.{decimal}
 use Rattle.text_num.specs.Whole.{whole_text}
-use Rattle.geo_model.specs.Candidate.{CandidateOf}
-use Rattle.geo_model.specs.Energy.{cost_of}
+use Rattle.geo_model.specs.Network.{NetworkOf}
+use Rattle.geo_model.specs.Prices.{price_of}
 use Rattle.geo_model.specs.declared.answer.Counts.{Counts}
 use Rattle.geo_model.specs.declared.limit.LimitKind.{LimitKind}
 use Rattle.geo_model.specs.declared.limit.LimitKind.TheVariants as limit
@@ -28,9 +28,9 @@ abbrev pub price_text : List ℕ → ℕ → List ℕ
 price_text word price = word ++ (decimal price ++ codes "\n")
 
 -- the report of a plan: its price, its candidates, and the bound of its log, which is its price
-unfoldable pub plan_text : List (List ℕ) → List CandidateOf → List Bool → List ℕ
-plan_text names candidates plan =
-    codes "plan\n" ++ (price_text (codes "cost ") (cost_of candidates plan) ++ (takes_text names plan ++ price_text (codes "bound ") (cost_of candidates plan)))
+unfoldable pub plan_text : List (List ℕ) → NetworkOf → List Bool → List ℕ
+plan_text names network plan =
+    codes "plan\n" ++ (price_text (codes "cost ") (price_of network plan) ++ (takes_text names plan ++ price_text (codes "bound ") (price_of network plan)))
 
 -- the report that no plan meets the limits
 abbrev pub no_plan_text : List ℕ
@@ -52,9 +52,9 @@ abbrev pub open_text : List ℕ → ℕ → ℤ → ℤ → List ℕ
 open_text which step lo hi = codes "open," ++ (which ++ (codes "," ++ (decimal step ++ (codes "," ++ interval_text lo hi))))
 
 -- the report of a plan that is not decided, with the line of its open limit
-unfoldable pub undecided_text : List (List ℕ) → List CandidateOf → List Bool → List ℕ → List ℕ
-undecided_text names candidates plan line =
-    codes "undecided\n" ++ (price_text (codes "cost ") (cost_of candidates plan) ++ (takes_text names plan ++ (line ++ price_text (codes "bound ") (cost_of candidates plan))))
+unfoldable pub undecided_text : List (List ℕ) → NetworkOf → List Bool → List ℕ → List ℕ
+undecided_text names network plan line =
+    codes "undecided\n" ++ (price_text (codes "cost ") (price_of network plan) ++ (takes_text names plan ++ (line ++ price_text (codes "bound ") (price_of network plan))))
 
 -- ---- a log that is accepted
 

@@ -56,7 +56,7 @@ pub fn found_report(
 ) -> Result<Vec<u8>, NoMemory>
     requires long { length plan.now ≡ length network.now.candidates }
     requires named { length candidates.now ≡ length network.now.candidates }
-    ensures { IfOk result (λ text. text.items ≡ plan_text (names_of candidates.now) network.now.candidates plan.now) }
+    ensures { IfOk result (λ text. text.items ≡ plan_text (names_of candidates.now) network.now plan.now) }
 {
     let price = cost(network, plan);
     let mut text = Vec::from_slice(alloc, b"plan\n")?;
@@ -77,7 +77,7 @@ pub fn undecided_report(
 ) -> Result<Vec<u8>, NoMemory>
     requires long { length plan.now ≡ length network.now.candidates }
     requires named { length candidates.now ≡ length network.now.candidates }
-    ensures { IfOk result (λ text. text.items ≡ undecided_text (names_of candidates.now) network.now.candidates plan.now line.now) }
+    ensures { IfOk result (λ text. text.items ≡ undecided_text (names_of candidates.now) network.now plan.now line.now) }
 {
     let price = cost(network, plan);
     let mut text = Vec::from_slice(alloc, b"undecided\n")?;

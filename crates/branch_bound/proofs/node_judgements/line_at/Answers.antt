@@ -1,33 +1,33 @@
 use Rattle.std.proofs.lemmas.Bool.{iff_false}
-use Rattle.bound_log.specs.LogTree.{leaf_bound}
+use Rattle.bound_log.specs.LogTree.{leaf_bound_for}
 use Rattle.bound_log.proofs.AllowedLemmas.{cost_allowed, pivot_allowed}
 use Rattle.branch_bound.proofs.VerdictLemmas.{unsettled_by}
 use Rattle.branch_bound.proofs.DoneLemmas.{IsDone-cut_off, IsDone-refuted, IsDone-certified, IsDone-unsettled, IsDone-undercut}
 use Rattle.branch_bound.proofs.node_judgements.line_at.Goals as goal
 
 pub returns-then-is_cut_off-clause-line : goal.returns-then-is_cut_off-clause-line
-unfolding leaf_bound
+unfolding leaf_bound_for
 returns-then-is_cut_off-clause-line c = record {
   allowed = cost_allowed c.args.network.now c.args.node.now;
   done = IsDone-cut_off c.args.network.now c.args.node.now c.args.best.now c.requires.kept (c.is_cut_off.ensures.0 c.if-is_cut_off.true);
 }
 
 pub returns-in-Some-clause-line : goal.returns-in-Some-clause-line
-unfolding leaf_bound
+unfolding leaf_bound_for
 returns-in-Some-clause-line c = record {
   allowed = pivot_allowed c.args.network.now c.args.node.now c.in-Some.limit c.in-Some.ensures.found;
   done = IsDone-refuted c.args.network.now c.args.node.now c.in-Some.limit c.args.best.now c.in-Some.ensures.bounds c.requires.kept c.in-Some.ensures.found;
 }
 
 pub returns-in_default-unmet_limit-clause-line : goal.returns-in_default-unmet_limit-clause-line
-unfolding leaf_bound
+unfolding leaf_bound_for
 returns-in_default-unmet_limit-clause-line c = record {
   allowed = cost_allowed c.args.network.now c.args.node.now;
   done = IsDone-certified c.args.network.now c.args.node.now c.args.best.now c.in_ok-copy.field-0 c.in_ok-copy.ensures c.in_default-unmet_limit.ensures.none (iff_false c.is_cut_off.ensures c.if-is_cut_off.false);
 }
 
 pub returns-in_ok-copy-2-clause-line : goal.returns-in_ok-copy-2-clause-line
-unfolding leaf_bound
+unfolding leaf_bound_for
 returns-in_ok-copy-2-clause-line c = record {
   allowed = cost_allowed c.args.network.now c.args.node.now;
   done = IsDone-unsettled c.args.network.now c.args.node.now c.args.best.now c.in_ok-copy-2.field-0 c.in_ok-copy-2.ensures c.in_default-branch_candidate.ensures.none
@@ -36,7 +36,7 @@ returns-in_ok-copy-2-clause-line c = record {
 }
 
 pub returns-else-is_cheaper-clause-line : goal.returns-else-is_cheaper-clause-line
-unfolding leaf_bound
+unfolding leaf_bound_for
 returns-else-is_cheaper-clause-line c = record {
   allowed = cost_allowed c.args.network.now c.args.node.now;
   done = IsDone-undercut c.args.network.now c.args.node.now c.args.best.now c.requires.kept c.in_default-branch_candidate.ensures.none
