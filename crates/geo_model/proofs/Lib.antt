@@ -1,5 +1,7 @@
 pub mod BelowLemmas
+pub mod DualLemmas
 pub mod EnergyLemmas
+pub mod IntSums
 pub mod PlanLemmas
 pub mod PriceLemmas
 pub mod SizeLemmas

@@ -10,3 +10,4 @@ pub mod Cover
 pub mod Values
 pub mod Below
 pub mod Prices
+pub mod Dual

@@ -1,5 +1,5 @@
 -- Limits with another value, and the redundancy limit of any row. This project's own.
-use Rattle.std.specs.Prelude.{ℕ, ◌*◌, ◌≤◌, ℤ, pos, ◌-ℤ◌, ◌*ℤ◌, List, [], ◌∷◌, Some, length}
+use Rattle.std.specs.Prelude.{ℕ, ◌*◌, ◌≤◌, ℤ, pos, ◌-ℤ◌, ◌*ℤ◌, [], ◌∷◌, Some, length}
 use Rattle.geo_model.specs.Row.{RowOf}
 use Rattle.geo_model.specs.Limit.{SquareOf, LimitOf, IsLoad}
 use Rattle.geo_model.specs.Network.{NetworkOf}

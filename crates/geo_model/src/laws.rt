@@ -7,6 +7,7 @@ ghost use Rattle.geo_model.specs.Limit.{SquareOf, IsLoad, load};
 ghost use Rattle.geo_model.specs.Network.{NetworkOf, IsNetwork};
 ghost use Rattle.geo_model.specs.Meeting.{LargerPlansKeepLimits};
 ghost use Rattle.geo_model.specs.Prices.{LargerPlansCostMore};
+ghost use Rattle.geo_model.specs.Dual.{PlansCostTheDualBound};
 
 /// A limit that a plan meets is met by every larger plan.
 pub fn larger_plans_keep_limits()
@@ -29,4 +30,10 @@ pub fn sums_stay_within_128_bits()
         → pos 1 ≤ℤ alpha → alpha ≤ℤ pos 1000000 → unsigned_abs (alpha *ℤ energy network.candidates plan x) < 2 ^ 125 }
     ensures load { (unknowns : ℕ) (candidates : List CandidateOf) (alpha : ℤ) (squares : List SquareOf) (x : Displaced)
         → IsLoad unknowns candidates alpha squares → IsNarrow x → unsigned_abs (load squares x) < 2 ^ 120 }
+{}
+
+/// Each plan of a node that satisfies covering inequalities costs at least the dual bound of their
+/// multipliers, whatever the prices of candidates and stations.
+pub fn plans_cost_the_dual_bound()
+    ensures { PlansCostTheDualBound }
 {}

@@ -28,7 +28,10 @@ pub use answer::{Answer, Counts, SearchDone};
 pub use candidate::Candidate;
 pub use displacement::Displacement;
 pub use forms::{breaks, candidate_energy, energy, load};
-pub use laws::{larger_plans_cost_more, larger_plans_keep_limits, sums_stay_within_128_bits};
+pub use laws::{
+    larger_plans_cost_more, larger_plans_keep_limits, plans_cost_the_dual_bound,
+    sums_stay_within_128_bits,
+};
 pub use limit::{Limit, LimitKind, Square};
 pub use network::{Component, Network, Unknown};
 pub use plan::{Node, Plan};
