@@ -1,12 +1,13 @@
 -- Pieces of a text: how they are cut off one by one, and what they are to the text.
 use Rattle.std.proofs.Common.{◌≡◌, ℕ, ◌+◌, ◌<◌, ◌≤◌, ◌==◌, Bool, true, false, List, [], ◌∷◌, ◌++◌, length, get_or, take, drop, map, flat_map, All, refl, sym, ap, subst, ◌∙◌, inl, inr, append_assoc, append-nil, eq-eqb, arith}
+use Rattle.std.specs.Prelude.{count_by}
 use Rattle.std.specs.List.{slice_split, onto_first, join_with_byte}
 use Rattle.std.proofs.lemmas.Bool.{cases_Bool, ne_eqb}
 use Rattle.std.proofs.lemmas.List.{drop_more, take-append-drop, get_or-take, length-take, length-append}
 use Rattle.std.proofs.Math.Seq.{drop-append_seam, take-append_seam}
-use Rattle.std.proofs.lemmas.List.Splits.{slice_split-cons_yes, slice_split-cons_no, slice_split_none, slice_split_at, join_with_byte-slice_split}
+use Rattle.std.proofs.lemmas.List.Splits.{slice_split-cons_yes, slice_split-cons_no, slice_split_none, slice_split_at, join_with_byte-slice_split, length-slice_split}
 use Rattle.std.proofs.lemmas.List.Elements.{All-nil, All-cons, All-head, All-tail, All-from_get_or}
-use Rattle.lent_parts.specs.Pieces.{TextLineOf, is_space, space, is_line_feed, line_feed, placed_from, tokens_of, lines_between, lines_of, line_bytes}
+use Rattle.lent_parts.specs.Pieces.{TextLineOf, TokenOf, is_space, space, is_line_feed, line_feed, placed_from, tokens_from, tokens_of, lines_between, lines_of, line_bytes}
 use Rattle.lent_parts.specs.PieceLaws.{IsSliceOf}
 
 -- ---- the first piece
@@ -129,6 +130,18 @@ lines_of-unended text = unended (slice_split is_line_feed text)
 placed_texts : (start : ℕ) (pieces : List (List ℕ)) → map (λ token. token.text) (placed_from start pieces) ≡ pieces
 placed_texts start [] = refl
 placed_texts start (piece ∷ rest) = ap (λ more. piece ∷ more) (placed_texts (start + length piece + 1) rest)
+
+-- .. of the end of a line
+pub tokens_from-texts : (start : ℕ) (text : List ℕ) → map (λ token. token.text) (tokens_from start text) ≡ slice_split is_space text
+tokens_from-texts start text = placed_texts start (slice_split is_space text)
+
+-- even an empty text has a token
+pub tokens_from-some : (start : ℕ) (text : List ℕ) → tokens_from start text ≡ [] → ⊥
+tokens_from-some start text none =
+    let pieces : slice_split is_space text ≡ [] = sym (placed_texts start (slice_split is_space text)) ∙ ap (map {A = TokenOf} {B = List ℕ} (λ token. token.text)) none in
+    let many : length (slice_split is_space text) ≡ count_by is_space text + 1 = length-slice_split is_space text in
+    let few : length (slice_split is_space text) ≡ 0 = ap length pieces in
+    absurd (omega arith)
 
 -- the texts of the tokens of a line are its pieces
 pub tokens_of-texts : (line : List ℕ) → map (λ token. token.text) (tokens_of line) ≡ slice_split is_space line

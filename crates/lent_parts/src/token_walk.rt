@@ -50,6 +50,24 @@ impl<'a> Iterator for TokenWalk<'a> {
     }
 }
 
+impl<'a> TokenWalk<'a> {
+    ghost use Rattle.std.specs.Prelude.{◌≡◌, [], map};
+    ghost use Rattle.std.specs.List.{slice_split};
+    ghost use Rattle.lent_parts.specs.Pieces.{is_space};
+
+    /// The text of the tokens that are left, with a space between each two, lent from the line. It is
+    /// empty where no token is left.
+    pub fn rest(&self) -> &'a [u8]
+        ensures some { (self.now ≡ [] → ⊥) → map (λ token. token.text) self.now ≡ slice_split is_space result.now }
+        ensures none { self.now ≡ [] → result.now ≡ [] }
+    {
+        match self.rest {
+            Some(rest) => rest,
+            None => b"".as_slice(),
+        }
+    }
+}
+
 /// The tokens of a line: its pieces between single spaces, in order, each lent from the line. A piece
 /// may be empty, and an empty line has one token, which is empty. It takes no memory.
 pub fn tokens(line: &[u8]) -> TokenWalk<'_>
