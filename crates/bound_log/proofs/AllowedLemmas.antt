@@ -1,83 +1,96 @@
 -- When a line of each kind is allowed at a node.
 use Rattle.std.proofs.Common.{◌≡◌, ℕ, zero, suc, ◌<◌, ◌≤◌, ltb, not, ◌&&◌, Bool, true, false, List, [], ◌∷◌, length, get_or, Option, Some, None, arith, refl, ap, sym, ◌∙◌, subst}
-use Rattle.std.specs.Prelude.{slice_get}
+use Rattle.std.specs.Prelude.{slice_get, flat_map, nat_le, unsigned_abs, ℤ, ◌*ℤ◌, ◌<ℤ◌, int_lt}
 use Rattle.std.specs.List.{list_all}
 use Rattle.std.specs.Option.{ForSome}
-use Rattle.std.proofs.lemmas.Bool.{ltb-true, lt-ltb}
+use Rattle.std.proofs.lemmas.Bool.{leb-true, ltb-true, lt-ltb}
+use Rattle.std.proofs.lemmas.Int.{ints}
 use Rattle.std.proofs.lemmas.Option.{get_or_from_slice_get, slice_get_within}
-use Rattle.geo_model.specs.Limit.{LimitOf, IsInForce}
+use Rattle.geo_model.specs.Energy.{energy}
+use Rattle.geo_model.specs.Limit.{LimitOf, IsInForce, load}
 use Rattle.geo_model.specs.Network.{NetworkOf, IsNetwork}
 use Rattle.geo_model.specs.declared.plan.Node.{Node}
 use Rattle.geo_model.specs.declared.verdict.Verdict.{Verdict}
 use Rattle.geo_model.specs.declared.verdict.Verdict.TheVariants.{Met, Refuted, Open}
 use Rattle.pivot_chain.specs.Verdict.{verdict_of}
-use Rattle.bound_log.specs.declared.log_kind.LogKind.TheVariants.{Range, NotOpen, Owner, NotRefuted}
-use Rattle.bound_log.specs.declared.log_leaf.LogLeaf.TheVariants.{Cost, Pivot}
+use Rattle.bound_log.specs.declared.log_kind.LogKind.TheVariants.{Range, NotOpen, Owner, NotRefuted, CutHolds}
+use Rattle.bound_log.specs.declared.log_leaf.LogLeaf.TheVariants.{Cost, Pivot, Cut}
 use Rattle.bound_log.specs.declared.log_line.LogLine.{LogLine}
 use Rattle.bound_log.specs.declared.log_line.LogLine.TheVariants.{Split, Leaf}
+use Rattle.bound_log.specs.CutText.{CutTextOf, cut_numbers, displaced_by, pair_numbers}
 use Rattle.bound_log.specs.Grammar.{HasNumbersBelow, number_bound}
-use Rattle.bound_log.specs.LogTree.{IsOpenAt, IsRefutedBy}
-use Rattle.bound_log.specs.Rules.{LineRule, first_broken, chooses, is_refuted, limit_passes, is_in_range, is_open_for, is_owned, is_refuting, line_rules, IsAllowedLine}
+use Rattle.bound_log.specs.LogTree.{IsBrokenBy, IsOpenAt, IsRefutedBy}
+use Rattle.bound_log.specs.Numbers.{AreShort}
+use Rattle.bound_log.specs.Rules.{LineRule, first_broken, chooses, is_refuted, limit_passes, is_in_range, is_open_for, is_owned, is_refuting, is_breaking, is_broken_at, is_displacement, are_moves, is_move, line_rules, IsAllowedLine}
 
 -- ---- the rules in their order
 
-abbrev pub ordered : Bool → Bool → Bool → Bool → List LineRule
-ordered range open_one owned refuting =
-    record { kept = range; kind = Range } ∷ record { kept = open_one; kind = NotOpen } ∷ record { kept = owned; kind = Owner } ∷ record { kept = refuting; kind = NotRefuted } ∷ []
+abbrev pub ordered : Bool → Bool → Bool → Bool → Bool → List LineRule
+ordered range open_one owned refuting breaking =
+    record { kept = range; kind = Range } ∷ record { kept = open_one; kind = NotOpen } ∷ record { kept = owned; kind = Owner } ∷ record { kept = refuting; kind = NotRefuted }
+    ∷ record { kept = breaking; kind = CutHolds } ∷ []
 
-record Keeps (range open_one owned refuting : Bool) : Type 0 where
+record Keeps (range open_one owned refuting breaking : Bool) : Type 0 where
   in_range : range ≡ true
   is_open : open_one ≡ true
   is_owned : owned ≡ true
   is_refuting : refuting ≡ true
+  is_breaking : breaking ≡ true
 
-none_broken : (a b c d : Bool) → first_broken (ordered a b c d) ≡ None → Keeps a b c d
-none_broken false b c d is = absurd (cc)
-none_broken true false c d is = absurd (cc)
-none_broken true true false d is = absurd (cc)
-none_broken true true true false is = absurd (cc)
-none_broken true true true true is = record { in_range = refl; is_open = refl; is_owned = refl; is_refuting = refl }
+none_broken : (a b c d e : Bool) → first_broken (ordered a b c d e) ≡ None → Keeps a b c d e
+none_broken false b c d e is = absurd (cc)
+none_broken true false c d e is = absurd (cc)
+none_broken true true false d e is = absurd (cc)
+none_broken true true true false e is = absurd (cc)
+none_broken true true true true false is = absurd (cc)
+none_broken true true true true true is = record { in_range = refl; is_open = refl; is_owned = refl; is_refuting = refl; is_breaking = refl }
 
-all_kept : (a b c d : Bool) → a ≡ true → b ≡ true → c ≡ true → d ≡ true → first_broken (ordered a b c d) ≡ None
-all_kept a b c d one two three four =
-    ap (λ x. first_broken (ordered x b c d)) one
-    ∙ ap (λ x. first_broken (ordered true x c d)) two
-    ∙ ap (λ x. first_broken (ordered true true x d)) three
-    ∙ ap (λ x. first_broken (ordered true true true x)) four
+all_kept : (a b c d e : Bool) → a ≡ true → b ≡ true → c ≡ true → d ≡ true → e ≡ true → first_broken (ordered a b c d e) ≡ None
+all_kept a b c d e one two three four five =
+    ap (λ x. first_broken (ordered x b c d e)) one
+    ∙ ap (λ x. first_broken (ordered true x c d e)) two
+    ∙ ap (λ x. first_broken (ordered true true x d e)) three
+    ∙ ap (λ x. first_broken (ordered true true true x e)) four
+    ∙ ap (λ x. first_broken (ordered true true true true x)) five
 
 keeps : (network : NetworkOf) (node : Node) (line : LogLine) → IsAllowedLine network node line →
-    Keeps (is_in_range network line) (is_open_for node line) (is_owned network node line) (is_refuting network node line)
+    Keeps (is_in_range network line) (is_open_for node line) (is_owned network node line) (is_refuting network node line) (is_breaking network node line)
 unfolding line_rules
-keeps network node line allowed = none_broken (is_in_range network line) (is_open_for node line) (is_owned network node line) (is_refuting network node line) allowed
+keeps network node line allowed =
+    none_broken (is_in_range network line) (is_open_for node line) (is_owned network node line) (is_refuting network node line) (is_breaking network node line) allowed
 
 allowed_where : (network : NetworkOf) (node : Node) (line : LogLine) → is_in_range network line ≡ true → is_open_for node line ≡ true →
-    is_owned network node line ≡ true → is_refuting network node line ≡ true → IsAllowedLine network node line
+    is_owned network node line ≡ true → is_refuting network node line ≡ true → is_breaking network node line ≡ true → IsAllowedLine network node line
 unfolding line_rules
-allowed_where network node line one two three four =
-    all_kept (is_in_range network line) (is_open_for node line) (is_owned network node line) (is_refuting network node line) one two three four
+allowed_where network node line one two three four five =
+    all_kept (is_in_range network line) (is_open_for node line) (is_owned network node line) (is_refuting network node line) (is_breaking network node line) one two three four five
 
 -- a line that keeps all rules breaks none
-unbroken : (a b c d : Bool) → list_all (λ rule. rule.kept) (ordered a b c d) ≡ true → first_broken (ordered a b c d) ≡ None
-unbroken false b c d all = absurd (cc)
-unbroken true false c d all = absurd (cc)
-unbroken true true false d all = absurd (cc)
-unbroken true true true false all = absurd (cc)
-unbroken true true true true all = refl
+unbroken : (a b c d e : Bool) → list_all (λ rule. rule.kept) (ordered a b c d e) ≡ true → first_broken (ordered a b c d e) ≡ None
+unbroken false b c d e all = absurd (cc)
+unbroken true false c d e all = absurd (cc)
+unbroken true true false d e all = absurd (cc)
+unbroken true true true false e all = absurd (cc)
+unbroken true true true true false all = absurd (cc)
+unbroken true true true true true all = refl
 
-each_kept : (a b c d : Bool) → first_broken (ordered a b c d) ≡ None → list_all (λ rule. rule.kept) (ordered a b c d) ≡ true
-each_kept false b c d none = absurd (cc)
-each_kept true false c d none = absurd (cc)
-each_kept true true false d none = absurd (cc)
-each_kept true true true false none = absurd (cc)
-each_kept true true true true none = refl
+each_kept : (a b c d e : Bool) → first_broken (ordered a b c d e) ≡ None → list_all (λ rule. rule.kept) (ordered a b c d e) ≡ true
+each_kept false b c d e none = absurd (cc)
+each_kept true false c d e none = absurd (cc)
+each_kept true true false d e none = absurd (cc)
+each_kept true true true false e none = absurd (cc)
+each_kept true true true true false none = absurd (cc)
+each_kept true true true true true none = refl
 
 pub allowed_keeps : (network : NetworkOf) (node : Node) (line : LogLine) → IsAllowedLine network node line → list_all (λ rule. rule.kept) (line_rules network node line) ≡ true
 unfolding line_rules
-allowed_keeps network node line allowed = each_kept (is_in_range network line) (is_open_for node line) (is_owned network node line) (is_refuting network node line) allowed
+allowed_keeps network node line allowed =
+    each_kept (is_in_range network line) (is_open_for node line) (is_owned network node line) (is_refuting network node line) (is_breaking network node line) allowed
 
 pub keeps_allowed : (network : NetworkOf) (node : Node) (line : LogLine) → list_all (λ rule. rule.kept) (line_rules network node line) ≡ true → IsAllowedLine network node line
 unfolding line_rules
-keeps_allowed network node line all = unbroken (is_in_range network line) (is_open_for node line) (is_owned network node line) (is_refuting network node line) all
+keeps_allowed network node line all =
+    unbroken (is_in_range network line) (is_open_for node line) (is_owned network node line) (is_refuting network node line) (is_breaking network node line) all
 
 -- ---- tests
 
@@ -128,7 +141,7 @@ split_allowed network node candidate here =
     (ap (λ b. (b && true) && true) (lt-ltb candidate (length network.candidates) here.in_range))
     (ap (λ b. (b && not (get_or node.inside candidate true)) && true) (get_or_from_slice_get node.upper candidate true false here.in_upper)
     ∙ ap (λ b. (true && not b) && true) (get_or_from_slice_get node.inside candidate false true here.not_inside))
-    refl refl
+    refl refl refl
 
 pub split_open : (network : NetworkOf) (node : Node) (candidate : ℕ) → IsAllowedLine network node (Split candidate) → IsOpenAt network node candidate
 split_open network node candidate allowed =
@@ -146,7 +159,7 @@ split_open network node candidate allowed =
 -- ---- leaves
 
 pub cost_allowed : (network : NetworkOf) (node : Node) → IsAllowedLine network node (Leaf Cost)
-cost_allowed network node = allowed_where network node (Leaf Cost) refl refl refl refl
+cost_allowed network node = allowed_where network node (Leaf Cost) refl refl refl refl refl
 
 abbrev pub owner_test : Node → LimitOf → Bool
 owner_test node limit = chooses node.inside limit.owner
@@ -157,10 +170,11 @@ verdict_test network node limit = is_refuted (verdict_of network node.upper limi
 pub pivot_allowed : (network : NetworkOf) (node : Node) (number : ℕ) → IsRefutedBy network node number → IsAllowedLine network node (Leaf (Pivot number))
 pivot_allowed network node number by =
     allowed_where network node (Leaf (Pivot number))
-    (ap (λ b. true && (b && true)) (lt-ltb number (length network.limits) (slice_get_within network.limits number by.limit by.named)))
+    (ap (λ b. true && ((b && true) && true)) (lt-ltb number (length network.limits) (slice_get_within network.limits number by.limit by.named)))
     refl
     (ap (λ o. limit_passes (owner_test node) o && true) by.named ∙ ap (λ b. b && true) (chooses_owner node.inside by.limit.owner by.owned))
     (ap (λ o. limit_passes (verdict_test network node) o && true) by.named ∙ ap (λ v. is_refuted v && true) by.refuted)
+    refl
 
 -- the element at a place within a list
 pub record Found {X : Type 0} (xs : List X) (i : ℕ) : Type 0 where
@@ -178,8 +192,8 @@ item_at (x ∷ xs) (suc i) inside =
 pub pivot_refuted : (network : NetworkOf) (node : Node) (number : ℕ) → IsAllowedLine network node (Leaf (Pivot number)) → IsRefutedBy network node number
 pivot_refuted network node number allowed =
     let kept = keeps network node (Leaf (Pivot number)) allowed in
-    let below = both_true true (ltb number (length network.limits) && true) kept.in_range in
-    let within = both_true (ltb number (length network.limits)) true below.right in
+    let below = both_true (ltb number (length network.limits) && true) true kept.in_range in
+    let within = both_true (ltb number (length network.limits)) true below.left in
     let found = item_at network.limits number (ltb-true number (length network.limits) within.left) in
     let owner : (chooses node.inside found.item.owner && true) ≡ true = sym (ap (λ o. limit_passes (owner_test node) o && true) found.named) ∙ kept.is_owned in
     let verdict : (verdict_test network node found.item && true) ≡ true = sym (ap (λ o. limit_passes (verdict_test network node) o && true) found.named) ∙ kept.is_refuting in
@@ -190,7 +204,68 @@ pivot_refuted network node number allowed =
       refuted = verdict_refuted (verdict_of network node.upper found.item) (both_true (verdict_test network node found.item) true verdict).left;
     }
 
+-- ---- cuts
+
+abbrev pub breaking_test : NetworkOf → Node → CutTextOf → LimitOf → Bool
+breaking_test network node cut limit = is_broken_at network node.upper (displaced_by cut.pairs) limit
+
+pub less_where : (p q : ℤ) → p <ℤ q → int_lt p q ≡ true
+less_where p q below = grind (arith, ints)
+
+pub where_less : (p q : ℤ) → int_lt p q ≡ true → p <ℤ q
+where_less p q is = grind (arith, ints)
+
+pub cut_allowed : (network : NetworkOf) (node : Node) (cut : CutTextOf) → IsBrokenBy network node cut → IsAllowedLine network node (Leaf (Cut cut))
+cut_allowed network node cut by =
+    let within : ltb cut.limit (length network.limits) ≡ true = lt-ltb cut.limit (length network.limits) (slice_get_within network.limits cut.limit by.limit by.named) in
+    let breaks : is_broken_at network node.upper (displaced_by cut.pairs) by.limit ≡ true =
+    less_where (by.limit.alpha *ℤ energy network.candidates node.upper (displaced_by cut.pairs)) (load by.limit.squares (displaced_by cut.pairs)) by.breaks in
+    allowed_where network node (Leaf (Cut cut))
+    (ap (λ b. true && ((b && true) && (is_displacement (length network.unknowns) cut.pairs && true))) within ∙ ap (λ b. b && true) by.displacement)
+    refl
+    (ap (λ o. limit_passes (owner_test node) o && true) by.named ∙ ap (λ b. b && true) (chooses_owner node.inside by.limit.owner by.owned))
+    refl
+    (ap (λ o. limit_passes (breaking_test network node cut) o && true) by.named ∙ ap (λ b. b && true) breaks)
+
+pub cut_broken : (network : NetworkOf) (node : Node) (cut : CutTextOf) → IsAllowedLine network node (Leaf (Cut cut)) → IsBrokenBy network node cut
+cut_broken network node cut allowed =
+    let kept = keeps network node (Leaf (Cut cut)) allowed in
+    let parts = both_true (ltb cut.limit (length network.limits) && true) (is_displacement (length network.unknowns) cut.pairs && true) kept.in_range in
+    let within = both_true (ltb cut.limit (length network.limits)) true parts.left in
+    let found = item_at network.limits cut.limit (ltb-true cut.limit (length network.limits) within.left) in
+    let owner : (chooses node.inside found.item.owner && true) ≡ true = sym (ap (λ o. limit_passes (owner_test node) o && true) found.named) ∙ kept.is_owned in
+    let breaking : (breaking_test network node cut found.item && true) ≡ true = sym (ap (λ o. limit_passes (breaking_test network node cut) o && true) found.named) ∙ kept.is_breaking in
+    record {
+      limit = found.item;
+      named = found.named;
+      displacement = (both_true (is_displacement (length network.unknowns) cut.pairs) true parts.right).left;
+      owned = owner_chosen node.inside found.item.owner (both_true (chooses node.inside found.item.owner) true owner).left;
+      breaks = where_less (found.item.alpha *ℤ energy network.candidates node.upper (displaced_by cut.pairs)) (load found.item.squares (displaced_by cut.pairs))
+          (both_true (breaking_test network node cut found.item) true breaking).left;
+    }
+
 -- ---- numbers
+
+-- the numbers of moves of at most 64 unknowns are short
+moves_short : (unknowns least : ℕ) (pairs : List (ℕ × ℤ)) → unknowns ≤ 64 → are_moves unknowns least pairs ≡ true → AreShort (flat_map pair_numbers pairs)
+moves_short unknowns least [] few is = tt
+moves_short unknowns least (pair ∷ pairs) few is =
+    let parts = both_true (is_move unknowns least pair) (are_moves unknowns (suc pair.0) pairs) is in
+    let move = both_true (nat_le least pair.0 && ltb pair.0 unknowns) (ltb 0 (unsigned_abs pair.1) && nat_le (unsigned_abs pair.1) 32768) parts.left in
+    let place = both_true (nat_le least pair.0) (ltb pair.0 unknowns) move.left in
+    let size = both_true (ltb 0 (unsigned_abs pair.1)) (nat_le (unsigned_abs pair.1) 32768) move.right in
+    let below : pair.0 < unknowns = ltb-true pair.0 unknowns place.right in
+    let small : unsigned_abs pair.1 ≤ 32768 = leb-true (unsigned_abs pair.1) 32768 size.right in
+    (omega (arith, below, few), (omega (arith, small), moves_short unknowns (suc pair.0) pairs few parts.right))
+
+cut_short : (network : NetworkOf) (node : Node) (cut : CutTextOf) → IsNetwork network → IsBrokenBy network node cut → AreShort (cut_numbers cut)
+cut_short network node cut bounds by =
+    let inside : cut.limit < length network.limits = slice_get_within network.limits cut.limit by.limit by.named in
+    let few : length network.limits ≤ 20000 = bounds.limits in
+    let parts = both_true (nat_le (length cut.pairs) (length network.unknowns)) (are_moves (length network.unknowns) 0 cut.pairs) by.displacement in
+    let count : length cut.pairs ≤ length network.unknowns = leb-true (length cut.pairs) (length network.unknowns) parts.left in
+    let narrow : length network.unknowns ≤ 64 = bounds.unknowns in
+    (omega (arith, inside, few), (omega (arith, count, narrow), moves_short (length network.unknowns) 0 cut.pairs narrow parts.right))
 
 -- the numbers of an allowed line have at most 19 digits
 pub line_numbers : (network : NetworkOf) (node : Node) (line : LogLine) → IsNetwork network → IsAllowedLine network node line → HasNumbersBelow number_bound line
@@ -205,3 +280,4 @@ line_numbers network node (Leaf (Pivot limit)) bounds allowed =
     let inside : limit < length network.limits = slice_get_within network.limits limit by.limit by.named in
     let few : length network.limits ≤ 20000 = bounds.limits in
     (omega arith, tt)
+line_numbers network node (Leaf (Cut cut)) bounds allowed = cut_short network node cut bounds (cut_broken network node cut allowed)

@@ -1,21 +1,23 @@
 -- What can be decided of a text: whether it is a line of the grammar.
-use Rattle.std.proofs.Common.{◌≡◌, ◌⊎◌, ℕ, zero, suc, ◌≤◌, List, [], ◌∷◌, length, arith, refl, ap, ap₂, sym, ◌∙◌, append-nil, inl, inr}
-use Rattle.std.specs.Prelude.{codes}
-use Rattle.std.specs.Char.{is_ascii_digit}
-use Rattle.std.specs.Int.{IsInRange}
-use Rattle.std.specs.List.{list_all}
-use Rattle.std.specs.Str.Parse.{digits_value, AllDigits}
-use Rattle.std.proofs.lemmas.Bool.{cases_Bool, false≢true}
-use Rattle.text_num.proofs.Digits.{AllDigits-from_test, test-from_AllDigits}
+use Rattle.std.proofs.Common.{◌≡◌, ◌==◌, if◌then◌else◌, ◌⊎◌, ℕ, zero, suc, ◌<◌, ◌≤◌, ltb, List, [], ◌∷◌, length, arith, refl, ap, ap₂, subst, sym, ◌∙◌, append-nil, inl, inr}
+use Rattle.std.specs.Prelude.{ℤ}
+use Rattle.std.specs.Fmt.{decimal}
+use Rattle.std.specs.Str.Parse.{digits_value}
+use Rattle.std.proofs.lemmas.Bool.{cases_Bool, false≢true, lt-ltb, ltb-true}
 use Rattle.lent_parts.specs.Pieces.{tokens_of}
-use Rattle.bound_log.specs.Grammar.{number_bound, HasNumbersBelow, IsLine, IsNumber, IsShortNumeral}
+use Rattle.bound_log.specs.CutReading.{PairsBegin, pairs_in}
+use Rattle.bound_log.specs.CutText.{CutTextOf, cut_numbers, cut_words, pairs_words}
+use Rattle.bound_log.specs.Grammar.{number_bound, HasNumbersBelow, IsLine}
+use Rattle.bound_log.specs.Lines.{numbers_of}
 use Rattle.bound_log.specs.LogLines.{words_of}
 use Rattle.bound_log.specs.LogText.{line_words}
-use Rattle.bound_log.specs.declared.log_leaf.LogLeaf.TheVariants.{Cost, Pivot}
+use Rattle.bound_log.specs.Numbers.{AreShort}
+use Rattle.bound_log.specs.declared.log_leaf.LogLeaf.TheVariants.{Cost, Pivot, Cut}
 use Rattle.bound_log.specs.declared.log_line.LogLine.{LogLine}
 use Rattle.bound_log.specs.declared.log_line.LogLine.TheVariants.{Split, Leaf}
+use Rattle.bound_log.proofs.CutLemmas.{reads_pairs}
 use Rattle.bound_log.proofs.GrammarLemmas.{words_of_line, line_of_words}
-use Rattle.bound_log.proofs.NumberLemmas.{numeral_of, number_of_numeral}
+use Rattle.bound_log.proofs.NumberLemmas.{decimal-value}
 
 -- something holds, or it doesn't
 abbrev pub Decided : Type 0 → Type 0
@@ -25,15 +27,6 @@ pub both : (P Q : Type 0) → Decided P → Decided Q → Decided (P × Q)
 both P Q (inl one) (inl two) = inl (one, two)
 both P Q (inl one) (inr not_two) = inr (λ is. not_two is.1)
 both P Q (inr not_one) second = inr (λ is. not_one is.0)
-
-three : (P Q R : Type 0) → Decided P → Decided Q → Decided R → Decided (P × Q × R)
-three P Q R first second (inl last) = elim (both P Q first second) [ inl is ↦ inl (is.0, is.1, last) | inr other ↦ inr (λ is. other (is.0, is.1)) ]
-three P Q R first second (inr not_last) = inr (λ is. not_last is.2)
-
-either : (P Q : Type 0) → Decided P → Decided Q → Decided (P ⊎ Q)
-either P Q (inl one) second = inl (inl one)
-either P Q (inr not_one) (inl two) = inl (inr two)
-either P Q (inr not_one) (inr not_two) = inr (λ is. elim is [ inl one ↦ not_one one | inr two ↦ not_two two ])
 
 -- ---- numbers and texts
 
@@ -55,6 +48,13 @@ record SameFirst (x y : ℕ) (xs ys : List ℕ) : Type 0 where
 same_first : (x y : ℕ) (xs ys : List ℕ) → x ∷ xs ≡ y ∷ ys → SameFirst x y xs ys
 same_first x y xs ys same = record { first = cc; rest = cc }
 
+record SameWord (x y : List ℕ) (xs ys : List (List ℕ)) : Type 0 where
+  first : x ≡ y
+  rest : xs ≡ ys
+
+same_word : (x y : List ℕ) (xs ys : List (List ℕ)) → x ∷ xs ≡ y ∷ ys → SameWord x y xs ys
+same_word x y xs ys same = record { first = cc; rest = cc }
+
 pub same_text : (xs ys : List ℕ) → Decided (xs ≡ ys)
 same_text [] [] = inl refl
 same_text [] (y ∷ ys) = inr (λ is. absurd (cc))
@@ -64,32 +64,65 @@ same_text (x ∷ xs) (y ∷ ys) = elim (both (x ≡ y) (xs ≡ ys) (same_number 
   | inr other ↦ inr (λ is. let parts = same_first x y xs ys is in other (parts.first, parts.rest))
 ]
 
--- ---- the grammar
-
-all_digits : (ds : List ℕ) → Decided (AllDigits 10 ds)
-all_digits ds = elim (cases_Bool (list_all is_ascii_digit ds)) [
-  | inl passes ↦ inl (AllDigits-from_test ds passes)
-  | inr fails ↦ inr (λ all. absurd (false≢true (sym fails ∙ test-from_AllDigits ds all)))
+same_words : (xs ys : List (List ℕ)) → Decided (xs ≡ ys)
+same_words [] [] = inl refl
+same_words [] (y ∷ ys) = inr (λ is. absurd (cc))
+same_words (x ∷ xs) [] = inr (λ is. absurd (cc))
+same_words (x ∷ xs) (y ∷ ys) = elim (both (x ≡ y) (xs ≡ ys) (same_text x y) (same_words xs ys)) [
+  | inl same ↦ inl (ap₂ (λ (w : List ℕ) (ws : List (List ℕ)). w ∷ ws) same.0 same.1)
+  | inr other ↦ inr (λ is. let parts = same_word x y xs ys is in other (parts.first, parts.rest))
 ]
 
-numeral : (text : List ℕ) → Decided (IsShortNumeral text)
-numeral [] = inr (λ is. is)
-numeral (c ∷ rest) =
-    either ((c ≡ 48) × (rest ≡ [])) (IsInRange 49 57 c × AllDigits 10 rest × (length rest ≤ 18))
-    (both (c ≡ 48) (rest ≡ []) (same_number c 48) (same_text rest []))
-    (three (IsInRange 49 57 c) (AllDigits 10 rest) (length rest ≤ 18)
-    (both (49 ≤ c) (c ≤ 57) (at_most 49 c) (at_most c 57)) (all_digits rest) (at_most (length rest) 18))
+-- each number has at most 19 digits, or one hasn't
+are_short : (numbers : List ℕ) → Decided (AreShort numbers)
+are_short [] = inl tt
+are_short (n ∷ numbers) =
+    both (n < number_bound) (AreShort numbers)
+    (elim (cases_Bool (ltb n number_bound)) [
+      | inl is ↦ inl (ltb-true n number_bound is)
+      | inr other ↦ inr (λ below. false≢true (sym other ∙ lt-ltb n number_bound below))
+    ])
+    (are_short numbers)
 
--- a number that a text writes
-record Writes (text : List ℕ) : Type 0 where
-  number : ℕ
-  is : IsNumber text number
+-- ---- the one line that words may be of
 
-number : (text : List ℕ) → Decided (Writes text)
-number text = elim (numeral text) [
-  | inl short ↦ inl (record { number = digits_value 10 text; is = number_of_numeral text short })
-  | inr other ↦ inr (λ found. other (numeral_of text found.number found.is))
-]
+-- the cut that words may be of
+abbrev cut_read : List (List ℕ) → CutTextOf
+cut_read [] = record { limit = 0; pairs = [] }
+cut_read (limit ∷ []) = record { limit = 0; pairs = [] }
+cut_read (limit ∷ count ∷ words) = record { limit = digits_value 10 limit; pairs = pairs_in (digits_value 10 count) words }
+
+cut_read-words : (cut : CutTextOf) → AreShort (cut_numbers cut) → cut_read (cut_words cut) ≡ cut
+cut_read-words cut short =
+    let limit : digits_value 10 (decimal cut.limit) ≡ cut.limit = decimal-value cut.limit short.0 in
+    let count : digits_value 10 (decimal (length cut.pairs)) ≡ length cut.pairs = decimal-value (length cut.pairs) short.1.0 in
+    let begins : PairsBegin (length cut.pairs) (pairs_words cut.pairs) cut.pairs [] = record { counted = refl; spelled = sym (append-nil (pairs_words cut.pairs)); short = short.1.1 } in
+    let reads = reads_pairs (length cut.pairs) (pairs_words cut.pairs) cut.pairs [] begins in
+    ap₂ (λ (l : ℕ) (ps : List (ℕ × ℤ)). let made : CutTextOf = record { limit = l; pairs = ps } in made) limit
+    (ap (λ (n : ℕ). pairs_in n (pairs_words cut.pairs)) count ∙ sym reads.pairs_are)
+
+abbrev first_word : List (List ℕ) → List ℕ
+first_word [] = []
+first_word (word ∷ words) = word
+
+-- the line that words may be of which this byte's word stands before
+abbrev line_as : ℕ → List (List ℕ) → LogLine
+line_as kind words =
+    if kind == 115 then Split (digits_value 10 (first_word words))
+    else (if kind == 112 then Leaf (Pivot (digits_value 10 (first_word words)))
+    else (if kind == 120 then Leaf (Cut (cut_read words)) else Leaf Cost))
+
+-- the line that words may be of
+abbrev line_read : List (List ℕ) → LogLine
+line_read [] = Leaf Cost
+line_read ([] ∷ words) = Leaf Cost
+line_read ((kind ∷ more) ∷ words) = line_as kind words
+
+line_read-words : (line : LogLine) → HasNumbersBelow number_bound line → line_read (line_words line) ≡ line
+line_read-words (Split candidate) short = ap Split (decimal-value candidate short.0)
+line_read-words (Leaf Cost) short = refl
+line_read-words (Leaf (Pivot limit)) short = ap (λ l. Leaf (Pivot l)) (decimal-value limit short.0)
+line_read-words (Leaf (Cut cut)) short = ap (λ (text : CutTextOf). Leaf (Cut text)) (cut_read-words cut short)
 
 -- a line with these words
 record HasLine (words : List (List ℕ)) : Type 0 where
@@ -97,51 +130,17 @@ record HasLine (words : List (List ℕ)) : Type 0 where
   numbers : HasNumbersBelow number_bound line
   spelled : words ≡ line_words line
 
-no_words : (line : LogLine) → [] ≡ line_words line → ⊥
-no_words (Split candidate) same = absurd (cc)
-no_words (Leaf Cost) same = absurd (cc)
-no_words (Leaf (Pivot limit)) same = absurd (cc)
-
-one_word : (a : List ℕ) (line : LogLine) → a ∷ [] ≡ line_words line → a ≡ codes "c"
-one_word a (Split candidate) same = absurd (cc)
-one_word a (Leaf Cost) same = cc
-one_word a (Leaf (Pivot limit)) same = absurd (cc)
-
-second_word : (a b : List ℕ) (line : LogLine) → HasNumbersBelow number_bound line → a ∷ b ∷ [] ≡ line_words line → Writes b
-second_word a b (Split candidate) small same = record { number = candidate; is = record { spelled = cc; size = small.0 } }
-second_word a b (Leaf Cost) small same = absurd (cc)
-second_word a b (Leaf (Pivot limit)) small same = record { number = limit; is = record { spelled = cc; size = small.0 } }
-
-no_kind : (a b : List ℕ) (line : LogLine) → a ∷ b ∷ [] ≡ line_words line → (a ≡ codes "s" → ⊥) → (a ≡ codes "p" → ⊥) → ⊥
-no_kind a b (Split candidate) same not_split not_pivot = not_split (cc)
-no_kind a b (Leaf Cost) same not_split not_pivot = absurd (cc)
-no_kind a b (Leaf (Pivot limit)) same not_split not_pivot = not_pivot (cc)
-
-many_words : (a b c : List ℕ) (more : List (List ℕ)) (line : LogLine) → a ∷ b ∷ c ∷ more ≡ line_words line → ⊥
-many_words a b c more (Split candidate) same = absurd (cc)
-many_words a b c more (Leaf Cost) same = absurd (cc)
-many_words a b c more (Leaf (Pivot limit)) same = absurd (cc)
-
-kind_and_number : (a b : List ℕ) → Writes b → Decided (HasLine (a ∷ b ∷ []))
-kind_and_number a b found = elim (same_text a (codes "s")) [
-  | inl same ↦ inl (record { line = Split found.number; numbers = (found.is.size, tt); spelled = ap₂ (λ x y. x ∷ y ∷ []) same found.is.spelled })
-  | inr not_split ↦ elim (same_text a (codes "p")) [
-    | inl same ↦ inl (record { line = Leaf (Pivot found.number); numbers = (found.is.size, tt); spelled = ap₂ (λ x y. x ∷ y ∷ []) same found.is.spelled })
-    | inr not_pivot ↦ inr (λ is. no_kind a b is.line is.spelled not_split not_pivot)
-  ]
-]
+-- where words are of a line, they are of that one
+only_line : (words : List (List ℕ)) → HasLine words → (words ≡ line_words (line_read words)) × HasNumbersBelow number_bound (line_read words)
+only_line words has =
+    let read : has.line ≡ line_read words = sym (line_read-words has.line has.numbers) ∙ ap line_read (sym has.spelled) in
+    (has.spelled ∙ ap line_words read, subst (HasNumbersBelow number_bound) read has.numbers)
 
 spelled : (words : List (List ℕ)) → Decided (HasLine words)
-spelled [] = inr (λ is. no_words is.line is.spelled)
-spelled (a ∷ []) = elim (same_text a (codes "c")) [
-  | inl same ↦ inl (record { line = Leaf Cost; numbers = tt; spelled = ap (λ w. w ∷ []) same })
-  | inr other ↦ inr (λ is. other (one_word a is.line is.spelled))
+spelled words = elim (both (words ≡ line_words (line_read words)) (HasNumbersBelow number_bound (line_read words)) (same_words words (line_words (line_read words))) (are_short (numbers_of (line_read words)))) [
+  | inl is ↦ inl (record { line = line_read words; numbers = is.1; spelled = is.0 })
+  | inr other ↦ inr (λ has. other (only_line words has))
 ]
-spelled (a ∷ b ∷ []) = elim (number b) [
-  | inl found ↦ kind_and_number a b found
-  | inr other ↦ inr (λ is. other (second_word a b is.line is.numbers is.spelled))
-]
-spelled (a ∷ b ∷ c ∷ more) = inr (λ is. many_words a b c more is.line is.spelled)
 
 -- a line that a text, without its LF, is
 pub record Reads (text : List ℕ) : Type 0 where

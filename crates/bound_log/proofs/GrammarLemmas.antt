@@ -2,18 +2,22 @@
 use Rattle.std.proofs.Common.{◌≡◌, ℕ, ◌<◌, ◌^◌, true, false, List, [], ◌∷◌, ◌++◌, map, All, arith, refl, ap, sym, ◌∙◌, append-nil, append_assoc}
 use Rattle.std.specs.Fmt.{decimal}
 use Rattle.std.specs.Int.{IsInRange}
-use Rattle.std.specs.List.{join_with_byte}
+use Rattle.std.specs.List.{AllByRecursion, join_with_byte}
 use Rattle.std.proofs.lemmas.Bool.{ne_eqb}
 use Rattle.std.proofs.lemmas.List.{same_from_push}
-use Rattle.std.proofs.lemmas.List.Elements.{All-nil, All-cons, All-head, All-tail, All-weaker}
+use Rattle.std.proofs.lemmas.List.Elements.{All-append, All-nil, All-cons, All-head, All-tail, All-weaker}
 use Rattle.lent_parts.specs.Pieces.{is_space, space, is_line_feed, tokens_of, lines_of}
 use Rattle.lent_parts.proofs.PieceLemmas.{tokens_of-joined, tokens_of-only, lines_of-more}
 use Rattle.bound_log.specs.Grammar.{number_bound, HasNumbersBelow, IsLine, text_line}
+use Rattle.bound_log.specs.Lines.{numbers_of}
 use Rattle.bound_log.specs.LogLines.{words_of, WordsBeginWith}
 use Rattle.bound_log.specs.LogText.{line_words, line_body, line_text, line_end, lines_text}
-use Rattle.bound_log.specs.declared.log_leaf.LogLeaf.TheVariants.{Cost, Pivot}
+use Rattle.bound_log.specs.declared.log_leaf.LogLeaf.TheVariants.{Cost, Pivot, Cut}
 use Rattle.bound_log.specs.declared.log_line.LogLine.{LogLine}
 use Rattle.bound_log.specs.declared.log_line.LogLine.TheVariants.{Split, Leaf}
+use Rattle.bound_log.specs.CutText.{CutTextOf, cut_numbers, cut_words}
+use Rattle.bound_log.specs.Numbers.{AreShort}
+use Rattle.bound_log.proofs.CutLemmas.{cut_bytes, same_cut}
 use Rattle.bound_log.proofs.NumberLemmas.{decimal-bytes, decimal-apart}
 
 -- ---- bytes that no word has
@@ -44,10 +48,26 @@ pair_no_feed : (kind n : ℕ) → NoFeed kind → n < number_bound → All NoFee
 pair_no_feed kind n alone small =
     All-cons NoFeed kind (32 ∷ decimal n) alone (All-cons NoFeed 32 (decimal n) refl (number_no_feed n small))
 
+-- words of which none has a byte are joined without it
+joined_words : (P : ℕ → Type 0) (c : ℕ) (words : List (List ℕ)) → P c → All (All P) words → All P (join_with_byte c words)
+joined_words P c [] between each = All-nil P
+joined_words P c (word ∷ []) between each = All-head (All P) word [] each
+joined_words P c (word ∷ next ∷ words) between each =
+    All-append P word (c ∷ join_with_byte c (next ∷ words)) (All-head (All P) word (next ∷ words) each)
+    (All-cons P c (join_with_byte c (next ∷ words)) between (joined_words P c (next ∷ words) between (All-tail (All P) word (next ∷ words) each)))
+
+cut_no_space : (cut : CutTextOf) → AreShort (cut_numbers cut) → All (All NoSpace) (cut_words cut)
+cut_no_space cut short = cut_bytes NoSpace (λ c digit. ne_eqb c 32 (λ same. omega (arith, digit.0))) refl cut short
+
+cut_no_feed : (cut : CutTextOf) → AreShort (cut_numbers cut) → All (All NoFeed) (cut_words cut)
+cut_no_feed cut short = cut_bytes NoFeed (λ c digit. ne_eqb c 10 (λ same. omega (arith, digit.0))) refl cut short
+
 pub line_body-no_feed : (line : LogLine) → HasNumbersBelow number_bound line → All NoFeed (line_body line)
 line_body-no_feed (Split candidate) small = pair_no_feed 115 candidate refl small.0
 line_body-no_feed (Leaf Cost) small = one_byte NoFeed 99 refl
 line_body-no_feed (Leaf (Pivot limit)) small = pair_no_feed 112 limit refl small.0
+line_body-no_feed (Leaf (Cut cut)) small =
+    joined_words NoFeed 32 ((120 ∷ []) ∷ cut_words cut) refl (All-cons (All NoFeed) (120 ∷ []) (cut_words cut) (one_byte NoFeed 120 refl) (cut_no_feed cut small))
 
 -- ---- texts of lines
 
@@ -68,6 +88,9 @@ words_of_line text (Leaf Cost) is =
     tokens_of-only text (99 ∷ []) [] (All-cons (All NoSpace) (99 ∷ []) [] (one_byte NoSpace 99 refl) (All-nil (All NoSpace))) (body_of text (Leaf Cost) is)
 words_of_line text (Leaf (Pivot limit)) is =
     tokens_of-only text (112 ∷ []) (decimal limit ∷ []) (pair_no_space 112 limit refl is.numbers.0) (body_of text (Leaf (Pivot limit)) is)
+words_of_line text (Leaf (Cut cut)) is =
+    tokens_of-only text (120 ∷ []) (cut_words cut)
+    (All-cons (All NoSpace) (120 ∷ []) (cut_words cut) (one_byte NoSpace 120 refl) (cut_no_space cut is.numbers)) (body_of text (Leaf (Cut cut)) is)
 
 pub begins_of_line : (text : List ℕ) (line : LogLine) → IsLine text line → WordsBeginWith (words_of (tokens_of text)) line []
 begins_of_line text line is = record { spelled = words_of_line text line is ∙ sym (append-nil (line_words line)); numbers = is.numbers }
@@ -92,29 +115,54 @@ kind_of ((kind ∷ more) ∷ words) = kind
 other_kind : (a b : ℕ) (xs ys : List (List ℕ)) → (a ≡ b → ⊥) → (a ∷ []) ∷ xs ≡ (b ∷ []) ∷ ys → ⊥
 other_kind a b xs ys apart same = apart (ap kind_of same)
 
+later_words : (a b : ℕ) (xs ys : List (List ℕ)) → (a ∷ []) ∷ xs ≡ (b ∷ []) ∷ ys → xs ≡ ys
+later_words a b xs ys same = cc
+
+no_more : (word : List ℕ) (more : List (List ℕ)) → word ∷ more ≡ [] → ⊥
+no_more word more none = absurd (cc)
+
 -- the words of a line and more are those of no line
-pub more_words : (read other : LogLine) (word : List ℕ) (more : List (List ℕ)) → line_words read ++ word ∷ more ≡ line_words other → ⊥
-more_words (Split a) (Split b) word more same = absurd (cc)
-more_words (Split a) (Leaf Cost) word more same = absurd (other_kind 115 99 _ _ (λ equal. omega arith) same)
-more_words (Split a) (Leaf (Pivot b)) word more same = absurd (other_kind 115 112 _ _ (λ equal. omega arith) same)
-more_words (Leaf Cost) (Split b) word more same = absurd (other_kind 99 115 _ _ (λ equal. omega arith) same)
-more_words (Leaf Cost) (Leaf Cost) word more same = absurd (cc)
-more_words (Leaf Cost) (Leaf (Pivot b)) word more same = absurd (other_kind 99 112 _ _ (λ equal. omega arith) same)
-more_words (Leaf (Pivot a)) (Split b) word more same = absurd (other_kind 112 115 _ _ (λ equal. omega arith) same)
-more_words (Leaf (Pivot a)) (Leaf Cost) word more same = absurd (other_kind 112 99 _ _ (λ equal. omega arith) same)
-more_words (Leaf (Pivot a)) (Leaf (Pivot b)) word more same = absurd (cc)
+pub more_words : (read other : LogLine) (word : List ℕ) (more : List (List ℕ)) → HasNumbersBelow number_bound read → HasNumbersBelow number_bound other →
+    line_words read ++ word ∷ more ≡ line_words other → ⊥
+more_words (Split a) (Split b) word more small also same = absurd (cc)
+more_words (Split a) (Leaf Cost) word more small also same = absurd (other_kind 115 99 _ _ (λ equal. omega arith) same)
+more_words (Split a) (Leaf (Pivot b)) word more small also same = absurd (other_kind 115 112 _ _ (λ equal. omega arith) same)
+more_words (Split a) (Leaf (Cut b)) word more small also same = absurd (other_kind 115 120 _ _ (λ equal. omega arith) same)
+more_words (Leaf Cost) (Split b) word more small also same = absurd (other_kind 99 115 _ _ (λ equal. omega arith) same)
+more_words (Leaf Cost) (Leaf Cost) word more small also same = absurd (cc)
+more_words (Leaf Cost) (Leaf (Pivot b)) word more small also same = absurd (other_kind 99 112 _ _ (λ equal. omega arith) same)
+more_words (Leaf Cost) (Leaf (Cut b)) word more small also same = absurd (other_kind 99 120 _ _ (λ equal. omega arith) same)
+more_words (Leaf (Pivot a)) (Split b) word more small also same = absurd (other_kind 112 115 _ _ (λ equal. omega arith) same)
+more_words (Leaf (Pivot a)) (Leaf Cost) word more small also same = absurd (other_kind 112 99 _ _ (λ equal. omega arith) same)
+more_words (Leaf (Pivot a)) (Leaf (Pivot b)) word more small also same = absurd (cc)
+more_words (Leaf (Pivot a)) (Leaf (Cut b)) word more small also same = absurd (other_kind 112 120 _ _ (λ equal. omega arith) same)
+more_words (Leaf (Cut a)) (Split b) word more small also same = absurd (other_kind 120 115 _ _ (λ equal. omega arith) same)
+more_words (Leaf (Cut a)) (Leaf Cost) word more small also same = absurd (other_kind 120 99 _ _ (λ equal. omega arith) same)
+more_words (Leaf (Cut a)) (Leaf (Pivot b)) word more small also same = absurd (other_kind 120 112 _ _ (λ equal. omega arith) same)
+more_words (Leaf (Cut a)) (Leaf (Cut b)) word more small also same =
+    let words : cut_words a ++ word ∷ more ≡ cut_words b ++ [] = later_words 120 120 (cut_words a ++ word ∷ more) (cut_words b) same ∙ sym (append-nil (cut_words b)) in
+    absurd (no_more word more (same_cut a b (word ∷ more) [] small also words).rest)
 
 -- a line is told by its words
 pub one_line : (a b : LogLine) → HasNumbersBelow number_bound a → HasNumbersBelow number_bound b → line_words a ≡ line_words b → a ≡ b
 one_line (Split a) (Split b) small also same = ap Split (decimal-apart a b small.0 also.0 (cc))
 one_line (Split a) (Leaf Cost) small also same = absurd (other_kind 115 99 _ _ (λ equal. omega arith) same)
 one_line (Split a) (Leaf (Pivot b)) small also same = absurd (other_kind 115 112 _ _ (λ equal. omega arith) same)
+one_line (Split a) (Leaf (Cut b)) small also same = absurd (other_kind 115 120 _ _ (λ equal. omega arith) same)
 one_line (Leaf Cost) (Split b) small also same = absurd (other_kind 99 115 _ _ (λ equal. omega arith) same)
 one_line (Leaf Cost) (Leaf Cost) small also same = refl
 one_line (Leaf Cost) (Leaf (Pivot b)) small also same = absurd (other_kind 99 112 _ _ (λ equal. omega arith) same)
+one_line (Leaf Cost) (Leaf (Cut b)) small also same = absurd (other_kind 99 120 _ _ (λ equal. omega arith) same)
 one_line (Leaf (Pivot a)) (Split b) small also same = absurd (other_kind 112 115 _ _ (λ equal. omega arith) same)
 one_line (Leaf (Pivot a)) (Leaf Cost) small also same = absurd (other_kind 112 99 _ _ (λ equal. omega arith) same)
 one_line (Leaf (Pivot a)) (Leaf (Pivot b)) small also same = ap (λ limit. Leaf (Pivot limit)) (decimal-apart a b small.0 also.0 (cc))
+one_line (Leaf (Pivot a)) (Leaf (Cut b)) small also same = absurd (other_kind 112 120 _ _ (λ equal. omega arith) same)
+one_line (Leaf (Cut a)) (Split b) small also same = absurd (other_kind 120 115 _ _ (λ equal. omega arith) same)
+one_line (Leaf (Cut a)) (Leaf Cost) small also same = absurd (other_kind 120 99 _ _ (λ equal. omega arith) same)
+one_line (Leaf (Cut a)) (Leaf (Pivot b)) small also same = absurd (other_kind 120 112 _ _ (λ equal. omega arith) same)
+one_line (Leaf (Cut a)) (Leaf (Cut b)) small also same =
+    let words : cut_words a ++ [] ≡ cut_words b ++ [] = append-nil (cut_words a) ∙ later_words 120 120 (cut_words a) (cut_words b) same ∙ sym (append-nil (cut_words b)) in
+    ap (λ (cut : CutTextOf). Leaf (Cut cut)) (same_cut a b [] [] small also words).cut
 
 pub a_text_is_one : (text : List ℕ) (a b : LogLine) → IsLine text a → IsLine text b → a ≡ b
 a_text_is_one text a b is also = one_line a b is.numbers also.numbers (sym (words_of_line text a is) ∙ words_of_line text b also)
@@ -133,7 +181,9 @@ lines_of-lines_text (line ∷ lines) small =
     ∙ ap (λ rest. text_line line ∷ rest) (lines_of-lines_text lines (All-tail (HasNumbersBelow number_bound) line lines small))
 
 -- a bound on numbers may be raised
+shorter : (numbers : List ℕ) → AllByRecursion (λ number. number < 2 ^ 32) numbers → AreShort numbers
+shorter [] small = tt
+shorter (number ∷ numbers) small = (omega (arith, small.0), shorter numbers small.1)
+
 pub HasNumbersBelow-32 : (line : LogLine) → HasNumbersBelow (2 ^ 32) line → HasNumbersBelow number_bound line
-HasNumbersBelow-32 (Split candidate) small = (omega (arith, small.0), tt)
-HasNumbersBelow-32 (Leaf Cost) small = tt
-HasNumbersBelow-32 (Leaf (Pivot limit)) small = (omega (arith, small.0), tt)
+HasNumbersBelow-32 line small = shorter (numbers_of line) small

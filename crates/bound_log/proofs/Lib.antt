@@ -1,8 +1,11 @@
 pub mod AllowedLemmas
 pub mod BoundLemmas
 pub mod CountLemmas
+pub mod CutLemmas
+pub mod CutSpellLemmas
 pub mod Decisions
 pub mod GrammarLemmas
+pub mod MoveLemmas
 pub mod NumberLemmas
 pub mod OpenLemmas
 pub mod SoundLemmas

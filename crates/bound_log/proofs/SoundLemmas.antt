@@ -1,23 +1,27 @@
 use Rattle.std.proofs.Common.{◌≡◌, ◌<◌, ℕ, zero, suc, Bool, true, false, List, [], ◌∷◌, length, replicate, arith, refl, ap, sym, Some, subst, ◌⊎◌, inl, inr}
-use Rattle.std.specs.Prelude.{slice_get, All}
+use Rattle.std.specs.Prelude.{slice_get, All, ℤ, ◌*ℤ◌, ◌≤ℤ◌, ◌<ℤ◌}
+use Rattle.std.proofs.lemmas.Int.{ints}
 use Rattle.std.proofs.lemmas.Option.{get_or_from_slice_get, slice_get_within}
-use Rattle.geo_model.specs.Energy.{IsWithin}
-use Rattle.geo_model.specs.Limit.{LimitOf, IsInForce}
-use Rattle.geo_model.specs.Meeting.{MeetsLimits, MeetsLimit}
+use Rattle.geo_model.specs.Energy.{energy, IsWithin}
+use Rattle.geo_model.specs.Limit.{LimitOf, IsInForce, load}
+use Rattle.geo_model.specs.Meeting.{Breaks, MeetsLimits, MeetsLimit}
+use Rattle.geo_model.specs.Row.{Displaced}
 use Rattle.geo_model.specs.Network.{NetworkOf, IsNetwork, IsLimit}
 use Rattle.geo_model.specs.declared.plan.Node.{Node}
 use Rattle.geo_model.specs.Prices.{PricesOf, HasStationPrices, plan_price, prices_of}
+use Rattle.geo_model.proofs.EnergyLemmas.{MeetsLimit-grows}
 use Rattle.geo_model.proofs.PriceLemmas.{plan_price-grows, network_stations}
 use Rattle.geo_model.proofs.PlanLemmas.{IsWithin-with, IsWithin-without, IsWithin-none, IsWithin-all, IsWithin-length}
 use Rattle.pivot_chain.proofs.Verdicts.{refuted_fails}
 use Rattle.bound_log.specs.declared.bound.Bound.{Bound}
 use Rattle.bound_log.specs.declared.bound.Bound.TheVariants.{NoPlan, AtLeast}
 use Rattle.bound_log.specs.Bound.{lesser, IsAtMost}
+use Rattle.bound_log.specs.CutText.{displaced_by}
 use Rattle.bound_log.specs.LogTree.{root_of, with_chosen, without_chosen, IsAllowed, leaf_bound_for, bound_for, HasBoundFor, HasBound}
 use Rattle.bound_log.specs.Sound.{IsLowerBoundFor, IsLowerBound}
-use Rattle.bound_log.specs.declared.log_leaf.LogLeaf.TheVariants.{Cost, Pivot}
+use Rattle.bound_log.specs.declared.log_leaf.LogLeaf.TheVariants.{Cost, Pivot, Cut}
 use Rattle.bound_log.specs.Tree.{Tree, fork, tip}
-use Rattle.bound_log.proofs.AllowedLemmas.{pivot_refuted, split_open}
+use Rattle.bound_log.proofs.AllowedLemmas.{cut_broken, pivot_refuted, split_open}
 
 -- Why the bound of a log is a lower bound.
 
@@ -66,6 +70,16 @@ each_named_meets : (network : NetworkOf) (number : ℕ) (limit : LimitOf) (plan 
 each_named_meets network number limit plan all named =
     at_place (λ l. IsInForce l plan → MeetsLimit network plan l) network.limits number limit all named
 
+-- what breaks a limit under a plan breaks it under each smaller one, so that isn't met
+pub broken_fails : (network : NetworkOf) (plan upper : List Bool) (limit : LimitOf) (x : Displaced) → IsNetwork network → IsLimit network limit → IsWithin plan upper →
+    Breaks network upper limit x → MeetsLimit network plan limit → ⊥
+broken_fails network plan upper limit x bounds kept within breaks meets =
+    clash (limit.alpha *ℤ energy network.candidates upper x) (load limit.squares x) breaks
+    (MeetsLimit-grows network limit plan upper bounds.each_candidate kept.bounded.alpha_low within meets x)
+  where
+    clash : (p q : ℤ) → p <ℤ q → q ≤ℤ p → ⊥
+    clash p q h g = omega (arith, ints)
+
 -- each plan between the inner and the upper plan of a node that meets the limits costs at least the bound
 pub bound_for-below : (prices : PricesOf) (network : NetworkOf) (node : Node) (tree : Tree) → IsNetwork network → IsAllowed network node tree → (plan : List Bool) → IsWithin node.inside plan → IsWithin plan node.upper → MeetsLimits network plan → IsAtMost (bound_for prices network node tree) (plan_price prices plan)
 unfolding leaf_bound_for
@@ -77,6 +91,13 @@ bound_for-below prices network node (tip (Pivot number)) bounds allowed plan abo
     let met : MeetsLimit network plan limit =
     each_named_meets network number limit plan meets by.named (IsInForce-grows limit node.inside plan above by.owned) in
     absurd (refuted_fails network plan node.upper limit bounds kept below by.refuted met)
+bound_for-below prices network node (tip (Cut cut)) bounds allowed plan above below meets =
+    let by = cut_broken network node cut allowed in
+    let limit : LimitOf = by.limit in
+    let kept : IsLimit network limit = each_named network cut.limit limit bounds.each_limit by.named in
+    let met : MeetsLimit network plan limit =
+    each_named_meets network cut.limit limit plan meets by.named (IsInForce-grows limit node.inside plan above by.owned) in
+    absurd (broken_fails network plan node.upper limit (displaced_by cut.pairs) bounds kept below by.breaks met)
 bound_for-below prices network node (fork candidate with_it without_it) bounds allowed plan above below meets =
     let inside : candidate < length plan = omega (arith, IsWithin-length plan node.upper below, slice_get_within node.upper candidate true (split_open network node candidate allowed.0).in_upper) in
     elim (entry_at plan candidate inside) [

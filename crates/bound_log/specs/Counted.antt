@@ -1,7 +1,7 @@
 use Rattle.std.specs.Prelude.{ℕ, ◌+◌, ◌-◌, ◌^◌, min, Bool, true, false, List, map, count_by}
 use Rattle.geo_model.specs.declared.answer.Counts.{Counts}
 use Rattle.bound_log.specs.declared.line_kind.LineKind.{LineKind}
-use Rattle.bound_log.specs.declared.line_kind.LineKind.TheVariants.{Split, Cost, Pivot}
+use Rattle.bound_log.specs.declared.line_kind.LineKind.TheVariants.{Split, Cost, Pivot, Cut}
 use Rattle.bound_log.specs.declared.log_line.LogLine.{LogLine}
 use Rattle.bound_log.specs.Lines.{kind_of}
 
@@ -11,16 +11,25 @@ abbrev pub is_split : LineKind → Bool
 is_split Split = true
 is_split Cost = false
 is_split Pivot = false
+is_split Cut = false
 
 abbrev pub is_cost : LineKind → Bool
 is_cost Split = false
 is_cost Cost = true
 is_cost Pivot = false
+is_cost Cut = false
 
 abbrev pub is_pivot : LineKind → Bool
 is_pivot Split = false
 is_pivot Cost = false
 is_pivot Pivot = true
+is_pivot Cut = false
+
+abbrev pub is_cut : LineKind → Bool
+is_cut Split = false
+is_cut Cost = false
+is_cut Pivot = false
+is_cut Cut = true
 
 -- a count with the kinds that pass besides
 abbrev pub counted_on : ℕ → (LineKind → Bool) → List LineKind → ℕ
@@ -32,7 +41,7 @@ counts_with before kinds = record {
   splits = counted_on before.splits is_split kinds;
   costs = counted_on before.costs is_cost kinds;
   pivots = counted_on before.pivots is_pivot kinds;
-  cuts = before.cuts;
+  cuts = counted_on before.cuts is_cut kinds;
   duals = before.duals;
 }
 

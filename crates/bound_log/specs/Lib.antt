@@ -1,10 +1,15 @@
 pub mod Bound
 pub mod Counted
+pub mod CutReading
+pub mod CutSpelling
+pub mod CutText
 pub mod Grammar
 pub mod Lines
 pub mod LogLines
 pub mod LogText
 pub mod LogTree
+pub mod LogWords
+pub mod Numbers
 pub mod OpenCount
 pub mod Placed
 pub mod Rules

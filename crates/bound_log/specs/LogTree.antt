@@ -1,5 +1,6 @@
 use Rattle.std.specs.Prelude.{◌≡◌, ℕ, ◌<◌, true, false, List, length, Some, slice_get, slice_set}
 use Rattle.geo_model.specs.Limit.{LimitOf, IsInForce}
+use Rattle.geo_model.specs.Meeting.{Breaks}
 use Rattle.geo_model.specs.Network.{NetworkOf}
 use Rattle.geo_model.specs.Nodes.{all_plans}
 use Rattle.geo_model.specs.Prices.{PricesOf, plan_price, prices_of}
@@ -9,10 +10,11 @@ use Rattle.pivot_chain.specs.Verdict.{verdict_of}
 use Rattle.bound_log.specs.declared.bound.Bound.{Bound}
 use Rattle.bound_log.specs.declared.bound.Bound.TheVariants.{NoPlan, AtLeast}
 use Rattle.bound_log.specs.Bound.{lesser}
+use Rattle.bound_log.specs.CutText.{CutTextOf, displaced_by}
 use Rattle.bound_log.specs.declared.log_leaf.LogLeaf.{LogLeaf}
-use Rattle.bound_log.specs.declared.log_leaf.LogLeaf.TheVariants.{Cost, Pivot}
+use Rattle.bound_log.specs.declared.log_leaf.LogLeaf.TheVariants.{Cost, Pivot, Cut}
 use Rattle.bound_log.specs.declared.log_line.LogLine.TheVariants.{Split, Leaf}
-use Rattle.bound_log.specs.Rules.{IsAllowedLine}
+use Rattle.bound_log.specs.Rules.{IsAllowedLine, is_displacement}
 use Rattle.bound_log.specs.Spells.{Spells}
 use Rattle.bound_log.specs.Tree.{Tree, fork, tip}
 
@@ -46,6 +48,14 @@ pub record IsRefutedBy (network : NetworkOf) (node : Node) (number : ℕ) : Type
   pub owned : IsInForce limit node.inside
   pub refuted : verdict_of network node.upper limit ≡ Refuted
 
+-- what a cut line wants of its displacement, in one record: it breaks the limit for all plans of the node
+pub record IsBrokenBy (network : NetworkOf) (node : Node) (cut : CutTextOf) : Type 0 where
+  pub limit : LimitOf
+  pub named : slice_get network.limits cut.limit ≡ Some limit
+  pub displacement : is_displacement (length network.unknowns) cut.pairs ≡ true
+  pub owned : IsInForce limit node.inside
+  pub breaks : Breaks network node.upper limit (displaced_by cut.pairs)
+
 -- ---- trees
 
 -- a tree is allowed at a node: each of its lines is allowed at its own node
@@ -60,6 +70,7 @@ IsAllowed network node (fork candidate with_it without_it) =
 unfoldable pub leaf_bound_for : PricesOf → NetworkOf → Node → LogLeaf → Bound
 leaf_bound_for prices network node Cost = AtLeast (plan_price prices node.inside)
 leaf_bound_for prices network node (Pivot limit) = NoPlan
+leaf_bound_for prices network node (Cut cut) = NoPlan
 
 -- the bound of a tree at a node under these prices: the least bound of its leaves
 abbrev pub bound_for : PricesOf → NetworkOf → Node → Tree → Bound

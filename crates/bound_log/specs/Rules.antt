@@ -1,16 +1,19 @@
 -- The rules of a line of a log at its node, in the order in which they are looked at. This project's own.
-use Rattle.std.specs.Prelude.{ℕ, ◌≡◌, ltb, not, ◌&&◌, List, [], ◌∷◌, Bool, true, false, length, get_or, Option, Some, None, slice_get, if◌then◌else◌}
+use Rattle.std.specs.Prelude.{ℕ, suc, ◌≡◌, ltb, nat_le, not, ◌&&◌, List, [], ◌∷◌, Bool, true, false, length, get_or, Option, Some, None, slice_get, if◌then◌else◌, ℤ, ◌*ℤ◌, int_lt, unsigned_abs}
 use Rattle.std.specs.List.{list_all}
-use Rattle.geo_model.specs.Limit.{LimitOf}
+use Rattle.geo_model.specs.Energy.{energy}
+use Rattle.geo_model.specs.Limit.{LimitOf, load}
 use Rattle.geo_model.specs.Network.{NetworkOf}
+use Rattle.geo_model.specs.Row.{Displaced}
 use Rattle.geo_model.specs.declared.plan.Node.{Node}
 use Rattle.geo_model.specs.declared.verdict.Verdict.{Verdict}
 use Rattle.geo_model.specs.declared.verdict.Verdict.TheVariants.{Met, Refuted, Open}
 use Rattle.pivot_chain.specs.Verdict.{verdict_of}
 use Rattle.bound_log.specs.declared.log_kind.LogKind.{LogKind}
-use Rattle.bound_log.specs.declared.log_kind.LogKind.TheVariants.{Range, NotOpen, Owner, NotRefuted}
+use Rattle.bound_log.specs.declared.log_kind.LogKind.TheVariants.{Range, NotOpen, Owner, NotRefuted, CutHolds}
 use Rattle.bound_log.specs.declared.log_line.LogLine.{LogLine}
-use Rattle.bound_log.specs.Lines.{candidates_split, limits_named, limits_refuting}
+use Rattle.bound_log.specs.CutText.{displaced_by}
+use Rattle.bound_log.specs.Lines.{candidates_split, cuts_broken, displacements_of, limits_named, limits_refuting}
 
 -- ---- rules
 
@@ -45,13 +48,31 @@ abbrev pub limit_passes : (LimitOf → Bool) → Option LimitOf → Bool
 limit_passes test None = false
 limit_passes test (Some limit) = test limit
 
+-- an unknown, by its number, of `unknowns` and from `least` on, moves by at most 32768 in size, and does move
+abbrev pub is_move : ℕ → ℕ → ℕ × ℤ → Bool
+is_move unknowns least pair = (nat_le least pair.0 && ltb pair.0 unknowns) && (ltb 0 (unsigned_abs pair.1) && nat_le (unsigned_abs pair.1) 32768)
+
+-- moves of unknowns from `least` on, in the order of their numbers
+abbrev pub are_moves : ℕ → ℕ → List (ℕ × ℤ) → Bool
+are_moves unknowns least [] = true
+are_moves unknowns least (pair ∷ rest) = is_move unknowns least pair && are_moves unknowns (suc pair.0) rest
+
+-- pairs are a displacement of so many unknowns: no more pairs than unknowns, in the order of the unknowns
+abbrev pub is_displacement : ℕ → List (ℕ × ℤ) → Bool
+is_displacement unknowns pairs = nat_le (length pairs) unknowns && are_moves unknowns 0 pairs
+
+-- a displacement breaks a limit under a plan: the factor times the energy is less than the load
+abbrev pub is_broken_at : NetworkOf → List Bool → Displaced → LimitOf → Bool
+is_broken_at network plan x limit = int_lt (limit.alpha *ℤ energy network.candidates plan x) (load limit.squares x)
+
 -- ---- the rules of a line
 
 -- each number of the line is in its range
 abbrev pub is_in_range : NetworkOf → LogLine → Bool
 is_in_range network line =
     list_all (λ candidate. ltb candidate (length network.candidates)) (candidates_split line) &&
-    list_all (λ number. ltb number (length network.limits)) (limits_named line)
+    (list_all (λ number. ltb number (length network.limits)) (limits_named line) &&
+    list_all (is_displacement (length network.unknowns)) (displacements_of line))
 
 -- a split is on a candidate that the node leaves open
 abbrev pub is_open_for : Node → LogLine → Bool
@@ -66,13 +87,19 @@ abbrev pub is_refuting : NetworkOf → Node → LogLine → Bool
 is_refuting network node line =
     list_all (λ number. limit_passes (λ limit. is_refuted (verdict_of network node.upper limit)) (slice_get network.limits number)) (limits_refuting line)
 
--- the rules of a line at a node; no line names a cut as yet
+-- each displacement that, the line says, breaks its limit under the upper plan does so
+abbrev pub is_breaking : NetworkOf → Node → LogLine → Bool
+is_breaking network node line =
+    list_all (λ cut. limit_passes (is_broken_at network node.upper (displaced_by cut.pairs)) (slice_get network.limits cut.limit)) (cuts_broken line)
+
+-- the rules of a line at a node
 unfoldable pub line_rules : NetworkOf → Node → LogLine → List LineRule
 line_rules network node line =
     record { kept = is_in_range network line; kind = Range }
     ∷ record { kept = is_open_for node line; kind = NotOpen }
     ∷ record { kept = is_owned network node line; kind = Owner }
     ∷ record { kept = is_refuting network node line; kind = NotRefuted }
+    ∷ record { kept = is_breaking network node line; kind = CutHolds }
     ∷ []
 
 -- a line is allowed at a node: it breaks no rule

@@ -14,6 +14,9 @@
 
 mod bound;
 mod count;
+mod cut_line;
+mod cut_text;
+mod cut_words;
 mod grammar_laws;
 mod laws;
 mod line;
@@ -21,12 +24,15 @@ mod line_kind;
 mod log_kind;
 mod log_leaf;
 mod log_line;
+mod next_cut;
 mod number;
 mod read;
 mod tree_laws;
 
 pub use bound::Bound;
 pub use count::{count_line, lines_are_counted_on};
+pub use cut_line::put_cut;
+pub use cut_text::{CutText, Pairs};
 pub use grammar_laws::{a_text_is_one_line, numbers_are_numerals, written_lines_are_read};
 pub use laws::checker_is_sound;
 pub use line::{is_head, put_cost, put_head, put_line, put_pivot, put_split};
@@ -36,8 +42,8 @@ pub use log_leaf::LogLeaf;
 pub use log_line::LogLine;
 pub use read::read_line;
 pub use tree_laws::{
-    a_text_has_one_bound, a_text_has_one_tree, a_text_is_spelled, lines_are_allowed_by_their_kinds,
-    rules_say_what_is_allowed, trees_are_allowed_line_by_line,
+    a_text_has_one_bound, a_text_has_one_tree, a_text_is_spelled, cuts_keep_their_displacements,
+    lines_are_allowed_by_their_kinds, rules_say_what_is_allowed, trees_are_allowed_line_by_line,
 };
 
 #[cfg(test)]

@@ -4,6 +4,7 @@ ghost use Rattle.bound_log.specs.LogText.{head_body, head_text, line_text, line_
 ghost use Rattle.bound_log.specs.declared.log_leaf.LogLeaf.TheVariants as log_leaf;
 ghost use Rattle.bound_log.specs.declared.log_line.LogLine.TheVariants as log_line;
 
+use crate::cut_line::put_cut_text;
 use crate::log_leaf::LogLeaf;
 use crate::log_line::LogLine;
 use geo_base::NoMemory;
@@ -33,17 +34,18 @@ fn put_words(out: &mut Vec<u8>, word: &[u8], digits: &[u8]) -> Result<(), NoMemo
 }
 
 /// Appends a line after the first one. Refused, `out` is as before.
-pub fn put_line(out: &mut Vec<u8>, line: LogLine) -> Result<(), NoMemory>
-    ensures put { OnOk result (out.new.items ≡ out.old.items ++ line_text line) }
+pub fn put_line(out: &mut Vec<u8>, line: &LogLine<'_>) -> Result<(), NoMemory>
+    ensures put { OnOk result (out.new.items ≡ out.old.items ++ line_text line.now) }
     ensures refused { OnErr result (out.new.items ≡ out.old.items) }
 {
     let mut buffer = Buffer::new();
     match line {
-        LogLine::Split(candidate) => put_words(out, b"s ", buffer.format(candidate).as_bytes()),
+        LogLine::Split(candidate) => put_words(out, b"s ", buffer.format(*candidate).as_bytes()),
         LogLine::Leaf(LogLeaf::Cost) => put_words(out, b"c", b""),
         LogLine::Leaf(LogLeaf::Pivot(limit)) => {
-            put_words(out, b"p ", buffer.format(limit).as_bytes())
+            put_words(out, b"p ", buffer.format(*limit).as_bytes())
         }
+        LogLine::Leaf(LogLeaf::Cut(cut)) => put_cut_text(out, cut),
     }
 }
 
@@ -60,7 +62,7 @@ pub fn put_split(out: &mut Vec<u8>, c: u32) -> Result<(), NoMemory>
     ensures put { OnOk result (out.new.items ≡ out.old.items ++ line_text (log_line.Split c)) }
     ensures refused { OnErr result (out.new.items ≡ out.old.items) }
 {
-    put_line(out, LogLine::Split(c as u64))
+    put_line(out, &LogLine::Split(c as u64))
 }
 
 /// Appends the line of a leaf whose bound is the price of what is chosen. Refused, `out` is as before.
@@ -68,7 +70,7 @@ pub fn put_cost(out: &mut Vec<u8>) -> Result<(), NoMemory>
     ensures put { OnOk result (out.new.items ≡ out.old.items ++ line_text (log_line.Leaf log_leaf.Cost)) }
     ensures refused { OnErr result (out.new.items ≡ out.old.items) }
 {
-    put_line(out, LogLine::Leaf(LogLeaf::Cost))
+    put_line(out, &LogLine::Leaf(LogLeaf::Cost))
 }
 
 /// Appends the line of a leaf that limit `l` refutes. Refused, `out` is as before.
@@ -76,5 +78,5 @@ pub fn put_pivot(out: &mut Vec<u8>, l: u32) -> Result<(), NoMemory>
     ensures put { OnOk result (out.new.items ≡ out.old.items ++ line_text (log_line.Leaf (log_leaf.Pivot l))) }
     ensures refused { OnErr result (out.new.items ≡ out.old.items) }
 {
-    put_line(out, LogLine::Leaf(LogLeaf::Pivot(l as u64)))
+    put_line(out, &LogLine::Leaf(LogLeaf::Pivot(l as u64)))
 }

@@ -7,4 +7,6 @@ pub enum LineKind {
     Cost,
     /// `p`: a leaf that a limit refutes.
     Pivot,
+    /// `x`: a leaf whose cut is broken.
+    Cut,
 }

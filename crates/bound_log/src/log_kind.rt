@@ -6,7 +6,7 @@ pub enum LogKind {
     Extra,
     /// A line outside the grammar, or without its LF; the first line is another than a log's.
     Form,
-    /// The number of a candidate or of a limit is out of its range.
+    /// The number of a candidate, of a limit or of a displacement is out of its range.
     Range,
     /// A split on a candidate that its node has chosen or left out already.
     NotOpen,
@@ -14,7 +14,7 @@ pub enum LogKind {
     Owner,
     /// A limit that doesn't refute its node.
     NotRefuted,
-    /// A cut that holds. No line names a cut as yet.
+    /// A displacement that doesn't break its limit.
     CutHolds,
     /// The text ends before the tree does.
     Short,

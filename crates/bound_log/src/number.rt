@@ -1,5 +1,5 @@
-ghost use Rattle.std.specs.Prelude.{◌≡◌, ℕ, ◌<◌, ◌↔◌, length, get_or, IfSome, IfNone, IsTrue};
-ghost use Rattle.bound_log.specs.Grammar.{IsNumber};
+ghost use Rattle.std.specs.Prelude.{◌≡◌, ℕ, ℤ, ◌<◌, ◌↔◌, length, get_or, ◌∷◌, IfSome, IfNone, IsTrue};
+ghost use Rattle.bound_log.specs.Numbers.{IsNumber, IsSigned};
 
 use text_num::read_digits;
 
@@ -12,6 +12,39 @@ pub fn read_number(text: &[u8]) -> Option<u64>
         return None;
     }
     read_digits(text, 19)
+}
+
+// The number that the text writes, with `-` before it where it is negative.
+pub fn read_signed(text: &[u8]) -> Option<i128>
+    ensures some { IfSome result (λ value. IsSigned text.now value) }
+    ensures none { IfNone result ((value : ℤ) → IsSigned text.now value → ⊥) }
+{
+    if has_minus(text) {
+        return read_negative(&text[1..]);
+    }
+    match read_number(text) {
+        Some(number) => Some(number as i128),
+        None => None,
+    }
+}
+
+// The number whose text without its `-` this is.
+fn read_negative(digits: &[u8]) -> Option<i128>
+    ensures some { IfSome result (λ value. IsSigned (45 ∷ digits.now) value) }
+    ensures none { IfNone result ((value : ℤ) → IsSigned (45 ∷ digits.now) value → ⊥) }
+{
+    match read_number(digits) {
+        Some(0) => None,
+        Some(number) => Some(0 - number as i128),
+        None => None,
+    }
+}
+
+// Whether a `-` stands at the front.
+fn has_minus(text: &[u8]) -> bool
+    ensures { IsTrue result ↔ (0 < length text.now) × (get_or text.now 0 0 ≡ 45) }
+{
+    text.len() > 0 && text[0] == b'-'
 }
 
 // Whether a `0` stands before other bytes.

@@ -1,18 +1,20 @@
 //! Reading the lines of a log, from lent tokens.
-ghost use Rattle.std.specs.Prelude.{◌≡◌, ℕ, List, ◌∷◌, IfSome, IfNone};
-ghost use Rattle.bound_log.specs.Grammar.{IsLine, IsNumber};
+ghost use Rattle.std.specs.Prelude.{ℕ, List, IfSome, IfNone};
+ghost use Rattle.bound_log.specs.Grammar.{IsLine};
 ghost use Rattle.bound_log.specs.LogLines.{WordsBeginWith, words_of};
 ghost use Rattle.bound_log.specs.declared.log_line.LogLine.{LogLine as LineOf};
 
+use crate::cut_words::next_number;
 use crate::log_leaf::LogLeaf;
 use crate::log_line::LogLine;
-use crate::number::read_number;
+use crate::next_cut::next_cut;
 use lent_parts::{TokenWalk, tokens};
 
-/// Reads a line of a log, which is given without its LF. None exactly outside the grammar: `s C`, `c`
-/// or `p L`, with one space between two words, where a number is `0`, or a digit from 1 to 9 followed
-/// by at most 18 digits. It takes no memory.
-pub fn read_line(line: &[u8]) -> Option<LogLine>
+/// Reads a line of a log, which is given without its LF. None exactly outside the grammar: `s C`, `c`,
+/// `p L`, or `x L M` and M pairs `I V`, with one space between two words, where a number is `0`, or a
+/// digit from 1 to 9 followed by at most 18 digits, and V is one with `-` before it or not, but not
+/// `-0`. It takes no memory.
+pub fn read_line(line: &[u8]) -> Option<LogLine<'_>>
     ensures some { IfSome result (λ read. IsLine line.now read) }
     ensures none { IfNone result ((other : LineOf) → IsLine line.now other → ⊥) }
 {
@@ -27,7 +29,7 @@ pub fn read_line(line: &[u8]) -> Option<LogLine>
 }
 
 // Reads the words of a line from the front. On None some may be taken.
-fn read_words(words: &mut TokenWalk<'_>) -> Option<LogLine>
+fn read_words<'a>(words: &mut TokenWalk<'a>) -> Option<LogLine<'a>>
     ensures some { IfSome result (λ read. WordsBeginWith (words_of words.old) read (words_of words.new)) }
     ensures none { IfNone result ((other : LineOf) (after : List (List ℕ)) → WordsBeginWith (words_of words.old) other after → ⊥) }
 {
@@ -46,18 +48,12 @@ fn read_words(words: &mut TokenWalk<'_>) -> Option<LogLine>
             Some(limit) => Some(LogLine::Leaf(LogLeaf::Pivot(limit))),
             None => None,
         }
+    } else if kind.text == b"x".as_slice() {
+        match next_cut(words) {
+            Some(cut) => Some(LogLine::Leaf(LogLeaf::Cut(cut))),
+            None => None,
+        }
     } else {
         None
-    }
-}
-
-// Reads the next word, which has to be a number.
-fn next_number(words: &mut TokenWalk<'_>) -> Option<u64>
-    ensures some { IfSome result (λ number. (text : List ℕ) × IsNumber text number × (words_of words.old ≡ text ∷ words_of words.new)) }
-    ensures none { IfNone result ((text : List ℕ) (after : List (List ℕ)) (number : ℕ) → words_of words.old ≡ text ∷ after → IsNumber text number → ⊥) }
-{
-    match words.next() {
-        Some(word) => read_number(word.text),
-        None => None,
     }
 }

@@ -1,6 +1,8 @@
 use super::*;
-use geo_model::Counts;
-use lent_parts::lines;
+use cut_pool::Cut;
+use geo_base::NoMemory;
+use geo_model::{Counts, Displacement};
+use std::alloc::Global;
 use std::test::Fail;
 
 #[test]
@@ -17,52 +19,85 @@ fn lines_are_spelled(rt: HostRuntime) -> Result<(), Fail> {
     Ok(())
 }
 
-#[test]
-fn lines_are_read(rt: HostRuntime) {
-    assert_eq!(rt; read_line(b"s 0"), Some(LogLine::Split(0)));
-    assert_eq!(rt; read_line(b"s 255"), Some(LogLine::Split(255)));
-    assert_eq!(rt; read_line(b"c"), Some(LogLine::Leaf(LogLeaf::Cost)));
-    assert_eq!(rt;
-        read_line(b"p 9999999999999999999"),
-        Some(LogLine::Leaf(LogLeaf::Pivot(9999999999999999999)))
-    );
-    assert_eq!(rt; read_line(b"p 10000000000000000000"), None);
-    assert_eq!(rt; read_line(b"s 00"), None);
-    assert_eq!(rt; read_line(b"s  0"), None);
-    assert_eq!(rt; read_line(b"s"), None);
-    assert_eq!(rt; read_line(b"s "), None);
-    assert_eq!(rt; read_line(b"s 0 "), None);
-    assert_eq!(rt; read_line(b"c "), None);
-    assert_eq!(rt; read_line(b" c"), None);
-    assert_eq!(rt; read_line(b"s -0"), None);
-    assert_eq!(rt; read_line(b"s +1"), None);
-    assert_eq!(rt; read_line(b"x 0 0"), None);
-    assert_eq!(rt; read_line(b"d 1 0"), None);
-    assert_eq!(rt; read_line(b""), None);
-    assert_eq!(rt; read_line(b"S 0"), None);
-    assert_eq!(rt; read_line(b"p 0\r"), None);
-    assert_eq!(rt; read_line(b"c\n"), None);
+// What is read of a line, put again; empty where it isn't in the grammar.
+fn read_and_put(alloc: Global, line: &[u8]) -> Result<Vec<u8>, NoMemory> {
+    let mut out = Vec::new(alloc);
+    if let Some(read) = read_line(line) {
+        put_line(&mut out, &read)?;
+    }
+    Ok(out)
 }
 
 #[test]
-fn put_lines_are_read(rt: HostRuntime) -> Result<(), Fail> {
-    let mut out = Vec::new(rt.alloc());
-    put_split(&mut out, 7)?;
-    put_cost(&mut out)?;
-    put_pivot(&mut out, 4294967295)?;
-    let mut walk = lines(out.as_slice());
-    let wanted = [
-        LogLine::Split(7),
-        LogLine::Leaf(LogLeaf::Cost),
-        LogLine::Leaf(LogLeaf::Pivot(4294967295)),
+fn lines_are_read(rt: HostRuntime) -> Result<(), Fail> {
+    let within: [&[u8]; 11] = [
+        b"s 0\n",
+        b"s 255\n",
+        b"c\n",
+        b"p 9999999999999999999\n",
+        b"x 0 0\n",
+        b"x 0 1 0 0\n",
+        b"x 0 2 0 1 0 1\n",
+        b"x 7 1 3 -32768\n",
+        b"x 9999999999999999999 1 9999999999999999999 -9999999999999999999\n",
+        b"x 0 1 0 32769\n",
+        b"x 1 2 5 1 4 -1\n",
     ];
-    for line in wanted {
-        assert_eq!(rt;
-            walk.next().and_then(|found| read_line(found.text)),
-            Some(line)
-        );
+    for line in within {
+        let put = read_and_put(rt.alloc(), &line[..line.len().saturating_sub(1)])?;
+        assert_eq!(rt; put.as_slice(), line);
     }
-    assert_eq!(rt; walk.next(), None);
+    let outside: [&[u8]; 28] = [
+        b"p 10000000000000000000",
+        b"s 00",
+        b"s  0",
+        b"s",
+        b"s ",
+        b"s 0 ",
+        b"c ",
+        b" c",
+        b"s -0",
+        b"s +1",
+        b"d 1 0",
+        b"",
+        b"S 0",
+        b"p 0\r",
+        b"c\n",
+        b"x",
+        b"x 0",
+        b"x 0 1",
+        b"x 0 1 0",
+        b"x 0 1 0 -0",
+        b"x 0 1 0 +1",
+        b"x 0 1 -1 1",
+        b"x 0 2 0 1",
+        b"x 0 1 0 1 1 1",
+        b"x 0 1  0 1",
+        b"x 0 0 ",
+        b"x 0 1 0 10000000000000000000",
+        b"x 0 1 0 -",
+    ];
+    for line in outside {
+        let put = read_and_put(rt.alloc(), line)?;
+        assert_eq!(rt; put.len(), 0);
+    }
+    Ok(())
+}
+
+#[test]
+fn cuts_are_put(rt: HostRuntime) -> Result<(), Fail> {
+    let mut x = Displacement::new(rt.alloc(), 5)?;
+    x.set(1, -32768);
+    x.set(4, 7);
+    let cut = Cut {
+        limit: 12,
+        x,
+        coefficients: Vec::new(rt.alloc()),
+        bound: 0,
+    };
+    let mut out = Vec::new(rt.alloc());
+    put_cut(&mut out, &cut)?;
+    assert_eq!(rt; out.as_slice(), b"x 12 2 1 -32768 4 7\n".as_slice());
     Ok(())
 }
 
@@ -88,9 +123,10 @@ fn lines_are_counted(rt: HostRuntime) {
     count_line(&mut counts, LogLine::Split(7).kind());
     count_line(&mut counts, LogLine::Leaf(LogLeaf::Cost).kind());
     count_line(&mut counts, LogLine::Leaf(LogLeaf::Pivot(0)).kind());
+    count_line(&mut counts, LineKind::Cut);
     assert_eq!(rt; (counts.splits, counts.costs), (1, u64::MAX));
     assert_eq!(rt;
         (counts.pivots, counts.cuts, counts.duals),
-        (u64::MAX, 3, 4)
+        (u64::MAX, 4, 4)
     );
 }

@@ -1,11 +1,17 @@
 //! What a text says of its tree. Each function is its contract: it does nothing.
-ghost use Rattle.std.specs.Prelude.{◌≡◌, ◌↔◌, ℕ, true, List, All, map};
+ghost use Rattle.std.specs.Prelude.{◌≡◌, ◌↔◌, ◌<◌, ◌^◌, ℕ, ℤ, true, List, All, Some, length, map, slice_get};
+ghost use Rattle.whole_algebra.specs.Matrices.{at};
+ghost use Rattle.cut_pool.specs.Cut.{CutOf};
+ghost use Rattle.geo_model.specs.Limit.{LimitOf, IsInForce};
+ghost use Rattle.geo_model.specs.Meeting.{Breaks};
+ghost use Rattle.geo_model.specs.Row.{IsNarrow};
 ghost use Rattle.geo_model.specs.Network.{NetworkOf, IsNetwork};
 ghost use Rattle.geo_model.specs.declared.plan.Node.{Node};
 ghost use Rattle.bound_log.specs.declared.bound.Bound.{Bound as BoundOf};
-ghost use Rattle.bound_log.specs.Grammar.{HasNumbersBelow, number_bound};
-ghost use Rattle.bound_log.specs.LogText.{log_text};
-ghost use Rattle.bound_log.specs.LogTree.{HasBound, IsAllowed, IsOpenAt, IsRefutedBy};
+ghost use Rattle.bound_log.specs.CutText.{CutTextOf, displaced_by, moves_from, text_of_cut};
+ghost use Rattle.bound_log.specs.Grammar.{HasNumbersBelow, IsLine, number_bound};
+ghost use Rattle.bound_log.specs.LogText.{line_body, log_text};
+ghost use Rattle.bound_log.specs.LogTree.{HasBound, IsAllowed, IsBrokenBy, IsOpenAt, IsRefutedBy};
 ghost use Rattle.bound_log.specs.Placed.{placed};
 ghost use Rattle.bound_log.specs.Rules.{IsAllowedLine, line_rules};
 ghost use Rattle.std.specs.List.{list_all};
@@ -38,14 +44,28 @@ pub fn trees_are_allowed_line_by_line()
 {}
 
 /// What each kind of line wants of its node: a split an open candidate, a leaf of the price nothing,
-/// and a leaf that names a limit that this limit refutes the node.
+/// a leaf that names a limit that this limit refutes the node, and a leaf that names a displacement
+/// that it breaks its limit for all plans of the node.
 pub fn lines_are_allowed_by_their_kinds()
     ensures split { (network : NetworkOf) (node : Node) (candidate : ℕ) → IsAllowedLine network node (log_line.Split candidate) ↔ IsOpenAt network node candidate }
     ensures cost { (network : NetworkOf) (node : Node) → IsAllowedLine network node (log_line.Leaf log_leaf.Cost) }
     ensures pivot { (network : NetworkOf) (node : Node) (number : ℕ) → IsAllowedLine network node (log_line.Leaf (log_leaf.Pivot number)) ↔ IsRefutedBy network node number }
+    ensures cut { (network : NetworkOf) (node : Node) (text : CutTextOf) → IsAllowedLine network node (log_line.Leaf (log_leaf.Cut text)) ↔ IsBrokenBy network node text }
 {}
 
 /// A line keeps all rules at a node exactly where it is allowed there.
 pub fn rules_say_what_is_allowed()
     ensures { (network : NetworkOf) (node : Node) (line : LineOf) → (list_all (λ rule. rule.kept) (line_rules network node line) ≡ true) ↔ IsAllowedLine network node line }
+{}
+
+/// A cut as a line spells it has the displacement of the cut; so its line is allowed wherever that
+/// breaks the limit under the upper plan and the limit is in force for the inner one. What `put_cut`
+/// appends is read back as the cut's line.
+pub fn cuts_keep_their_displacements()
+    ensures displacement { (x : List ℤ) (i : ℕ) → displaced_by (moves_from 0 x) i ≡ at x i }
+    ensures read { (cut : CutOf) → cut.limit < 2 ^ 32 → length cut.x < 2 ^ 32 → IsNarrow (at cut.x)
+        → IsLine (line_body (log_line.Leaf (log_leaf.Cut (text_of_cut cut)))) (log_line.Leaf (log_leaf.Cut (text_of_cut cut))) }
+    ensures allowed { (network : NetworkOf) (node : Node) (cut : CutOf) (limit : LimitOf) → length cut.x ≡ length network.unknowns → IsNarrow (at cut.x)
+        → slice_get network.limits cut.limit ≡ Some limit → IsInForce limit node.inside → Breaks network node.upper limit (at cut.x)
+        → IsAllowedLine network node (log_line.Leaf (log_leaf.Cut (text_of_cut cut))) }
 {}

@@ -20,7 +20,7 @@ pub returns-in-Some-next-clause-none : goal.returns-in-Some-next-clause-none
 returns-in-Some-next-clause-none c = λ other is.
     let read = c.in-Some.read in
     let word = c.in-Some-next.field-0.text.now in
-    more_words read other word (words_of c.next.new.self)
+    more_words read other word (words_of c.next.new.self) c.in-Some.ensures.some.numbers is.numbers
     (ap (λ after. line_words read ++ after) (sym (ap words_of c.in-Some-next.ensures.steps))
     ∙ sym c.in-Some.ensures.some.spelled
     ∙ ap words_of c.tokens-words.ensures

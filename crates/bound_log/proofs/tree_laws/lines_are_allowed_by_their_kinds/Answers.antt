@@ -1,4 +1,4 @@
-use Rattle.bound_log.proofs.AllowedLemmas.{cost_allowed, pivot_allowed, pivot_refuted, split_allowed, split_open}
+use Rattle.bound_log.proofs.AllowedLemmas.{cost_allowed, cut_allowed, cut_broken, pivot_allowed, pivot_refuted, split_allowed, split_open}
 use Rattle.bound_log.proofs.tree_laws.lines_are_allowed_by_their_kinds.Goals as goal
 
 pub returns-clause-split : goal.returns-clause-split
@@ -9,3 +9,6 @@ returns-clause-cost c = cost_allowed
 
 pub returns-clause-pivot : goal.returns-clause-pivot
 returns-clause-pivot c = λ network node number. (pivot_refuted network node number, pivot_allowed network node number)
+
+pub returns-clause-cut : goal.returns-clause-cut
+returns-clause-cut c = λ network node text. (cut_broken network node text, cut_allowed network node text)
