@@ -12,15 +12,15 @@ use geo_model::{Counts, Network};
 use shelf_io::{Shelf, WriteAnswer};
 
 /// The candidate on which a line splits its node; a leaf splits none.
-pub fn split_candidate(network: &Network, line: LogLine) -> Option<u32>
-    requires { (candidate : ℕ) → line ≡ log_line.Split candidate → candidate < length network.now.candidates }
-    ensures some { IfSome result (λ candidate. line ≡ log_line.Split candidate) }
-    ensures none { IfNone result ((candidate : ℕ) → line ≡ log_line.Split candidate → ⊥) }
+pub fn split_candidate(network: &Network, line: &LogLine<'_>) -> Option<u32>
+    requires { (candidate : ℕ) → line.now ≡ log_line.Split candidate → candidate < length network.now.candidates }
+    ensures some { IfSome result (λ candidate. line.now ≡ log_line.Split candidate) }
+    ensures none { IfNone result ((candidate : ℕ) → line.now ≡ log_line.Split candidate → ⊥) }
 {
     match line {
         LogLine::Split(candidate) => {
-            prove!(candidate < network.candidates().len() as u64);
-            Some(candidate as u32)
+            prove!(*candidate < network.candidates().len() as u64);
+            Some(*candidate as u32)
         }
         LogLine::Leaf(_) => None,
     }
@@ -45,12 +45,12 @@ pub fn write_line<H: Shelf>(
     name: &str,
     buffer: &mut Vec<u8>,
     counts: &mut Counts,
-    line: LogLine,
+    line: &LogLine<'_>,
 ) -> Result<(), SearchFault>
     requires { (H.state shelf.old).started ≡ Some name.now }
-    ensures added { OnOk result (Adds name.now (line_text line) (H.state shelf.old) (H.state shelf.new)) }
-    ensures counted { OnOk result (counts.new ≡ counts_with counts.old (kind_of line ∷ [])) }
-    ensures refused { IfErr result (λ why. Breaks name.now (line_text line) why (H.state shelf.old) (H.state shelf.new)) }
+    ensures added { OnOk result (Adds name.now (line_text line.now) (H.state shelf.old) (H.state shelf.new)) }
+    ensures counted { OnOk result (counts.new ≡ counts_with counts.old (kind_of line.now ∷ [])) }
+    ensures refused { IfErr result (λ why. Breaks name.now (line_text line.now) why (H.state shelf.old) (H.state shelf.new)) }
 {
     buffer.clear();
     if put_line(buffer, line).is_err() {

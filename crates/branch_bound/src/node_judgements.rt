@@ -131,7 +131,7 @@ pub fn line_at(
     node: &Node,
     inherited: &mut Inherited,
     best: &mut Best,
-) -> Result<LogLine, NoMemory>
+) -> Result<LogLine<'static>, NoMemory>
     requires room { IsRoomOf network.now room.old }
     requires node { IsNode network.now node.now }
     requires inherited { IsInherited network.now node.now inherited.old }
@@ -164,8 +164,9 @@ pub fn line_at(
     }
     // An unsettled plan is offered only where it is its node's only one. At equal price the first one
     // stays, and a certified plan takes its place.
-    if is_cheaper(network, &node.inside, best) {
-        *best = Best::Unsettled(node.inside.copy(alloc)?);
+    if !is_cheaper(network, &node.inside, best) {
+        return Ok(LogLine::Leaf(LogLeaf::Cost));
     }
+    *best = Best::Unsettled(node.inside.copy(alloc)?);
     Ok(LogLine::Leaf(LogLeaf::Cost))
 }

@@ -101,9 +101,9 @@ fn explore<H: Shelf>(
         name,
         &mut findings.buffer,
         &mut findings.counts,
-        line,
+        &line,
     )?;
-    let Some(candidate) = split_candidate(network, line) else {
+    let Some(candidate) = split_candidate(network, &line) else {
         return Ok(());
     };
     // This child has the same upper plan. So of the limits only the candidate's own can refute it, and

@@ -26,20 +26,20 @@ returns-in_default-unmet_limit-clause-line c = record {
   done = IsDone-certified c.args.network.now c.args.node.now c.args.best.now c.in_ok-copy.field-0 c.in_ok-copy.ensures c.in_default-unmet_limit.ensures.none (iff_false c.is_cut_off.ensures c.if-is_cut_off.false);
 }
 
-pub returns-in_ok-copy-2-clause-line : goal.returns-in_ok-copy-2-clause-line
+pub returns-clause-line : goal.returns-clause-line
 unfolding leaf_bound_for
-returns-in_ok-copy-2-clause-line c = record {
+returns-clause-line c = record {
   allowed = cost_allowed c.args.network.now c.args.node.now;
   done = IsDone-unsettled c.args.network.now c.args.node.now c.args.best.now c.in_ok-copy-2.field-0 c.in_ok-copy-2.ensures c.in_default-branch_candidate.ensures.none
       (unsettled_by c.args.network.now c.args.node.now c.in-Some-unmet_limit.limit c.requires.node c.in_default-branch_candidate.ensures.none c.in_default.ensures.none c.in-Some-unmet_limit.ensures.unmet.unmet)
       (iff_false c.is_cut_off.ensures c.if-is_cut_off.false);
 }
 
-pub returns-else-is_cheaper-clause-line : goal.returns-else-is_cheaper-clause-line
+pub returns-then-not-is_cheaper-clause-line : goal.returns-then-not-is_cheaper-clause-line
 unfolding leaf_bound_for
-returns-else-is_cheaper-clause-line c = record {
+returns-then-not-is_cheaper-clause-line c = record {
   allowed = cost_allowed c.args.network.now c.args.node.now;
   done = IsDone-undercut c.args.network.now c.args.node.now c.args.best.now c.requires.kept c.in_default-branch_candidate.ensures.none
       (unsettled_by c.args.network.now c.args.node.now c.in-Some-unmet_limit.limit c.requires.node c.in_default-branch_candidate.ensures.none c.in_default.ensures.none c.in-Some-unmet_limit.ensures.unmet.unmet)
-      (iff_false c.is_cheaper.ensures c.if-is_cheaper.false);
+      (iff_false c.is_cheaper.ensures c.if-not-is_cheaper.true);
 }
