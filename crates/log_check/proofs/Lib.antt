@@ -1,4 +1,5 @@
 pub mod EveryText
+pub mod FedLemmas
 pub mod HeightNetworks
 pub mod LongerLemmas
 pub mod PlaceLemmas
@@ -8,3 +9,4 @@ pub mod RunLemmas
 pub mod TakeLemmas
 pub mod TextLemmas
 pub mod VerdictLemmas
+pub mod WalkLemmas

@@ -1,5 +1,5 @@
 -- A fault of a line that has ended stays the fault of each longer text.
-use Rattle.std.proofs.Common.{◌≡◌, ◌⊎◌, ℕ, ◌+◌, ◌≤◌, cond, Bool, true, false, List, [], ◌∷◌, ◌++◌, length, All, arith, refl, ap, sym, ◌∙◌, subst, zero-add, append_assoc, inl, inr}
+use Rattle.std.proofs.Common.{◌≡◌, ℕ, ◌+◌, ◌≤◌, cond, Bool, true, false, List, [], ◌∷◌, ◌++◌, length, All, arith, refl, ap, sym, ◌∙◌, subst, zero-add, append_assoc, inl, inr}
 use Rattle.std.specs.Prelude.{count_by}
 use Rattle.std.proofs.lemmas.Bool.{cases_Bool, eqb-true}
 use Rattle.std.proofs.lemmas.List.Elements.{All-nil, All-cons, All-head, All-tail}
@@ -22,16 +22,16 @@ use Rattle.log_check.proofs.VerdictLemmas.{begun_numbers}
 
 -- ---- the LFs of a text
 
-abbrev feeds : List ℕ → ℕ
+abbrev pub feeds : List ℕ → ℕ
 feeds text = count_by is_line_feed text
 
-abbrev NoFeed : ℕ → Type 0
+abbrev pub NoFeed : ℕ → Type 0
 NoFeed c = is_line_feed c ≡ false
 
-feeds-append : (xs ys : List ℕ) → feeds (xs ++ ys) ≡ feeds xs + feeds ys
+pub feeds-append : (xs ys : List ℕ) → feeds (xs ++ ys) ≡ feeds xs + feeds ys
 feeds-append xs ys = sum_by-append (λ c. cond (is_line_feed c) 1 0) xs ys
 
-feeds-none : (xs : List ℕ) → All NoFeed xs → feeds xs ≡ 0
+pub feeds-none : (xs : List ℕ) → All NoFeed xs → feeds xs ≡ 0
 feeds-none [] lacks = refl
 feeds-none (x ∷ xs) lacks =
     let one : cond {A = ℕ} (is_line_feed x) 1 0 ≡ 0 = ap (λ (b : Bool). cond {A = ℕ} b 1 0) (All-head NoFeed x xs lacks) in
@@ -45,7 +45,7 @@ feeds-line line small =
     both ∙ ap (λ n. n + 1) none
 
 -- each line has one
-feeds-lines : (lines : List LogLine) → All (HasNumbersBelow number_bound) lines → feeds (lines_text lines) ≡ length lines
+pub feeds-lines : (lines : List LogLine) → All (HasNumbersBelow number_bound) lines → feeds (lines_text lines) ≡ length lines
 feeds-lines [] small = refl
 feeds-lines (line ∷ lines) small =
     let both : feeds (line_text line ++ lines_text lines) ≡ feeds (line_text line) + feeds (lines_text lines) = feeds-append (line_text line) (lines_text lines) in

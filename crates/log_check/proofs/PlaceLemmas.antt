@@ -20,6 +20,8 @@ use Rattle.bound_log.proofs.OpenLemmas.{open_count-root, open_count-with, open_c
 use Rattle.bound_log.proofs.SoundLemmas.{at_place}
 use Rattle.log_check.specs.Places.{OpenOf, HasEntries, ArePlaces, HasRoom, IsReady}
 use Rattle.log_check.specs.Running.{opened, LeadsTo}
+use Rattle.log_check.specs.Taking.{TakesText, TakesLine, at_head, at_node}
+use Rattle.log_check.specs.declared.progress.Progress.{Progress}
 
 -- ---- copies of plans
 
@@ -123,7 +125,7 @@ places_split count places now node spare spare_now free candidate are before her
 
 -- ---- room for the nodes of lines
 
-room_after : (network : NetworkOf) (count : ℕ) (node : Node) (rest : List Node) (line : LogLine) → HasRoom count (node ∷ rest) → IsAllowedLine network node line → HasRoom count (opened node line ++ rest)
+pub room_after : (network : NetworkOf) (count : ℕ) (node : Node) (rest : List Node) (line : LogLine) → HasRoom count (node ∷ rest) → IsAllowedLine network node line → HasRoom count (opened node line ++ rest)
 room_after network count node rest (Split candidate) room allowed =
     let here = split_open network node candidate allowed in (
       with_long count node candidate room.0,
@@ -140,6 +142,10 @@ room_along network count (node ∷ nodes) final (x ∷ lines) room leads =
 
 pub room_at_root : (count : ℕ) → HasRoom count (all_plans count ∷ [])
 room_at_root count = let all : open_count (replicate count false) (replicate count true) ≡ count = open_count-root count in (all_plans_long count, omega arith, tt)
+
+-- the open nodes before the first line
+pub ready_root : (network : NetworkOf) → length network.candidates ≤ 256 → IsReady network (record { candidates = length network.candidates; nodes = all_plans (length network.candidates) ∷ [] })
+ready_root network few = record { few = few; count = refl; room = room_at_root (length network.candidates) }
 
 -- the next node of a network
 pub next_long : (network : NetworkOf) (stack : OpenOf) (node : Node) (rest : List Node) → IsReady network stack → stack.nodes ≡ node ∷ rest → HasEntries (length network.candidates) node
@@ -163,3 +169,20 @@ split_fits network stack candidate ready some allowed =
 pub not_empty : {X : Type 0} (xs : List X) → (xs ≡ [] → ⊥) → HeadTail xs
 not_empty [] some = absurd (some refl)
 not_empty (x ∷ xs) some = record { first = x; rest = xs; is = refl }
+
+-- ---- after a line that was taken
+
+pub ready_text : (network : NetworkOf) (text : List ℕ) (ended : Bool) (before now : Progress) → IsReady network before.stack → TakesText network text ended before now → IsReady network now.stack
+ready_text network text ended before now ready takes =
+    let count : ℕ = length network.candidates in
+    let room : HasRoom count (takes.node ∷ takes.rest) = subst (HasRoom count) takes.top ready.room in
+    record {
+      few = ready.few;
+      count = ap (λ (s : OpenOf). s.candidates) takes.takes.stack ∙ ready.count;
+      room = subst (HasRoom count) (sym (ap (λ (s : OpenOf). s.nodes) takes.takes.stack)) (room_after network count takes.node takes.rest takes.line room takes.allowed);
+    }
+
+pub ready_next : (network : NetworkOf) (text : List ℕ) (ended : Bool) (before now : Progress) → IsReady network before.stack → TakesLine network text ended before now → IsReady network now.stack
+ready_next network text ended before now ready (at_head head) = subst (λ (s : OpenOf). IsReady network s) (sym head.stack) ready
+ready_next network text ended before now ready (at_node middle some takes is) =
+    subst (λ (s : OpenOf). IsReady network s) (sym (ap (λ (p : Progress). p.stack) is)) (ready_text network text ended before middle ready takes)

@@ -1,6 +1,6 @@
 -- How far the text of a log has been taken, and where it stops.
-use Rattle.std.proofs.Common.{◌≡◌, ℕ, ◌+◌, ◌<◌, ◌≤◌, if◌then◌else◌, Bool, true, false, List, [], ◌∷◌, ◌++◌, length, flat_map, All, arith, refl, ap, sym, ◌∙◌, subst, append-nil, append_assoc}
-use Rattle.std.proofs.lemmas.Grind.{flat_map-append}
+use Rattle.std.proofs.Common.{◌≡◌, ℕ, ◌+◌, ◌^◌, ◌<◌, ◌≤◌, if◌then◌else◌, Bool, true, false, List, [], ◌∷◌, ◌++◌, length, flat_map, All, arith, refl, ap, sym, ◌∙◌, subst, append-nil, append_assoc}
+use Rattle.std.proofs.Math.Nat.{min-eq_left}
 use Rattle.std.proofs.lemmas.List.{length-append}
 use Rattle.std.proofs.lemmas.List.Elements.{All-head, All-from_recursion}
 use Rattle.lent_parts.specs.Pieces.{TextLineOf, is_line_feed, line_feed, lines_of, line_bytes}
@@ -11,12 +11,10 @@ use Rattle.geo_model.specs.declared.plan.Node.{Node}
 use Rattle.bound_log.specs.Bound.{lesser}
 use Rattle.bound_log.specs.Counted.{counts_of, counts_with}
 use Rattle.bound_log.specs.Grammar.{IsLine, text_line}
-use Rattle.bound_log.specs.LogText.{head_body, head_text, line_end, line_text, lines_text}
+use Rattle.bound_log.specs.LogText.{head_body, head_text, line_end, line_text}
 use Rattle.bound_log.specs.declared.log_kind.LogKind.{LogKind}
 use Rattle.bound_log.specs.declared.log_kind.LogKind.TheVariants.{Form, Short}
-use Rattle.bound_log.specs.declared.log_leaf.LogLeaf.TheVariants.{Cost, Pivot}
 use Rattle.bound_log.specs.declared.log_line.LogLine.{LogLine}
-use Rattle.bound_log.specs.declared.log_line.LogLine.TheVariants.{Split, Leaf}
 use Rattle.bound_log.specs.Lines.{kind_of}
 use Rattle.bound_log.specs.LogTree.{root_of}
 use Rattle.bound_log.specs.Rules.{IsAllowedLine}
@@ -28,10 +26,10 @@ use Rattle.bound_log.proofs.SpellLemmas.{begins_line, begins_more}
 use Rattle.log_check.specs.declared.progress.Progress.{Progress}
 use Rattle.log_check.specs.FirstFault.{IsWhole, IsFaultAfter, extra, short, form, rule, IsFirstFault, headless, later}
 use Rattle.log_check.specs.Places.{IsReady}
-use Rattle.log_check.specs.Reaching.{head_line, IsFront, nothing, begun, HasTaken, Reaches, EndsWhole}
+use Rattle.log_check.specs.Reaching.{head_line, IsFront, nothing, begun, HasTaken, Reaches}
 use Rattle.log_check.specs.Replayed.{IsReplayed}
 use Rattle.log_check.specs.Running.{line_bound, LeadsTo, bound_along, StandsAt}
-use Rattle.log_check.specs.Taking.{Takes, TakesText, Stops, no_node, no_line, no_rule, TakesHead, TakesLine, at_head, at_node, StopsLine, no_head, past_head}
+use Rattle.log_check.specs.Taking.{Takes, TakesText, Stops, no_node, no_line, no_rule, TakesHead, TakesLine, at_head, at_node, next_count, StopsLine, no_head, past_head}
 use Rattle.log_check.proofs.PlaceLemmas.{room_along, room_at_root}
 use Rattle.log_check.proofs.RunLemmas.{LeadsTo-then, bound_along-then, one_final, leads_begins, whole_leads, leads_whole, leads_stands, whole_tree}
 
@@ -80,9 +78,6 @@ not_headed text other left begins =
 pub fault_headless : (network : NetworkOf) (text : List ℕ) → ((rest : List TextLineOf) → lines_of text ≡ head_line ∷ rest → ⊥) → IsFirstFault network text (record { line = 1; kind = Form })
 fault_headless network text other = headless refl refl (not_headed text other)
 
-pub reaches_start : (network : NetworkOf) (text : List ℕ) (progress : Progress) → HasTaken network [] progress → Reaches network text (lines_of text) progress
-reaches_start network text progress taken = record { front = []; left = text; whole = refl; walked = refl; taken = taken }
-
 -- nothing was taken before the first line
 pub taken_nothing : (network : NetworkOf) (progress : Progress) → progress.lines ≡ 0 → progress.stack.candidates ≡ length network.candidates → StandsAt network [] progress.stack.nodes progress.bound progress.counts → HasTaken network [] progress
 taken_nothing network progress none count stands = record { lines = []; front = nothing refl refl none; stands = stands; count = count }
@@ -115,7 +110,7 @@ pub record IsBegun (text : List ℕ) (lines : List LogLine) (count : ℕ) : Type
   pub begins : BeginsWith text lines []
   pub numbered : count ≡ length lines + 1
 
-front_begun : (text : List ℕ) (lines : List LogLine) (count : ℕ) → IsFront text lines count → 0 < count → IsBegun text lines count
+pub front_begun : (text : List ℕ) (lines : List LogLine) (count : ℕ) → IsFront text lines count → 0 < count → IsBegun text lines count
 front_begun text lines count (nothing no_text no_lines none) some = absurd (omega arith)
 front_begun text lines count (begun begins number) some = record { begins = begins; numbered = number }
 
@@ -136,9 +131,13 @@ taken_head network front line before now taken head =
       count = ap (λ s. s.candidates) head.stack ∙ taken.count;
     }
 
+-- a counter that has not come to its end rises
+pub next_rises : (count : ℕ) → count + 1 < 2 ^ 64 → next_count count ≡ count + 1
+next_rises count few = min-eq_left (omega (arith, few))
+
 -- a later line is taken
-taken_line : (network : NetworkOf) (front : List ℕ) (line : TextLineOf) (before now : Progress) → HasTaken network front before → 0 < before.lines → TakesText network line.text line.ended before now → HasTaken network (front ++ line_bytes line) (record now { lines = now.lines + 1 })
-taken_line network front line before now taken some takes =
+taken_line : (network : NetworkOf) (front : List ℕ) (line : TextLineOf) (before now : Progress) → HasTaken network front before → 0 < before.lines → before.lines + 1 < 2 ^ 64 → TakesText network line.text line.ended before now → HasTaken network (front ++ line_bytes line) (record now { lines = next_count now.lines })
+taken_line network front line before now taken some few takes =
     let read : LogLine = takes.line in
     let lines : List LogLine = taken.lines in
     let log = front_begun front lines before.lines taken.front some in
@@ -146,27 +145,16 @@ taken_line network front line before now taken some takes =
     record {
       lines = lines ++ read ∷ [];
       front = begun (begins_line (front ++ line_bytes line) lines (line_bytes line) [] read (begins_more front lines [] (line_bytes line) log.begins) (record { spelled = bytes; numbers = takes.spelled.numbers }))
-          (omega (arith, log.numbered, takes.takes.numbered, length-append lines (read ∷ [])));
+          (next_rises now.lines (omega (arith, few, takes.takes.numbered)) ∙ omega (arith, log.numbered, takes.takes.numbered, length-append lines (read ∷ [])));
       stands = stands_next network lines takes.node takes.rest read before now taken.stands takes.top takes.allowed takes.takes;
       count = ap (λ o. o.candidates) takes.takes.stack ∙ taken.count;
     }
 
 -- what was taken goes on with a line that is taken
-pub taken_next : (network : NetworkOf) (front : List ℕ) (line : TextLineOf) (before now : Progress) → HasTaken network front before → TakesLine network line.text line.ended before now → HasTaken network (front ++ line_bytes line) now
-taken_next network front line before now taken (at_head head) = taken_head network front line before now taken head
-taken_next network front line before now taken (at_node middle some takes is) =
-    subst (λ (p : Progress). HasTaken network (front ++ line_bytes line) p) (sym is) (taken_line network front line before middle taken some takes)
-
-pub reaches_next : (network : NetworkOf) (text : List ℕ) (line : TextLineOf) (more : List TextLineOf) (before now : Progress) → Reaches network text (line ∷ more) before → TakesLine network line.text line.ended before now → Reaches network text more now
-reaches_next network text line more before now reached takes =
-    let next = next_line reached.left line more (sym reached.walked) in
-    record {
-      front = reached.front ++ line_bytes line;
-      left = next.left;
-      whole = reached.whole ∙ ap (λ (t : List ℕ). reached.front ++ t) next.spelled ∙ sym (append_assoc reached.front (line_bytes line) next.left);
-      walked = next.walked;
-      taken = taken_next network reached.front line before now reached.taken takes;
-    }
+pub taken_next : (network : NetworkOf) (front : List ℕ) (line : TextLineOf) (before now : Progress) → HasTaken network front before → before.lines + 1 < 2 ^ 64 → TakesLine network line.text line.ended before now → HasTaken network (front ++ line_bytes line) now
+taken_next network front line before now taken few (at_head head) = taken_head network front line before now taken head
+taken_next network front line before now taken few (at_node middle some takes is) =
+    subst (λ (p : Progress). HasTaken network (front ++ line_bytes line) p) (sym is) (taken_line network front line before middle taken some few takes)
 
 -- ---- where it stops
 
@@ -218,12 +206,6 @@ fault_stopped network text line more progress kind reached (past_head some stops
     later taken.lines reached.left begins (leads_begins network taken.lines progress.stack.nodes taken.stands.leads) (omega (arith, log.numbered))
     (stopped_after network taken.lines progress.stack.nodes reached.left line more kind taken.stands.leads reached.walked stops)
 
--- the whole text was taken
-pub taken_whole : (network : NetworkOf) (text : List ℕ) (progress : Progress) → Reaches network text [] progress → HasTaken network text progress
-taken_whole network text progress reached =
-    let whole : text ≡ reached.front = reached.whole ∙ ap (λ (t : List ℕ). reached.front ++ t) (left_none reached.left reached.walked) ∙ append-nil reached.front in
-    subst (λ (t : List ℕ). HasTaken network t progress) (sym whole) reached.taken
-
 no_head_text : (left : List ℕ) → BeginsWith [] [] left → ⊥
 no_head_text left begins = let same : [] ≡ head_text ++ left = begins.spelled in absurd (cc)
 
@@ -240,11 +222,10 @@ fault_short network text progress taken some open_nodes =
     later taken.lines [] log.begins (leads_begins network taken.lines progress.stack.nodes taken.stands.leads) (omega (arith, log.numbered))
     (short refl (not_whole network taken.lines progress.stack.nodes taken.stands.leads open_nodes) refl)
 
-pub replayed_whole : (network : NetworkOf) (text : List ℕ) (progress : Progress) → EndsWhole network text progress → IsReplayed network text (record { bound = progress.bound; counts = progress.counts })
-replayed_whole network text progress ends =
-    let taken = ends.taken in
-    let log = front_begun text taken.lines progress.lines taken.front ends.some in
-    let leads : LeadsTo network (root_of network ∷ []) taken.lines [] = subst (λ (n : List Node). LeadsTo network (root_of network ∷ []) taken.lines n) ends.none_open taken.stands.leads in
+pub replayed_whole : (network : NetworkOf) (text : List ℕ) (progress : Progress) → HasTaken network text progress → 0 < progress.lines → progress.stack.nodes ≡ [] → IsReplayed network text (record { bound = progress.bound; counts = progress.counts })
+replayed_whole network text progress taken some none_open =
+    let log = front_begun text taken.lines progress.lines taken.front some in
+    let leads : LeadsTo network (root_of network ∷ []) taken.lines [] = subst (λ (n : List Node). LeadsTo network (root_of network ∷ []) taken.lines n) none_open taken.stands.leads in
     let made = whole_tree network taken.lines leads in
     record {
       tree = made.tree;
@@ -261,26 +242,3 @@ ready_taken network text progress few taken = record {
   count = taken.count;
   room = room_along network (length network.candidates) (root_of network ∷ []) progress.stack.nodes taken.lines (room_at_root (length network.candidates)) taken.stands.leads;
 }
-
--- each line has a byte
-line_some : (line : LogLine) → 0 < length (line_text line)
-line_some (Split candidate) = omega (arith, length-append {A = ℕ})
-line_some (Leaf Cost) = omega (arith, length-append {A = ℕ})
-line_some (Leaf (Pivot limit)) = omega (arith, length-append {A = ℕ})
-
-lines_short : (lines : List LogLine) → length lines ≤ length (lines_text lines)
-lines_short [] = omega arith
-lines_short (line ∷ lines) = omega (arith, lines_short lines, line_some line, length-append (line_text line) (lines_text lines))
-
-front_small : (text : List ℕ) (lines : List LogLine) (count : ℕ) → IsFront text lines count → count ≤ length text + 1
-front_small text lines count (nothing no_text no_lines none) = omega arith
-front_small text lines count (begun begins number) =
-    let long : length text ≡ length (head_text ++ (lines_text lines ++ [])) = ap length begins.spelled in
-    let all = length-append head_text (lines_text lines ++ []) in
-    let part = length-append (lines_text lines) [] in
-    omega (arith, lines_short lines)
-
-pub count_small : (network : NetworkOf) (text : List ℕ) (walk : List TextLineOf) (progress : Progress) → Reaches network text walk progress → progress.lines ≤ length text + 1
-count_small network text walk progress reached =
-    let long : length text ≡ length reached.front + length reached.left = ap length reached.whole ∙ length-append reached.front reached.left in
-    omega (arith, front_small reached.front reached.taken.lines progress.lines reached.taken.front)

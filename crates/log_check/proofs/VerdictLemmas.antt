@@ -9,7 +9,7 @@ use Rattle.bound_log.specs.declared.log_line.LogLine.{LogLine}
 use Rattle.bound_log.specs.declared.log_kind.LogKind.{LogKind}
 use Rattle.bound_log.specs.declared.log_kind.LogKind.TheVariants.{Extra, Form, Short}
 use Rattle.bound_log.specs.Rules.{IsFirstBroken}
-use Rattle.bound_log.specs.Spells.{BeginsWith, NextIs}
+use Rattle.bound_log.specs.Spells.{NextIs}
 use Rattle.bound_log.specs.Tree.{Tree, tree_lines}
 use Rattle.bound_log.proofs.SpellLemmas.{after_head, begins_head}
 use Rattle.log_check.specs.declared.fault.LogFault.{LogFault}
@@ -72,7 +72,7 @@ goes_on network lines line more text left kind (node ∷ rest) final first secon
     let moved : IsFirstBroken network node line' kind = subst (λ (n : Node). IsFirstBroken network n line' kind) nodes_same broken in
     broken_not_allowed network node line kind (subst (λ (l : LogLine). IsFirstBroken network node l kind) lines_same.line moved) second.0
 
-no_fault_inside : (network : NetworkOf) (lines : List LogLine) (line : LogLine) (more : List LogLine) (text left : List ℕ) (kind : LogKind) → LogBegins network (lines ++ line ∷ more) → NextIs text line left → IsFaultAfter network lines text kind → ⊥
+pub no_fault_inside : (network : NetworkOf) (lines : List LogLine) (line : LogLine) (more : List LogLine) (text left : List ℕ) (kind : LogKind) → LogBegins network (lines ++ line ∷ more) → NextIs text line left → IsFaultAfter network lines text kind → ⊥
 no_fault_inside network lines line more text left kind begun begins fault =
     let all = begins_leads network (lines ++ line ∷ more) begun in
     let parts = LeadsTo-parts network (root_of network ∷ []) all.final lines (line ∷ more) all.leads in

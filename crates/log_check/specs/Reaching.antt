@@ -1,6 +1,6 @@
 -- How far the text of a log has been taken. It speaks of the text taken so far, and not of the text to come. This
 -- project's own; it serves the proof of the replay, and no public clause cites it.
-use Rattle.std.specs.Prelude.{◌≡◌, ℕ, ◌+◌, ◌<◌, true, List, [], ◌++◌, length}
+use Rattle.std.specs.Prelude.{◌≡◌, ℕ, ◌+◌, true, List, [], ◌++◌, length}
 use Rattle.lent_parts.specs.Pieces.{TextLineOf, lines_of}
 use Rattle.geo_model.specs.Network.{NetworkOf}
 use Rattle.bound_log.specs.declared.log_line.LogLine.{LogLine}
@@ -32,9 +32,3 @@ pub record Reaches (network : NetworkOf) (text : List ℕ) (walk : List TextLine
   pub whole : text ≡ front ++ left
   pub walked : walk ≡ lines_of left
   pub taken : HasTaken network front progress
-
--- the whole text was taken, the first line of a log among it, and no node is open
-pub record EndsWhole (network : NetworkOf) (text : List ℕ) (progress : Progress) : Type 0 where
-  pub taken : HasTaken network text progress
-  pub some : 0 < progress.lines
-  pub none_open : progress.stack.nodes ≡ []

@@ -1,6 +1,6 @@
 -- What a line does to what the replay keeps, and how it can stop it. This project's own; it serves the proof of the
 -- replay, and no public clause cites it.
-use Rattle.std.specs.Prelude.{◌≡◌, ℕ, ◌+◌, ◌<◌, Bool, true, List, [], ◌∷◌, ◌++◌}
+use Rattle.std.specs.Prelude.{◌≡◌, ℕ, ◌+◌, ◌-◌, ◌^◌, ◌<◌, min, Bool, true, List, [], ◌∷◌, ◌++◌}
 use Rattle.geo_model.specs.Network.{NetworkOf}
 use Rattle.geo_model.specs.declared.plan.Node.{Node}
 use Rattle.bound_log.specs.declared.bound.Bound.{Bound}
@@ -61,10 +61,14 @@ pub record TakesHead (text : List ℕ) (ended : Bool) (before now : Progress) : 
   pub counts : now.counts ≡ before.counts
   pub numbered : now.lines ≡ 1
 
+-- the number of the line after so many, in a counter that stands still at 2^64 - 1
+abbrev pub next_count : ℕ → ℕ
+next_count count = min (count + 1) (2 ^ 64 - 1)
+
 -- a line was taken: the first one, or one at the next node
 pub data TakesLine (network : NetworkOf) (text : List ℕ) (ended : Bool) (before now : Progress) : Type 0 where
   at_head : TakesHead text ended before now → TakesLine network text ended before now
-  at_node : (middle : Progress) → 0 < before.lines → TakesText network text ended before middle → now ≡ record middle { lines = middle.lines + 1 } → TakesLine network text ended before now
+  at_node : (middle : Progress) → 0 < before.lines → TakesText network text ended before middle → now ≡ record middle { lines = next_count middle.lines } → TakesLine network text ended before now
 
 -- why a line stops the replay: it should be the first one of a log, or it stops it at the next node
 pub data StopsLine (network : NetworkOf) (progress : Progress) (text : List ℕ) (ended : Bool) (kind : LogKind) : Type 0 where

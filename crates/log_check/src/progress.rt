@@ -1,5 +1,6 @@
 //! How far a replay has come.
 ghost use Rattle.std.specs.Prelude.{◌≡◌, ◌<◌, ◌≤◌, List, [], ◌∷◌, length, IfOk};
+ghost use Rattle.geo_model.specs.Network.{IsNetwork};
 ghost use Rattle.geo_model.specs.Prices.{price_of};
 ghost use Rattle.geo_model.specs.Nodes.{all_plans};
 ghost use Rattle.geo_model.specs.declared.plan.Node.{Node as NodeOf};
@@ -36,6 +37,7 @@ impl Progress {
         ensures bound { IfOk result (λ made. made.bound ≡ NoPlan) }
         ensures counts { IfOk result (λ made. made.counts ≡ counts_of []) }
         ensures few { length network.now.candidates ≤ 256 }
+        ensures bounds { IsNetwork network.now }
     {
         let stack = OpenNodes::new(alloc, network.candidates().len() as u32)?;
         Ok(Progress {

@@ -1,6 +1,5 @@
 use Rattle.std.proofs.Common.{◌≡◌, [], ◌∷◌, ◌∙◌, List, arith, refl, ap, subst}
 use Rattle.geo_model.specs.declared.plan.Node.{Node}
-use Rattle.bound_log.specs.Lines.{kind_of}
 use Rattle.bound_log.specs.Counted.{counts_with}
 use Rattle.bound_log.specs.declared.line_kind.LineKind.{LineKind}
 use Rattle.bound_log.specs.Rules.{IsAllowedLine}

@@ -5,7 +5,7 @@ use Rattle.bound_log.specs.Rules.{IsAllowedLine, IsFirstBroken}
 use Rattle.log_check.specs.Places.{HasEntries}
 use Rattle.log_check.specs.Taking.{no_rule}
 use Rattle.log_check.proofs.PlaceLemmas.{not_empty, next_long}
-use Rattle.log_check.proofs.replaying.take_at_node.Goals as goal
+use Rattle.log_check.proofs.taking.take_at_node.Goals as goal
 
 pub broken_rule-requires-clause-node : goal.broken_rule-requires-clause-node
 broken_rule-requires-clause-node c =

@@ -1,6 +1,7 @@
-use Rattle.std.proofs.Common.{ℕ, ◌<◌, arith, refl, rules}
+use Rattle.std.proofs.Common.{ℕ, ◌<◌, arith, ap, rules}
+use Rattle.log_check.specs.declared.progress.Progress.{Progress}
 use Rattle.log_check.specs.Taking.{at_node, past_head}
-use Rattle.log_check.proofs.replaying.take_line.Goals as goal
+use Rattle.log_check.proofs.taking.take_line.Goals as goal
 
 pub returns-in-Err-clause-stopped : goal.returns-in-Err-clause-stopped
 returns-in-Err-clause-stopped c =
@@ -10,4 +11,6 @@ returns-in-Err-clause-stopped c =
 pub returns-clause-taken : goal.returns-clause-taken
 returns-clause-taken c =
     let some : 0 < c.args.progress.now.lines = first_of (omega (arith, c.if-progress-eq0.false), search rules) in
-    at_node c.take_at_node.new.progress some c.in_default.ensures.taken refl
+    let middle = c.take_at_node.new.progress in
+    let made : ℕ → Progress = λ (n : ℕ). record middle { lines = n } in
+    at_node middle some c.in_default.ensures.taken (ap made c.saturating_add-progress.ensures)
