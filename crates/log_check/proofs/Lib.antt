@@ -2,6 +2,7 @@ pub mod EveryText
 pub mod FedLemmas
 pub mod HeightNetworks
 pub mod LongerLemmas
+pub mod MoveLemmas
 pub mod PlaceLemmas
 pub mod ReachLemmas
 pub mod RuleLemmas

@@ -7,8 +7,9 @@ use Rattle.bound_log.specs.declared.bound.Bound.TheVariants.{AtLeast}
 use Rattle.bound_log.specs.declared.log_line.LogLine.{LogLine}
 use Rattle.bound_log.specs.declared.log_line.LogLine.TheVariants.{Split, Leaf}
 use Rattle.bound_log.specs.declared.log_leaf.LogLeaf.{LogLeaf}
-use Rattle.bound_log.specs.declared.log_leaf.LogLeaf.TheVariants.{Cost, Pivot}
+use Rattle.bound_log.specs.declared.log_leaf.LogLeaf.TheVariants.{Cost, Pivot, Cut}
 use Rattle.bound_log.specs.Bound.{lesser}
+use Rattle.bound_log.specs.CutText.{CutTextOf}
 use Rattle.bound_log.specs.Counted.{counts_with}
 use Rattle.bound_log.specs.Lines.{kind_of}
 use Rattle.bound_log.specs.LogTree.{with_chosen, without_chosen, leaf_bound, leaf_bound_for}
@@ -52,5 +53,11 @@ closed_by_price network node rest end before now is ends = subst (λ (e : LogLea
 pub closed_by_pivot : (network : NetworkOf) (node : Node) (rest : List Node) (end : LogLeaf) (limit : ℕ) (before now : Progress) → end ≡ Pivot limit → now.stack ≡ record { candidates = before.stack.candidates; nodes = rest } → now.bound ≡ before.bound → now.counts ≡ before.counts → now.lines ≡ before.lines → EndsAt rest (leaf_bound network node end) before now
 unfolding leaf_bound_for
 closed_by_pivot network node rest end limit before now is stack bound counts numbered =
+    subst (λ (e : LogLeaf). EndsAt rest (leaf_bound network node e) before now) (sym is)
+    (record { stack = stack; least = bound ∙ sym (lesser_none before.bound); counted = counts; numbered = numbered })
+
+pub closed_by_cut : (network : NetworkOf) (node : Node) (rest : List Node) (end : LogLeaf) (cut : CutTextOf) (before now : Progress) → end ≡ Cut cut → now.stack ≡ record { candidates = before.stack.candidates; nodes = rest } → now.bound ≡ before.bound → now.counts ≡ before.counts → now.lines ≡ before.lines → EndsAt rest (leaf_bound network node end) before now
+unfolding leaf_bound
+closed_by_cut network node rest end cut before now is stack bound counts numbered =
     subst (λ (e : LogLeaf). EndsAt rest (leaf_bound network node e) before now) (sym is)
     (record { stack = stack; least = bound ∙ sym (lesser_none before.bound); counted = counts; numbered = numbered })

@@ -2,7 +2,6 @@
 use Rattle.std.specs.Prelude.{◌≡◌, ℕ, ◌^◌, ◌<◌, ◌≤◌, Bool, true, false, List, [], ◌++◌, count_by, All, Some, None, Result, Ok, Err, MatchOption}
 use Rattle.lent_parts.specs.Pieces.{TextLineOf, is_line_feed, line_bytes}
 use Rattle.geo_model.specs.Network.{NetworkOf, IsNetwork}
-use Rattle.pivot_chain.specs.Room.{IsRoomOf}
 use Rattle.bound_log.specs.declared.log_kind.LogKind.{LogKind}
 use Rattle.bound_log.specs.declared.log_kind.LogKind.TheVariants.{Form, Short}
 use Rattle.log_check.specs.declared.fault.LogFault.{LogFault}
@@ -11,6 +10,7 @@ use Rattle.log_check.specs.declared.fault.ReplayAnswer.TheVariants as replay_ans
 use Rattle.log_check.specs.declared.judged.Judged.{Judged}
 use Rattle.log_check.specs.declared.replaying.Replayed.{Replayed}
 use Rattle.log_check.specs.FirstFault.{IsFirstFault}
+use Rattle.log_check.specs.LineRoom.{IsLineRoom}
 use Rattle.log_check.specs.Places.{IsReady}
 use Rattle.log_check.specs.Reaching.{HasTaken}
 use Rattle.log_check.specs.Replayed.{IsReplayed}
@@ -87,7 +87,7 @@ Finishes network text (Err fault) = IsFirstFault network text fault
 -- the room is one for the network, and the open nodes are nodes of it, few enough for their places
 pub record IsSound (network : NetworkOf) (judged : Judged) : Type 0 where
   pub bounds : IsNetwork network
-  pub room : IsRoomOf network judged.room
+  pub room : IsLineRoom network judged.room
   pub ready : IsReady network judged.progress.stack
 
 -- a line was judged: after a wrong one nothing changes; else it was taken, or is the first wrong one

@@ -1,8 +1,10 @@
 pub mod Fed
 pub mod FirstFault
+pub mod LineRoom
 pub mod Places
 pub mod Reaching
 pub mod Replayed
 pub mod Running
 pub mod Taking
 pub mod Walking
+pub mod Writing

@@ -4,6 +4,7 @@ ghost use Rattle.log_check.specs.Fed.{IsSound, Judges, Ends};
 ghost use Rattle.log_check.specs.Reaching.{HasTaken};
 
 use crate::fault::LogFault;
+use crate::line_room::LineRoom;
 use crate::progress::Progress;
 use crate::replaying::Replayed;
 use crate::taking::take_line;
@@ -11,13 +12,12 @@ use bound_log::LogKind;
 use geo_base::NoMemory;
 use geo_model::Network;
 use lent_parts::Line;
-use pivot_chain::ChainRoom;
 use std::alloc::Global;
 
 /// How far the lines that were judged lead, and the first one that was wrong.
 #[derive(Drop)]
 pub struct Judged {
-    pub room: ChainRoom,
+    pub room: LineRoom,
     pub progress: Progress,
     pub fault: Option<LogFault>,
 }
@@ -29,7 +29,7 @@ impl Judged {
         ensures start { IfOk result (λ made. HasTaken network.now [] made.progress) }
         ensures right { IfOk result (λ made. made.fault ≡ None) }
     {
-        let room = ChainRoom::new(alloc, network)?;
+        let room = LineRoom::new(alloc, network)?;
         let progress = Progress::new(alloc, network)?;
         Ok(Judged {
             room,

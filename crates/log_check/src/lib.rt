@@ -17,6 +17,8 @@
 mod fault;
 mod judged;
 mod laws;
+mod line_room;
+mod moves;
 mod open_nodes;
 mod parts;
 mod progress;

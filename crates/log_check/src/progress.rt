@@ -49,30 +49,30 @@ impl Progress {
     }
 
     /// Takes a line that is allowed at the next node, which is to be numbered yet. It takes no memory.
-    pub fn take(&mut self, network: &Network, line: LogLine)
+    pub fn take(&mut self, network: &Network, line: &LogLine<'_>)
         requires ready { IsReady network.now self.old.stack }
         requires some { 0 < length self.old.stack.nodes }
-        requires allowed { (node : NodeOf) (rest : List NodeOf) → self.old.stack.nodes ≡ node ∷ rest → IsAllowedLine network.now node line }
+        requires allowed { (node : NodeOf) (rest : List NodeOf) → self.old.stack.nodes ≡ node ∷ rest → IsAllowedLine network.now node line.now }
         ensures { (node : NodeOf) (rest : List NodeOf) → self.old.stack.nodes ≡ node ∷ rest →
-            Takes node rest line (line_bound network.now node line) self.old self.new }
+            Takes node rest line.now (line_bound network.now node line.now) self.old self.new }
     {
         count_line(&mut self.counts, line.kind());
         match line {
-            LogLine::Split(candidate) => self.stack.split(candidate as u32),
+            LogLine::Split(candidate) => self.stack.split(*candidate as u32),
             LogLine::Leaf(leaf) => self.close(network, leaf),
         }
     }
 
     // Closes the next node with the bound of a leaf.
-    fn close(&mut self, network: &Network, leaf: LogLeaf)
+    fn close(&mut self, network: &Network, leaf: &LogLeaf<'_>)
         requires ready { IsReady network.now self.old.stack }
         requires some { 0 < length self.old.stack.nodes }
         ensures { (node : NodeOf) (rest : List NodeOf) → self.old.stack.nodes ≡ node ∷ rest →
-            EndsAt rest (leaf_bound network.now node leaf) self.old self.new }
+            EndsAt rest (leaf_bound network.now node leaf.now) self.old self.new }
     {
         match leaf {
             LogLeaf::Cost => self.close_at_price(network),
-            LogLeaf::Pivot(_) => self.stack.pop(),
+            LogLeaf::Pivot(_) | LogLeaf::Cut(_) => self.stack.pop(),
         }
     }
 

@@ -1,29 +1,31 @@
 //! Whether a line is allowed at a node.
 ghost use Rattle.std.specs.Prelude.{◌≡◌, length};
-ghost use Rattle.pivot_chain.specs.Room.{IsRoomOf};
 ghost use Rattle.bound_log.specs.Rules.{first_broken, line_rules};
 ghost use Rattle.bound_log.specs.declared.log_leaf.LogLeaf.TheVariants as log_leaf;
 ghost use Rattle.bound_log.specs.declared.log_line.LogLine.TheVariants as log_line;
+ghost use Rattle.log_check.specs.LineRoom.{IsLineRoom};
 ghost use Rattle.log_check.specs.Places.{HasEntries};
 
-use bound_log::{LogKind, LogLeaf, LogLine};
-use geo_model::{Network, Node, Verdict};
-use pivot_chain::{ChainRoom, verdict};
+use crate::line_room::LineRoom;
+use crate::moves::write_moves;
+use bound_log::{CutText, LogKind, LogLeaf, LogLine};
+use geo_model::{Network, Node, Verdict, breaks};
+use pivot_chain::verdict;
 
 /// The first rule that a line breaks at a node; `None` where it is allowed there. It takes no memory.
 pub fn broken_rule(
     network: &Network,
-    room: &mut ChainRoom,
+    room: &mut LineRoom,
     node: &Node,
-    line: LogLine,
+    line: &LogLine<'_>,
 ) -> Option<LogKind>
-    requires room { IsRoomOf network.now room.old }
+    requires room { IsLineRoom network.now room.old }
     requires node { HasEntries (length network.now.candidates) node.now }
-    ensures rule { result ≡ first_broken (line_rules network.now node.now line) }
-    ensures kept { IsRoomOf network.now room.new }
+    ensures rule { result ≡ first_broken (line_rules network.now node.now line.now) }
+    ensures kept { IsLineRoom network.now room.new }
 {
     match line {
-        LogLine::Split(candidate) => broken_by_split(network, node, candidate),
+        LogLine::Split(candidate) => broken_by_split(network, node, *candidate),
         LogLine::Leaf(leaf) => broken_by_leaf(network, room, node, leaf),
     }
 }
@@ -31,18 +33,19 @@ pub fn broken_rule(
 // The first rule that a leaf breaks.
 fn broken_by_leaf(
     network: &Network,
-    room: &mut ChainRoom,
+    room: &mut LineRoom,
     node: &Node,
-    leaf: LogLeaf,
+    leaf: &LogLeaf<'_>,
 ) -> Option<LogKind>
-    requires room { IsRoomOf network.now room.old }
+    requires room { IsLineRoom network.now room.old }
     requires node { HasEntries (length network.now.candidates) node.now }
-    ensures rule { result ≡ first_broken (line_rules network.now node.now (log_line.Leaf leaf)) }
-    ensures kept { IsRoomOf network.now room.new }
+    ensures rule { result ≡ first_broken (line_rules network.now node.now (log_line.Leaf leaf.now)) }
+    ensures kept { IsLineRoom network.now room.new }
 {
     match leaf {
         LogLeaf::Cost => None,
-        LogLeaf::Pivot(limit) => broken_by_pivot(network, room, node, limit),
+        LogLeaf::Pivot(limit) => broken_by_pivot(network, room, node, *limit),
+        LogLeaf::Cut(cut) => broken_by_cut(network, room, node, cut),
     }
 }
 
@@ -68,14 +71,14 @@ fn broken_by_split(network: &Network, node: &Node, candidate: u64) -> Option<Log
 // The first rule that a leaf which names a limit breaks.
 fn broken_by_pivot(
     network: &Network,
-    room: &mut ChainRoom,
+    room: &mut LineRoom,
     node: &Node,
     number: u64,
 ) -> Option<LogKind>
-    requires room { IsRoomOf network.now room.old }
+    requires room { IsLineRoom network.now room.old }
     requires node { HasEntries (length network.now.candidates) node.now }
     ensures rule { result ≡ first_broken (line_rules network.now node.now (log_line.Leaf (log_leaf.Pivot number))) }
-    ensures kept { IsRoomOf network.now room.new }
+    ensures kept { IsLineRoom network.now room.new }
 {
     let limits = network.limits();
     if number >= limits.len() as u64 {
@@ -85,8 +88,38 @@ fn broken_by_pivot(
     if !limit.is_in_force(&node.inside) {
         return Some(LogKind::Owner);
     }
-    if verdict(room, network, &node.upper, number as u32) != Verdict::Refuted {
+    if verdict(&mut room.chains, network, &node.upper, number as u32) != Verdict::Refuted {
         return Some(LogKind::NotRefuted);
+    }
+    None
+}
+
+// The first rule that a leaf which names a displacement breaks.
+fn broken_by_cut(
+    network: &Network,
+    room: &mut LineRoom,
+    node: &Node,
+    cut: &CutText<'_>,
+) -> Option<LogKind>
+    requires room { IsLineRoom network.now room.old }
+    requires node { HasEntries (length network.now.candidates) node.now }
+    ensures rule { result ≡ first_broken (line_rules network.now node.now (log_line.Leaf (log_leaf.Cut cut.now))) }
+    ensures kept { IsLineRoom network.now room.new }
+{
+    let limits = network.limits();
+    let number = cut.limit();
+    if number >= limits.len() as u64 {
+        return Some(LogKind::Range);
+    }
+    if !write_moves(&mut room.moves, cut) {
+        return Some(LogKind::Range);
+    }
+    let limit = &limits[number as usize];
+    if !limit.is_in_force(&node.inside) {
+        return Some(LogKind::Owner);
+    }
+    if !breaks(network, &node.upper, number as u32, &room.moves) {
+        return Some(LogKind::CutHolds);
     }
     None
 }

@@ -1,32 +1,32 @@
 //! One more line of a log.
 ghost use Rattle.std.specs.Prelude.{◌≡◌, [], true, IfErr, OnOk, OnErr};
-ghost use Rattle.pivot_chain.specs.Room.{IsRoomOf};
+ghost use Rattle.log_check.specs.LineRoom.{IsLineRoom};
 ghost use Rattle.log_check.specs.Places.{IsReady};
 ghost use Rattle.log_check.specs.Taking.{Stops, StopsLine, TakesHead, TakesLine, TakesText};
 ghost use Rattle.bound_log.specs.LogText.{head_body};
 ghost use Rattle.bound_log.specs.declared.log_kind.LogKind.TheVariants.{Form};
 
+use crate::line_room::LineRoom;
 use crate::progress::Progress;
 use crate::rules::broken_rule;
 use bound_log::{LogKind, is_head, read_line};
 use geo_model::Network;
-use pivot_chain::ChainRoom;
 
 /// Takes the text of a line, which LF ends or not: that of the first line of a log, or one at the next
 /// node. On an error nothing has changed. The count of lines stands still at its end.
 pub fn take_line(
     network: &Network,
-    room: &mut ChainRoom,
+    room: &mut LineRoom,
     progress: &mut Progress,
     text: &[u8],
     ended: bool,
 ) -> Result<(), LogKind>
-    requires room { IsRoomOf network.now room.old }
+    requires room { IsLineRoom network.now room.old }
     requires ready { IsReady network.now progress.old.stack }
     ensures taken { OnOk result (TakesLine network.now text.now ended progress.old progress.new) }
     ensures stopped { IfErr result (λ kind. StopsLine network.now progress.old text.now ended kind) }
     ensures refused { OnErr result (progress.new ≡ progress.old) }
-    ensures kept { IsRoomOf network.now room.new }
+    ensures kept { IsLineRoom network.now room.new }
 {
     if progress.lines == 0 {
         return take_head(progress, text, ended);
@@ -58,17 +58,17 @@ fn take_head(progress: &mut Progress, text: &[u8], ended: bool) -> Result<(), Lo
 // Takes the text of a line at the next node.
 fn take_at_node(
     network: &Network,
-    room: &mut ChainRoom,
+    room: &mut LineRoom,
     progress: &mut Progress,
     text: &[u8],
     ended: bool,
 ) -> Result<(), LogKind>
-    requires room { IsRoomOf network.now room.old }
+    requires room { IsLineRoom network.now room.old }
     requires ready { IsReady network.now progress.old.stack }
     ensures taken { OnOk result (TakesText network.now text.now ended progress.old progress.new) }
     ensures stopped { IfErr result (λ kind. Stops network.now progress.old.stack.nodes text.now ended kind) }
     ensures refused { OnErr result (progress.new ≡ progress.old) }
-    ensures kept { IsRoomOf network.now room.new }
+    ensures kept { IsLineRoom network.now room.new }
 {
     if progress.stack.is_empty() {
         return Err(LogKind::Extra);
@@ -79,9 +79,9 @@ fn take_at_node(
     let Some(line) = read_line(text) else {
         return Err(LogKind::Form);
     };
-    if let Some(kind) = broken_rule(network, room, progress.stack.top(), line) {
+    if let Some(kind) = broken_rule(network, room, progress.stack.top(), &line) {
         return Err(kind);
     }
-    progress.take(network, line);
+    progress.take(network, &line);
     Ok(())
 }

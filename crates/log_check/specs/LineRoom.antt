@@ -1,0 +1,10 @@
+-- The room that judging lines takes. This project's own; it serves the proof of the replay, and no public clause cites it.
+use Rattle.std.specs.Prelude.{◌≡◌, length}
+use Rattle.geo_model.specs.Network.{NetworkOf}
+use Rattle.pivot_chain.specs.Room.{IsRoomOf}
+use Rattle.log_check.specs.declared.line_room.LineRoom.{LineRoom}
+
+-- the room for verdicts is one for the network, and the displacement has an entry for each unknown
+pub record IsLineRoom (network : NetworkOf) (room : LineRoom) : Type 0 where
+  pub chains : IsRoomOf network room.chains
+  pub moves : length room.moves ≡ length network.unknowns
