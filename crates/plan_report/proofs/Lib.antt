@@ -1,2 +1,6 @@
 pub mod Numbered
 pub mod ReportLines
+pub mod Halving
+pub mod LimitPlaces
+pub mod PartLines
+pub mod RedundancyLines

@@ -1,2 +1,4 @@
 pub mod RowsText
 pub mod ReportText
+pub mod Shown
+pub mod Reported

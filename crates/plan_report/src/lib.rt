@@ -9,13 +9,18 @@
 //! Caller: `answer_rows` of `geoplan/src/rows.rt`.
 #![tactic(auto)]
 
+mod length_kind;
+mod lengths;
 mod numbers;
 mod open_limit;
-mod report;
+mod redundancies;
+mod reported;
+mod reports;
 mod rows;
+mod shown;
 
-pub use open_limit::open_line;
-pub use report::{checked_report, found_report, no_plan_report, undecided_report};
+pub use length_kind::LengthKind;
+pub use reports::{checked_report, report};
 pub use rows::rows_text;
 
 #[cfg(test)]

@@ -93,7 +93,7 @@ fn line_of(alloc: Global, which: &[u8], step: u32, lo: i128, hi: i128) -> Result
 
 /// The line of an open limit of these points and candidates: which limit it is, the step of its chain,
 /// and the interval there. Refused for want of memory alone.
-pub fn open_line(
+pub(crate) fn open_line(
     alloc: Global,
     points: &Points,
     candidates: &Candidates,

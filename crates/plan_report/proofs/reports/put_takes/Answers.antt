@@ -2,8 +2,8 @@ use Rattle.std.proofs.Common.{◌≤◌, ◌++◌, length, ap, sym, ◌∙◌, a
 use Rattle.candidate_tables.specs.CandidateTable.{names_of}
 use Rattle.plan_report.specs.ReportText.{take_text, takes_text}
 use Rattle.plan_report.proofs.ReportLines.{takes_text-chosen, takes_text-left, takes_text-all}
-use Rattle.plan_report.proofs.report.put_takes.Goals as goal
-use Rattle.plan_report.proofs.report.put_takes.Goals.{then-has+in_ok-put_take, else-has}
+use Rattle.plan_report.proofs.reports.put_takes.Goals as goal
+use Rattle.plan_report.proofs.reports.put_takes.Goals.{then-has+in_ok-put_take, else-has}
 
 pub loop-k-preserved : goal.loop-k-preserved
 loop-k-preserved c =
