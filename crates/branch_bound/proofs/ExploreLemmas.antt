@@ -7,6 +7,7 @@ use Rattle.geo_model.specs.Energy.{IsWithin}
 use Rattle.geo_model.specs.Network.{NetworkOf}
 use Rattle.geo_model.specs.declared.answer.Counts.{Counts}
 use Rattle.geo_model.specs.declared.plan.Node.{Node}
+use Rattle.pivot_chain.proofs.Plans.{set_back}
 use Rattle.bound_log.specs.Counted.{counts_with}
 use Rattle.bound_log.proofs.AllowedLemmas.{split_allowed, cost_allowed}
 use Rattle.bound_log.proofs.CountLemmas.{counts_with-then}
@@ -147,12 +148,6 @@ IsNode-without network node candidate is is_open = record {
   upper_long = length-set node.upper candidate false ∙ is.upper_long;
   within = IsWithin-without node.inside node.upper candidate is.within is_open.not_inside;
 }
-
--- an entry that is set and then set back
-pub set_back : (plan : List Bool) (i : ℕ) (b other : Bool) → slice_get plan i ≡ Some b → slice_set (slice_set plan i other) i b ≡ plan
-set_back [] i b other is = refl
-set_back (x ∷ plan) zero b other is = let same : x ≡ b = cc in ap (λ v. v ∷ plan) (sym same)
-set_back (x ∷ plan) (suc i) b other is = ap (λ rest. x ∷ rest) (set_back plan i b other is)
 
 -- a node whose inner plan has the candidate set is the child that chooses it
 pub child_with : (node : Node) (candidate : ℕ) (inside : List Bool) → inside ≡ slice_set node.inside candidate true →

@@ -3,24 +3,18 @@ use Rattle.std.specs.Prelude.{slice_get}
 use Rattle.std.proofs.lemmas.Option.{slice_get_read, slice_get-get_or, get_or_from_slice_get}
 use Rattle.geo_model.specs.Limit.{LimitOf, IsInForce}
 use Rattle.geo_model.specs.Network.{NetworkOf}
-use Rattle.geo_model.specs.Verdicts.{IsCertifiedBy, IsRefutedBy as IsRefutedPlan}
+use Rattle.geo_model.specs.Verdicts.{IsRefutedBy as IsRefutedPlan}
 use Rattle.geo_model.specs.declared.plan.Node.{Node}
 use Rattle.geo_model.specs.declared.verdict.Verdict.{Verdict}
 use Rattle.geo_model.specs.declared.verdict.Verdict.TheVariants.{Met, Refuted, Open}
 use Rattle.pivot_chain.specs.Verdict.{verdict_of}
+use Rattle.pivot_chain.proofs.CertifiedLemmas.{limit_named, met_at}
 use Rattle.pivot_chain.proofs.Verdicts.{open_interval}
 use Rattle.bound_log.specs.LogTree.{IsRefutedBy}
-use Rattle.bound_log.proofs.SoundLemmas.{at_place}
 use Rattle.branch_bound.specs.Explored.{IsNode}
-use Rattle.branch_bound.specs.Searched.{IsCertified, IsUnsettled, IsMetAt, IsOpenLimit, IsFirstOpen}
+use Rattle.branch_bound.specs.Searched.{IsUnsettled, IsMetAt, IsOpenLimit, IsFirstOpen}
 
--- What the verdicts of all limits say of a plan.
-
--- a limit of a number below the number of limits
-limit_at : (limits : List LimitOf) (number : ℕ) → number < length limits → (limit : LimitOf) × (slice_get limits number ≡ Some limit)
-limit_at [] number inside = absurd (omega arith)
-limit_at (limit ∷ rest) zero inside = (limit, refl)
-limit_at (limit ∷ rest) (suc number) inside = limit_at rest number (omega arith)
+-- What the verdicts of all limits say of a plan or a node.
 
 -- the verdict on a limit that is in force is open
 pub open_by : (network : NetworkOf) (plan : List Bool) (number step : ℕ) (lo hi : ℤ) (in_force : Bool) → number < length network.limits →
@@ -28,7 +22,7 @@ pub open_by : (network : NetworkOf) (plan : List Bool) (number step : ℕ) (lo h
     ((l : LimitOf) → slice_get network.limits number ≡ Some l → Open step lo hi ≡ verdict_of network plan l) →
     IsOpenLimit network plan number step lo hi
 open_by network plan number step lo hi in_force inside forced is exact =
-    let named = limit_at network.limits number inside in
+    let named = limit_named network.limits number inside in
     record { limit = named.0; named = named.1; in_force = (forced named.0 named.1).0 is; open_here = sym (exact named.0 named.1) }
 
 -- a limit refutes a node just where it is in force for the inner plan and the verdict on the upper one is Refuted
@@ -37,34 +31,10 @@ pub refuted_when : (network : NetworkOf) (node : Node) (number : ℕ) (in_force 
     ((l : LimitOf) → slice_get network.limits number ≡ Some l → verdict ≡ verdict_of network node.upper l) → (IsTrue result ↔ (verdict ≡ Refuted)) →
     IsTrue result ↔ IsRefutedBy network node number
 refuted_when network node number in_force result verdict inside forced is exact tests =
-    let named = limit_at network.limits number inside in (
+    let named = limit_named network.limits number inside in (
       λ yes. record { limit = named.0; named = named.1; owned = (forced named.0 named.1).0 is; refuted = sym (exact named.0 named.1) ∙ tests.0 yes },
       λ refuted. tests.1 (exact refuted.limit refuted.named ∙ refuted.refuted),
     )
-
--- a limit in force is met just where the verdict on it is Met
-pub met_when : (network : NetworkOf) (plan : List Bool) (number : ℕ) (in_force result : Bool) (verdict : Verdict) → number < length network.limits →
-    ((l : LimitOf) → slice_get network.limits number ≡ Some l → IsTrue in_force ↔ IsInForce l plan) → in_force ≡ true →
-    ((l : LimitOf) → slice_get network.limits number ≡ Some l → verdict ≡ verdict_of network plan l) → (IsTrue result ↔ (verdict ≡ Met)) →
-    IsTrue result ↔ IsMetAt network plan number
-met_when network plan number in_force result verdict inside forced is exact tests =
-    let named = limit_at network.limits number inside in (
-      λ yes limit here _. sym (exact limit here) ∙ tests.0 yes,
-      λ met. tests.1 (exact named.0 named.1 ∙ met named.0 named.1 ((forced named.0 named.1).0 is)),
-    )
-
--- a plan whose limits are all met, or not in force, is certified
-pub certified_by : (network : NetworkOf) (plan : List Bool) → length plan ≡ length network.candidates →
-    ((k : ℕ) → k < length network.limits → IsMetAt network plan k) → IsCertified network plan
-certified_by network plan long met = record {
-  long = long;
-  certified = λ k d inside in_force. met k inside (get_or network.limits k d) (slice_get-get_or network.limits k d inside) in_force;
-}
-
--- a limit that isn't met rules out that the plan is certified
-met_at : (network : NetworkOf) (plan : List Bool) (number : ℕ) → IsCertifiedBy (verdict_of network) network plan → IsMetAt network plan number
-met_at network plan number certified limit named in_force =
-    at_place (λ l. IsInForce l plan → verdict_of network plan l ≡ Met) network.limits number limit certified named in_force
 
 -- a node of one plan that is refuted has a limit that refutes it
 refuted_by : (network : NetworkOf) (node : Node) → node.inside ≡ node.upper → ((k : ℕ) → IsRefutedBy network node k → ⊥) →

@@ -2,11 +2,12 @@ use Rattle.std.specs.Prelude.{◌≡◌, ◌≢◌, ℕ, ◌<◌, ℤ, pos, ◌�
 use Rattle.geo_model.specs.Prices.{price_of}
 use Rattle.geo_model.specs.Limit.{LimitOf, IsInForce}
 use Rattle.geo_model.specs.Network.{NetworkOf}
-use Rattle.geo_model.specs.Verdicts.{IsCertifiedBy, IsUnsettledBy}
+use Rattle.geo_model.specs.Verdicts.{IsUnsettledBy}
 use Rattle.geo_model.specs.declared.answer.Answer.{Answer}
 use Rattle.geo_model.specs.declared.answer.Answer.TheVariants as answer
 use Rattle.geo_model.specs.declared.answer.SearchDone.{SearchDone}
-use Rattle.geo_model.specs.declared.verdict.Verdict.TheVariants.{Met, Open}
+use Rattle.geo_model.specs.declared.verdict.Verdict.TheVariants.{Open}
+pub use Rattle.pivot_chain.specs.Certified.{IsCertified, IsMetAt}
 use Rattle.pivot_chain.specs.Verdict.{verdict_of}
 use Rattle.bound_log.specs.declared.bound.Bound.{Bound}
 use Rattle.bound_log.specs.declared.bound.Bound.TheVariants.{NoPlan, AtLeast}
@@ -16,20 +17,10 @@ use Rattle.bound_log.specs.Tree.{Tree, tree_lines}
 
 -- What a search answers, and what its log says. This project's own.
 
--- a plan of the network that is certified: each limit in force is met
-pub record IsCertified (network : NetworkOf) (plan : List Bool) : Type 0 where
-  pub long : length plan ≡ length network.candidates
-  pub certified : IsCertifiedBy (verdict_of network) network plan
-
 -- a plan of the network that is unsettled: neither certified nor refuted
 pub record IsUnsettled (network : NetworkOf) (plan : List Bool) : Type 0 where
   pub long : length plan ≡ length network.candidates
   pub unsettled : IsUnsettledBy (verdict_of network) network plan
-
--- the limit of a number is met, or not in force for the plan
-abbrev pub IsMetAt : NetworkOf → List Bool → ℕ → Type 0
-IsMetAt network plan number =
-    (limit : LimitOf) → slice_get network.limits number ≡ Some limit → IsInForce limit plan → verdict_of network plan limit ≡ Met
 
 -- the limit of a number is in force for the plan, and its verdict is Open, with this step and interval
 pub record IsOpenLimit (network : NetworkOf) (plan : List Bool) (number step : ℕ) (lo hi : ℤ) : Type 0 where

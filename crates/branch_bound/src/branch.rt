@@ -5,10 +5,9 @@ ghost use Rattle.bound_log.specs.LogTree.{IsOpenAt};
 ghost use Rattle.branch_bound.specs.Explored.{IsNode};
 
 use crate::choice::{Choice, better, is_open};
-use crate::limit_verdicts::is_in_force;
 use crate::missing::{Missing, unit_load};
 use geo_model::{Candidate, Limit, Network, Node, Row, Verdict};
-use pivot_chain::{ChainRoom, verdict};
+use pivot_chain::{ChainRoom, is_in_force, verdict};
 
 /// How much more a row counts at an unknown that the limit loads than elsewhere.
 const AT_LOADED: u128 = 1024;

@@ -1,13 +1,13 @@
 //! What the search asks of a plan and one limit.
 ghost use Rattle.std.specs.Prelude.{◌≡◌, ◌↔◌, ◌<◌, ℕ, ℤ, Some, slice_get, length, IsTrue, IfSome, IfNone};
-ghost use Rattle.geo_model.specs.Limit.{LimitOf, IsInForce};
+ghost use Rattle.geo_model.specs.Limit.{LimitOf};
 ghost use Rattle.pivot_chain.specs.Room.{IsRoomOf};
 ghost use Rattle.bound_log.specs.LogTree.{IsRefutedBy};
 ghost use Rattle.branch_bound.specs.Explored.{IsNode};
-ghost use Rattle.branch_bound.specs.Searched.{IsMetAt, IsOpenLimit};
+ghost use Rattle.branch_bound.specs.Searched.{IsOpenLimit};
 
 use geo_model::{Network, Node, Plan, Verdict};
-use pivot_chain::{ChainRoom, verdict};
+use pivot_chain::{ChainRoom, is_in_force, verdict};
 
 /// A limit whose verdict is open: its number, and the step and the interval of the verdict.
 #[derive(Clone, Copy, Debug, PartialEq, Eq)]
@@ -16,15 +16,6 @@ pub struct OpenLimit {
     pub step: u32,
     pub lo: i128,
     pub hi: i128,
-}
-
-/// Whether the limit of a number is in force for a plan.
-pub fn is_in_force(network: &Network, plan: &Plan, limit: u32) -> bool
-    requires plan { length plan.now ≡ length network.now.candidates }
-    requires limit { limit < length network.now.limits }
-    ensures { (l : LimitOf) → slice_get network.now.limits limit ≡ Some l → IsTrue result ↔ IsInForce l plan.now }
-{
-    network.limits()[limit as usize].is_in_force(plan)
 }
 
 /// Whether a limit refutes a node: it is in force for the inner plan, and the upper plan is refuted.
@@ -51,20 +42,6 @@ pub fn is_owned_by(network: &Network, limit: u32, candidate: u32) -> bool
         None => false,
         Some(owner) => owner == candidate,
     }
-}
-
-/// Whether a plan is met on a limit, where the limit is in force for it.
-pub fn is_met(room: &mut ChainRoom, network: &Network, plan: &Plan, limit: u32) -> bool
-    requires room { IsRoomOf network.now room.old }
-    requires plan { length plan.now ≡ length network.now.candidates }
-    requires limit { limit < length network.now.limits }
-    ensures met { IsTrue result ↔ IsMetAt network.now plan.now limit }
-    ensures room { IsRoomOf network.now room.new }
-{
-    if !is_in_force(network, plan, limit) {
-        return true;
-    }
-    verdict(room, network, plan, limit) == Verdict::Met
 }
 
 /// The open verdict of a plan on a limit, where the limit is in force for it and the verdict is open.

@@ -13,11 +13,11 @@ ghost use Rattle.std.specs.Option.{ForSome};
 use crate::best::Best;
 use crate::branch::branch_candidate;
 use crate::inherited::Inherited;
-use crate::limit_verdicts::{is_met, is_owned_by, refutes};
+use crate::limit_verdicts::{is_owned_by, refutes};
 use bound_log::{LogLeaf, LogLine};
 use geo_base::NoMemory;
 use geo_model::{Network, Node, Plan, cost};
-use pivot_chain::ChainRoom;
+use pivot_chain::{ChainRoom, is_met};
 use std::alloc::Global;
 
 /// Whether a limit refutes a node, where the node may inherit the candidate that owns each limit that does.

@@ -6,3 +6,4 @@ pub mod ChainRun
 pub mod Plans
 pub mod Squares
 pub mod Values
+pub mod CertifiedLemmas

@@ -16,6 +16,7 @@ mod chain;
 mod grids;
 mod judging;
 mod laws;
+mod meeting;
 mod plan;
 mod room;
 mod row_squares;
@@ -30,5 +31,6 @@ pub use laws::{
     certified_plans_meet_limits, met_is_sound, open_intervals_contain_zero, refuted_is_sound,
     refuted_plans_fail,
 };
+pub use meeting::{is_in_force, is_met};
 pub use plan::bring_to;
 pub use room::ChainRoom;

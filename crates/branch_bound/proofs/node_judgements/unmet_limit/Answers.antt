@@ -1,5 +1,5 @@
 use Rattle.std.proofs.Common.{◌<◌, length, ap, arith}
-use Rattle.branch_bound.proofs.VerdictLemmas.{certified_by}
+use Rattle.pivot_chain.proofs.CertifiedLemmas.{certified_by}
 use Rattle.branch_bound.proofs.node_judgements.unmet_limit.Goals as goal
 
 pub returns-clause-none : goal.returns-clause-none

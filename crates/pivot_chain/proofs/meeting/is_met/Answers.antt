@@ -1,7 +1,7 @@
 use Rattle.std.proofs.Common.{rules, ◌≡◌, ◌↔◌, IsTrue}
 use Rattle.geo_model.specs.declared.verdict.Verdict.TheVariants.{Met}
-use Rattle.branch_bound.proofs.VerdictLemmas.{met_when}
-use Rattle.branch_bound.proofs.limit_verdicts.is_met.Goals as goal
+use Rattle.pivot_chain.proofs.CertifiedLemmas.{met_when}
+use Rattle.pivot_chain.proofs.meeting.is_met.Goals as goal
 
 pub returns-clause-met : goal.returns-clause-met
 returns-clause-met c =

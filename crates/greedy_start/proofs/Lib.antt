@@ -1,0 +1,2 @@
+pub mod NotCertified
+pub mod Restored

@@ -1,0 +1,27 @@
+ghost use Rattle.std.specs.Prelude.{◌≡◌, Ok, None, true, length, replicate, IfOk, IfSome};
+ghost use Rattle.pivot_chain.specs.Certified.{IsCertified};
+
+use crate::deletion::take_out_each;
+use crate::offer::dearest_first;
+use crate::unmet::unmet_limit;
+use geo_base::NoMemory;
+use geo_model::{Network, Plan};
+use pivot_chain::ChainRoom;
+use std::alloc::Global;
+
+/// A certified plan to start a search with: the plan of all candidates, of which one after the other
+/// is taken out, the dearest first, where the plan stays certified. There is none only where the plan
+/// of all candidates isn't certified. Refused for want of memory alone.
+pub fn start(alloc: Global, network: &Network) -> Result<Option<Plan>, NoMemory>
+    ensures certified { IfOk result (λ found. IfSome found (λ plan. IsCertified network.now plan)) }
+    ensures none { result ≡ Ok None → IsCertified network.now (replicate (length network.now.candidates) true) → ⊥ }
+{
+    let mut room = ChainRoom::new(alloc, network)?;
+    let mut plan = Plan::full(alloc, network.candidates().len() as u32)?;
+    if unmet_limit(&mut room, network, &plan, None).is_some() {
+        return Ok(None);
+    }
+    let offers = dearest_first(alloc, network)?;
+    take_out_each(&mut room, network, &mut plan, offers.as_slice());
+    Ok(Some(plan))
+}

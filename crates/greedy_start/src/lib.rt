@@ -1,0 +1,15 @@
+//! A first plan: what is left where the candidates of a network are taken out one after the other,
+//! the dearest first, each one where the plan stays certified.
+//!
+//! Proved: a first plan is certified; there is none only where the plan of all candidates isn't
+//! certified.
+//!
+//! Said by: `start`, clauses `certified`, `none`.
+#![tactic(auto)]
+
+mod deletion;
+mod offer;
+mod first_plan;
+mod unmet;
+
+pub use first_plan::start;
