@@ -32,6 +32,3 @@ pub use network::{Component, Network, Unknown, cost};
 pub use plan::{Node, Plan};
 pub use row::Row;
 pub use verdict::Verdict;
-
-#[cfg(test)]
-mod tests;

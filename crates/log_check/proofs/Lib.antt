@@ -1,5 +1,4 @@
 pub mod EveryText
-pub mod HeightNetworks
 pub mod LongerLemmas
 pub mod PlaceLemmas
 pub mod ReachLemmas

@@ -22,6 +22,3 @@ pub use bound_log::{Bound, LogKind};
 pub use fault::{LogFault, ReplayAnswer};
 pub use laws::{a_fault_stays, each_text_has_one_verdict};
 pub use replaying::{Replayed, replay};
-
-#[cfg(test)]
-mod tests;

@@ -17,6 +17,3 @@ mod rows;
 pub use open_limit::open_line;
 pub use report::{checked_report, found_report, no_plan_report, undecided_report};
 pub use rows::rows_text;
-
-#[cfg(test)]
-mod tests;
