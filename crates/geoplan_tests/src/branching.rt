@@ -1,9 +1,7 @@
 //! A network whose plan is found soon only where the search branches on what is missing.
 use crate::fixtures::{
-    CANDIDATE_HEADER, CHECK, OLD_LOG, PLAN, POINT_HEADER, expect_accepted, shelf_of, table_of,
-    words_of,
+    CANDIDATE_HEADER, CHECK, OLD_LOG, PLAN, POINT_HEADER, expect_accepted, run, shelf_of, table_of,
 };
-use geoplan::geoplan;
 use shelf_io::MemSink;
 use std::alloc::Global;
 use std::test::Fail;
@@ -36,7 +34,7 @@ fn many_cheap_distances_one_way_and_few_dear_ones_the_other(rt: HostRuntime) -> 
     let tables = (points.as_slice(), candidates.as_slice());
     let mut shelf = shelf_of(alloc, tables, OLD_LOG)?;
     let mut out = MemSink::new(alloc, Vec::new(alloc));
-    let status = geoplan(alloc, &words_of(&rt, alloc, PLAN), &mut shelf, &mut out);
+    let status = run(&rt, alloc, &mut shelf, PLAN, &mut out);
     assert!(rt; out.bytes().starts_with(b"plan\ncost 125\ntake,W"));
     assert!(rt; out.bytes().ends_with(b"\nbound 125\n"));
     assert_eq!(rt; status, 0);

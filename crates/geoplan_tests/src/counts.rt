@@ -1,9 +1,8 @@
 //! Tables of many records, networks of many unknowns and rows, and a deep log.
 use crate::fixtures::{
     CANDIDATE_HEADER, CHECK, HEIGHTS, OLD_LOG, PLAN, POINT_HEADER, ROWS, SPACE_POINTS, expect,
-    expect_reading, shelf_of, table_of, words_of,
+    expect_reading, run, shelf_of, table_of,
 };
-use geoplan::geoplan;
 use shelf_io::MemSink;
 use std::alloc::Global;
 use std::test::Fail;
@@ -110,7 +109,7 @@ fn one_of_256_levels_is_taken(rt: HostRuntime) -> Result<(), Fail> {
     let tables = (points.as_slice(), levels.as_slice());
     let mut shelf = shelf_of(alloc, tables, OLD_LOG)?;
     let mut out = MemSink::new(alloc, Vec::new(alloc));
-    let status = geoplan(alloc, &words_of(&rt, alloc, PLAN), &mut shelf, &mut out);
+    let status = run(&rt, alloc, &mut shelf, PLAN, &mut out);
     assert_eq!(rt; status, 0);
     assert!(rt; out.bytes().starts_with(b"plan\ncost 1000000000\ntake,l"));
     assert!(rt; out.bytes().ends_with(b"\nbound 1000000000\n"));

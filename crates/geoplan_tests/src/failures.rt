@@ -1,9 +1,8 @@
 //! Runs in which one call of the shelf or of the sink fails.
 use crate::fixtures::{
     CANDIDATE_HEADER, CLOSER_HEIGHTS, HEIGHTS, OLD_LOG, ONE_LEVEL, POINT_HEADER, REDUNDANCY_LOG,
-    ROWS, TWO_LEVELS, failing_shelf, table_of, words_of,
+    ROWS, TWO_LEVELS, failing_shelf, run, table_of,
 };
-use geoplan::geoplan;
 use shelf_io::MemSink;
 use std::alloc::Global;
 use std::process::Abort;
@@ -196,8 +195,7 @@ fn expect_failure(rt: &impl Abort, alloc: Global, failure: &Failure) -> Result<(
     let tables = (points.as_slice(), candidates.as_slice());
     let mut shelf = failing_shelf(alloc, tables, OLD_LOG, of_shelf)?;
     let mut out = MemSink::new(alloc, of_sink);
-    let words = words_of(rt, alloc, failure.words);
-    let status = geoplan(alloc, &words, &mut shelf, &mut out);
+    let status = run(rt, alloc, &mut shelf, failure.words, &mut out);
     assert_eq!(rt; out.bytes(), failure.printed.as_bytes());
     assert_eq!(rt; status, failure.status, "{}", failure.printed);
     assert!(rt;
@@ -232,8 +230,8 @@ fn an_accepted_log_is_half_reported(rt: HostRuntime) -> Result<(), Fail> {
     let tables = (points.as_slice(), candidates.as_slice());
     let mut shelf = failing_shelf(alloc, tables, REDUNDANCY_LOG, Vec::new(alloc))?;
     let mut out = MemSink::new(alloc, vec![in alloc; 1]?);
-    let words = words_of(&rt, alloc, "geoplan check p.csv c.csv 501 l.log");
-    assert_eq!(rt; geoplan(alloc, &words, &mut shelf, &mut out), 6);
+    let check = "geoplan check p.csv c.csv 501 l.log";
+    assert_eq!(rt; run(&rt, alloc, &mut shelf, check, &mut out), 6);
     assert_eq!(rt; out.bytes(), b"accepted\nlog,2,0,".as_slice());
     assert!(rt; shelf.file("l.log") == Some(REDUNDANCY_LOG));
     Ok(())

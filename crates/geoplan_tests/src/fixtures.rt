@@ -78,6 +78,17 @@ pub fn shelf_with(alloc: Global, points: &str, candidates: &str) -> Result<MemSh
     shelf_of(alloc, (points.as_slice(), candidates.as_slice()), OLD_LOG)
 }
 
+/// Runs a command line, and answers its status.
+pub fn run(
+    rt: &impl Abort,
+    alloc: Global,
+    shelf: &mut MemShelf,
+    line: &str,
+    out: &mut MemSink,
+) -> u8 {
+    geoplan(alloc, &words_of(rt, alloc, line), shelf, out)
+}
+
 /// Runs a command line, and asserts what it prints and its status.
 pub fn expect(
     rt: &impl Abort,
@@ -87,7 +98,7 @@ pub fn expect(
     (status, printed): (u8, &str),
 ) {
     let mut out = MemSink::new(alloc, Vec::new(alloc));
-    let answer = geoplan(alloc, &words_of(rt, alloc, line), shelf, &mut out);
+    let answer = run(rt, alloc, shelf, line, &mut out);
     assert_eq!(rt; out.bytes(), printed.as_bytes(), "{line}");
     assert_eq!(rt; answer, status, "{printed}");
 }
@@ -113,7 +124,7 @@ pub fn expect_accepted(
     bound: &str,
 ) {
     let mut out = MemSink::new(alloc, Vec::new(alloc));
-    let status = geoplan(alloc, &words_of(rt, alloc, line), shelf, &mut out);
+    let status = run(rt, alloc, shelf, line, &mut out);
     assert!(rt; out.bytes().starts_with(b"accepted\nlog,"), "{line}");
     assert!(rt; out.bytes().ends_with(bound.as_bytes()), "{bound}");
     assert_eq!(rt; status, 0);

@@ -1,9 +1,8 @@
 //! What `plan` answers, and that `check` accepts the logs that it leaves.
 use crate::fixtures::{
     CLOSER_HEIGHTS, HEIGHTS, ONE_LEVEL, PLAN, SPACE_POINTS, TWO_LEVELS, expect, expect_accepted,
-    shelf_with, words_of,
+    run, shelf_with,
 };
-use geoplan::geoplan;
 use shelf_io::MemSink;
 use std::alloc::Global;
 use std::process::Abort;
@@ -176,7 +175,7 @@ fn logs_that_may_not_differ(rt: HostRuntime) -> Result<(), Fail> {
     for (points, candidates, log) in &ONLY_LOGS {
         let mut shelf = shelf_with(alloc, points, candidates)?;
         let mut out = MemSink::new(alloc, Vec::new(alloc));
-        let status = geoplan(alloc, &words_of(&rt, alloc, PLAN), &mut shelf, &mut out);
+        let status = run(&rt, alloc, &mut shelf, PLAN, &mut out);
         assert!(rt; status < 2);
         assert!(rt; shelf.file("l.log") == Some(*log));
     }

@@ -1,9 +1,15 @@
 //! Logs of small networks of one new height, with levels of 1.00 mm to it. What they prove, and where
 //! they are wrong, was reckoned by an independent program.
 use crate::networks::{CLOSER_LEVEL, ONE_LEVEL, TOO_REDUNDANT, network_of};
-use geo_model::Counts;
+use geo_model::{Counts, Network};
 use log_check::{Bound, LogFault, LogKind, ReplayAnswer, Replayed, replay};
+use std::alloc::Global;
 use std::test::Fail;
+
+// A replay, of which a proof here need know nothing.
+fn replayed(alloc: Global, network: &Network, log: &[u8]) -> Result<Replayed, ReplayAnswer> {
+    replay(alloc, network, log)
+}
 
 fn fault(line: u64, kind: LogKind) -> Result<Replayed, ReplayAnswer> {
     Err(ReplayAnswer::Fault(LogFault { line, kind }))
@@ -56,7 +62,7 @@ fn logs_of_two_levels(rt: HostRuntime) -> Result<(), Fail> {
     let network = network_of(&rt, rt.alloc(), &TOO_REDUNDANT)?;
     for (log, bound, splits, costs, pivots) in LOGS {
         let expected = accepted(bound, splits, costs, pivots);
-        assert_eq!(rt; replay(rt.alloc(), &network, log), expected);
+        assert_eq!(rt; replayed(rt.alloc(), &network, log), expected);
     }
     Ok(())
 }
@@ -76,7 +82,7 @@ fn logs_that_are_cut_off(rt: HostRuntime) -> Result<(), Fail> {
     let network = network_of(&rt, rt.alloc(), &TOO_REDUNDANT)?;
     for end in 0..WHOLE.len() {
         let front = &WHOLE[..end];
-        assert_eq!(rt; replay(rt.alloc(), &network, front), cut_off(front));
+        assert_eq!(rt; replayed(rt.alloc(), &network, front), cut_off(front));
     }
     Ok(())
 }
@@ -120,7 +126,7 @@ const FAULTS: [(&[u8], u64, LogKind); 23] = [
 fn logs_with_a_fault(rt: HostRuntime) -> Result<(), Fail> {
     let network = network_of(&rt, rt.alloc(), &TOO_REDUNDANT)?;
     for (log, line, kind) in FAULTS {
-        assert_eq!(rt; replay(rt.alloc(), &network, log), fault(line, kind));
+        assert_eq!(rt; replayed(rt.alloc(), &network, log), fault(line, kind));
     }
     Ok(())
 }
@@ -131,7 +137,7 @@ fn a_log_of_a_level_that_is_wide_enough(rt: HostRuntime) -> Result<(), Fail> {
     let network = network_of(&rt, rt.alloc(), &ONE_LEVEL)?;
     let refuted = b"geoplan-log 1\np 0\n".as_slice();
     let expected = fault(2, LogKind::NotRefuted);
-    assert_eq!(rt; replay(rt.alloc(), &network, refuted), expected);
+    assert_eq!(rt; replayed(rt.alloc(), &network, refuted), expected);
     Ok(())
 }
 
@@ -149,7 +155,7 @@ fn logs_of_a_level_that_misses_its_limit(rt: HostRuntime) -> Result<(), Fail> {
             accepted(Bound::AtLeast(0), 0, 1, 0),
         ),
     ] {
-        assert_eq!(rt; replay(rt.alloc(), &network, log), expected);
+        assert_eq!(rt; replayed(rt.alloc(), &network, log), expected);
     }
     Ok(())
 }

@@ -1,9 +1,22 @@
 //! Verdicts that were reckoned by hand, or by another program over the definitions.
+ghost use Rattle.std.specs.Prelude.{◌≡◌, ◌<◌, length};
+ghost use Rattle.pivot_chain.specs.Room.{IsRoomOf};
+
 use crate::networks::{CLOSER_LEVEL, ONE_LEVEL, Tables, network_of};
 use crate::tight_networks::two_heights;
 use geo_model::{Network, Plan, Verdict};
 use pivot_chain::{ChainRoom, verdict};
 use std::test::Fail;
+
+// A verdict, of which a proof here need know no more than that its room serves again.
+fn judged(room: &mut ChainRoom, network: &Network, plan: &Plan, limit: u32) -> Verdict
+    requires room { IsRoomOf network.now room.old }
+    requires plan { length plan.now ≡ length network.now.candidates }
+    requires limit { limit < length network.now.limits }
+    ensures { IsRoomOf network.now room.new }
+{
+    verdict(room, network, plan, limit)
+}
 
 #[test]
 fn an_equality_is_met(rt: HostRuntime) -> Result<(), Fail> {
@@ -11,9 +24,9 @@ fn an_equality_is_met(rt: HostRuntime) -> Result<(), Fail> {
     let mut room = ChainRoom::new(rt.alloc(), &network)?;
     let full = Plan::full(rt.alloc(), 1)?;
     let none = Plan::empty(rt.alloc(), 1)?;
-    assert_eq!(rt; verdict(&mut room, &network, &full, 0), Verdict::Met);
-    assert_eq!(rt; verdict(&mut room, &network, &none, 0), Verdict::Refuted);
-    assert_eq!(rt; verdict(&mut room, &network, &full, 0), Verdict::Met);
+    assert_eq!(rt; judged(&mut room, &network, &full, 0), Verdict::Met);
+    assert_eq!(rt; judged(&mut room, &network, &none, 0), Verdict::Refuted);
+    assert_eq!(rt; judged(&mut room, &network, &full, 0), Verdict::Met);
     Ok(())
 }
 
@@ -22,7 +35,7 @@ fn a_narrower_limit_is_refuted(rt: HostRuntime) -> Result<(), Fail> {
     let network = network_of(&rt, rt.alloc(), &CLOSER_LEVEL)?;
     let mut room = ChainRoom::new(rt.alloc(), &network)?;
     let full = Plan::full(rt.alloc(), 1)?;
-    assert_eq!(rt; verdict(&mut room, &network, &full, 0), Verdict::Refuted);
+    assert_eq!(rt; judged(&mut room, &network, &full, 0), Verdict::Refuted);
     Ok(())
 }
 
@@ -61,11 +74,11 @@ fn a_levelling_line_is_open(rt: HostRuntime) -> Result<(), Fail> {
         lo: -1,
         hi: 1,
     };
-    assert_eq!(rt; verdict(&mut room, &network, &full, 3), open);
-    assert_eq!(rt; verdict(&mut room, &network, &short, 3), Verdict::Refuted);
-    assert_eq!(rt; verdict(&mut room, &network, &full, 3), open);
+    assert_eq!(rt; judged(&mut room, &network, &full, 3), open);
+    assert_eq!(rt; judged(&mut room, &network, &short, 3), Verdict::Refuted);
+    assert_eq!(rt; judged(&mut room, &network, &full, 3), open);
     // no level reaches the last height, but the limit on the first one is met
-    assert_eq!(rt; verdict(&mut room, &network, &short, 0), Verdict::Met);
+    assert_eq!(rt; judged(&mut room, &network, &short, 0), Verdict::Met);
     Ok(())
 }
 
@@ -74,7 +87,7 @@ fn a_wider_limit_on_a_levelling_line_is_met(rt: HostRuntime) -> Result<(), Fail>
     let network = network_of(&rt, rt.alloc(), &WIDER_LINE)?;
     let mut room = ChainRoom::new(rt.alloc(), &network)?;
     let full = Plan::full(rt.alloc(), 4)?;
-    assert_eq!(rt; verdict(&mut room, &network, &full, 3), Verdict::Met);
+    assert_eq!(rt; judged(&mut room, &network, &full, 3), Verdict::Met);
     Ok(())
 }
 
@@ -90,8 +103,8 @@ fn a_free_step_ends_an_open_interval(rt: HostRuntime) -> Result<(), Fail> {
         lo: -1,
         hi: 0,
     };
-    assert_eq!(rt; verdict(&mut room, &network, &full, 0), open);
-    assert_eq!(rt; verdict(&mut room, &network, &first, 0), Verdict::Refuted);
+    assert_eq!(rt; judged(&mut room, &network, &full, 0), open);
+    assert_eq!(rt; judged(&mut room, &network, &first, 0), Verdict::Refuted);
     Ok(())
 }
 
