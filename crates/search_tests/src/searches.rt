@@ -21,14 +21,14 @@ enum Found {
 
 // A search: what it answers, the counts of the lines of its log, and the shelf with the log.
 #[derive(Drop)]
-struct Searched {
+struct SearchEnd {
     found: Found,
     counts: Counts,
     shelf: SureShelf,
 }
 
 // A search over a sure shelf, of which a proof here need know nothing.
-fn searched(alloc: Global, network: &Network) -> Result<Searched, Fail>
+fn searched(alloc: Global, network: &Network) -> Result<SearchEnd, Fail>
     requires { 0 < length network.now.candidates }
 {
     let mut shelf = SureShelf::new(alloc);
@@ -46,7 +46,7 @@ fn searched(alloc: Global, network: &Network) -> Result<Searched, Fail>
             hi,
         } => Found::Undecided(plan.has(0), plan.has(last), *limit, *step, *lo, *hi),
     };
-    Ok(Searched {
+    Ok(SearchEnd {
         found,
         counts: done.counts,
         shelf,
