@@ -45,6 +45,3 @@ pub use tree_laws::{
     a_text_has_one_bound, a_text_has_one_tree, a_text_is_spelled, cuts_keep_their_displacements,
     lines_are_allowed_by_their_kinds, rules_say_what_is_allowed, trees_are_allowed_line_by_line,
 };
-
-#[cfg(test)]
-mod tests;

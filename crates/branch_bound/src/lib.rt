@@ -26,6 +26,3 @@ mod search_fault;
 pub use geo_model::{Answer, SearchDone};
 pub use run::search;
 pub use search_fault::SearchFault;
-
-#[cfg(test)]
-mod tests;

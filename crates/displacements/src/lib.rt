@@ -7,8 +7,5 @@
 #![tactic(auto)]
 
 mod proposal;
-#[cfg(test)]
-mod tests;
-
 pub use geo_model::{breaks, energy, load};
 pub use proposal::propose;

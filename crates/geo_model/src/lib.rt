@@ -38,6 +38,3 @@ pub use plan::{Node, Plan};
 pub use price::cost;
 pub use row::Row;
 pub use verdict::Verdict;
-
-#[cfg(test)]
-mod tests;

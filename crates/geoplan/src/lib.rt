@@ -28,6 +28,3 @@ mod words;
 pub use laws::{sure_calls_do_not_fail, what_plan_writes_check_accepts};
 pub use top::geoplan;
 pub use words::Words;
-
-#[cfg(test)]
-mod tests;

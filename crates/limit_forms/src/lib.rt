@@ -17,9 +17,6 @@ mod grid;
 mod laws;
 mod order;
 mod row;
-#[cfg(test)]
-mod tests;
-
 pub use exponents::full_diagonals;
 pub use form::form_entry;
 pub use grid::LimitGrid;

@@ -1,6 +1,5 @@
 pub mod EveryText
 pub mod FedLemmas
-pub mod HeightNetworks
 pub mod LongerLemmas
 pub mod MoveLemmas
 pub mod PlaceLemmas

@@ -32,6 +32,3 @@ pub use fault::{LogFault, ReplayAnswer};
 pub use laws::{a_fault_stays, each_text_has_one_verdict};
 pub use replayer::Replayer;
 pub use replaying::{Replayed, replay};
-
-#[cfg(test)]
-mod tests;

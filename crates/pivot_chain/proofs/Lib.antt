@@ -1,6 +1,5 @@
 pub mod Verdicts
 pub mod ChainSteps
-pub mod HeightNetworks
 pub mod Judged
 pub mod ChainRun
 pub mod Plans

@@ -21,9 +21,6 @@ mod plan;
 mod room;
 mod row_squares;
 mod run;
-#[cfg(test)]
-mod tests;
-
 pub use chain::{Stop, step_row};
 pub use grids::{Grids, write_rows};
 pub use judging::{redundancy_at, verdict, verdict_at};

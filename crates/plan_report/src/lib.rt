@@ -22,6 +22,3 @@ mod shown;
 pub use length_kind::LengthKind;
 pub use reports::{checked_report, report};
 pub use rows::rows_text;
-
-#[cfg(test)]
-mod tests;

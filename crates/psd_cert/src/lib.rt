@@ -11,9 +11,6 @@ mod lower;
 mod sizes;
 mod square_cert;
 mod step;
-#[cfg(test)]
-mod tests;
-
 pub use sizes::fits;
 pub use square_cert::{SquareCert, holds};
 pub use step::step_holds;

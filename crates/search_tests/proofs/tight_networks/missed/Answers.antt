@@ -1,0 +1,10 @@
+use Rattle.std.proofs.Common.{◌∷◌, [], length, ◌∙◌, ap, ap₂}
+use Rattle.search_tests.proofs.TightNetworks.{missed}
+use Rattle.search_tests.proofs.tight_networks.missed.Goals as goal
+
+pub new-requires : goal.new-requires
+new-requires c =
+    missed c.in_ok-unknowns.unknowns.items c.in_ok-candidates.candidates.items c.in_ok-limits.limits.items
+    (ap length c.in_ok-unknowns.ensures.items)
+    (c.in_ok-candidates.ensures.items ∙ ap (λ x. x ∷ []) c.in_ok-only.ensures)
+    (c.in_ok-limits.ensures.items ∙ ap (λ x. x ∷ []) c.in_ok-limit.ensures)

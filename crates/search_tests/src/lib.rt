@@ -1,0 +1,26 @@
+//! Tests of plans and their limits, from networks and verdicts to logs and searches. They stand in a
+//! crate of their own, since a crate with tests is proved twice.
+#![tactic(auto)]
+
+#[cfg(test)]
+mod certificates;
+#[cfg(test)]
+mod cuts;
+#[cfg(test)]
+mod grids;
+#[cfg(test)]
+mod log_lines;
+#[cfg(test)]
+mod moves;
+#[cfg(test)]
+mod networks;
+#[cfg(test)]
+mod plans;
+#[cfg(test)]
+mod replays;
+#[cfg(test)]
+mod searches;
+#[cfg(test)]
+mod tight_networks;
+#[cfg(test)]
+mod verdicts;

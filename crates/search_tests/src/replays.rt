@@ -1,0 +1,161 @@
+//! Logs of small networks of one new height, with levels of 1.00 mm to it. What they prove, and where
+//! they are wrong, was reckoned by an independent program.
+use crate::networks::{CLOSER_LEVEL, ONE_LEVEL, TOO_REDUNDANT, network_of};
+use geo_model::{Counts, Network};
+use log_check::{Bound, LogFault, LogKind, ReplayAnswer, Replayed, replay};
+use std::alloc::Global;
+use std::test::Fail;
+
+// A replay, of which a proof here need know nothing.
+fn replayed(alloc: Global, network: &Network, log: &[u8]) -> Result<Replayed, ReplayAnswer> {
+    replay(alloc, network, log)
+}
+
+fn fault(line: u64, kind: LogKind) -> Result<Replayed, ReplayAnswer> {
+    Err(ReplayAnswer::Fault(LogFault { line, kind }))
+}
+
+fn accepted(bound: Bound, splits: u64, costs: u64, pivots: u64) -> Result<Replayed, ReplayAnswer> {
+    Ok(Replayed {
+        bound,
+        counts: Counts {
+            splits,
+            costs,
+            pivots,
+            cuts: 0,
+            duals: 0,
+        },
+    })
+}
+
+// A log of two levels.
+const WHOLE: &[u8] = b"geoplan-log 1\ns 0\np 1\ns 1\np 2\np 0\n";
+
+// Logs of two levels, what each proves, and how many splits, cost leaves and pivot leaves it has.
+const LOGS: [(&[u8], Bound, u64, u64, u64); 4] = [
+    (WHOLE, Bound::NoPlan, 2, 0, 3),
+    (
+        b"geoplan-log 1\ns 0\nc\ns 1\nc\np 0\n",
+        Bound::AtLeast(5),
+        2,
+        2,
+        1,
+    ),
+    (
+        b"geoplan-log 1\ns 1\nc\ns 0\np 1\np 0\n",
+        Bound::AtLeast(7),
+        2,
+        1,
+        2,
+    ),
+    (
+        b"geoplan-log 1\ns 1\ns 0\nc\nc\nc\n",
+        Bound::AtLeast(0),
+        2,
+        3,
+        0,
+    ),
+];
+
+#[test]
+fn logs_of_two_levels(rt: HostRuntime) -> Result<(), Fail> {
+    let network = network_of(&rt, rt.alloc(), &TOO_REDUNDANT)?;
+    for (log, bound, splits, costs, pivots) in LOGS {
+        let expected = accepted(bound, splits, costs, pivots);
+        assert_eq!(rt; replayed(rt.alloc(), &network, log), expected);
+    }
+    Ok(())
+}
+
+// What a replay of the front of a log says: its last line has no LF, or a node is open after it.
+fn cut_off(front: &[u8]) -> Result<Replayed, ReplayAnswer> {
+    let ended = front.iter().filter(|c| **c == b'\n').count() as u64;
+    if front.last() == Some(&b'\n') {
+        fault(ended + 1, LogKind::Short)
+    } else {
+        fault(ended + 1, LogKind::Form)
+    }
+}
+
+#[test]
+fn logs_that_are_cut_off(rt: HostRuntime) -> Result<(), Fail> {
+    let network = network_of(&rt, rt.alloc(), &TOO_REDUNDANT)?;
+    for end in 0..WHOLE.len() {
+        let front = &WHOLE[..end];
+        assert_eq!(rt; replayed(rt.alloc(), &network, front), cut_off(front));
+    }
+    Ok(())
+}
+
+// Texts that are no log of two levels: the line and the kind of the first fault.
+const FAULTS: [(&[u8], u64, LogKind); 23] = [
+    (b"", 1, LogKind::Form),
+    (b"geoplan-log 1", 1, LogKind::Form),
+    (b"geoplan-log 1\n", 2, LogKind::Short),
+    (
+        b"geoplan-log 1\ns 0\np 1\ns 1\np 2\np 0\nc\n",
+        7,
+        LogKind::Extra,
+    ),
+    (
+        b"geoplan-log 1\ns 0\np 1\ns 1\np 2\np 0\nc",
+        7,
+        LogKind::Extra,
+    ),
+    (b"geoplan-log 1\np 1\n", 2, LogKind::Owner),
+    (b"geoplan-log 1\ns 0\np 1\ns 0\n", 4, LogKind::NotOpen),
+    (b"geoplan-log 1\ns 0\ns 0\n", 3, LogKind::NotOpen),
+    (b"geoplan-log 1\ns 0\nc\np 0\n", 4, LogKind::NotRefuted),
+    (b"geoplan-log 1\ns 2\n", 2, LogKind::Range),
+    (b"geoplan-log 1\np 3\n", 2, LogKind::Range),
+    (b"geoplan-log 1\ns 9999999999999999999\n", 2, LogKind::Range),
+    (b"geoplan-log 1\np 9999999999999999999\n", 2, LogKind::Range),
+    (b"geoplan-log 1\ns 10000000000000000000\n", 2, LogKind::Form),
+    (b"geoplan-log 1\np 10000000000000000000\n", 2, LogKind::Form),
+    (b"geoplan-log 1\np 00\n", 2, LogKind::Form),
+    (b"geoplan-log 1\ns 00\n", 2, LogKind::Form),
+    (b"geoplan-log 1\ns  0\n", 2, LogKind::Form),
+    (b"geoplan-log 1\ns 0\r\n", 2, LogKind::Form),
+    (b"geoplan-log 1\n\n", 2, LogKind::Form),
+    (b"geoplan-log 1\nx 0 1 0 1\n", 2, LogKind::Form),
+    (b"geoplan-log 1\nd 1 0\n", 2, LogKind::Form),
+    (b"geoplan-log 2\ns 0\n", 1, LogKind::Form),
+];
+
+#[test]
+fn logs_with_a_fault(rt: HostRuntime) -> Result<(), Fail> {
+    let network = network_of(&rt, rt.alloc(), &TOO_REDUNDANT)?;
+    for (log, line, kind) in FAULTS {
+        assert_eq!(rt; replayed(rt.alloc(), &network, log), fault(line, kind));
+    }
+    Ok(())
+}
+
+// A level that meets its limit, so that nothing is refuted.
+#[test]
+fn a_log_of_a_level_that_is_wide_enough(rt: HostRuntime) -> Result<(), Fail> {
+    let network = network_of(&rt, rt.alloc(), &ONE_LEVEL)?;
+    let refuted = b"geoplan-log 1\np 0\n".as_slice();
+    let expected = fault(2, LogKind::NotRefuted);
+    assert_eq!(rt; replayed(rt.alloc(), &network, refuted), expected);
+    Ok(())
+}
+
+#[test]
+fn logs_of_a_level_that_misses_its_limit(rt: HostRuntime) -> Result<(), Fail> {
+    let network = network_of(&rt, rt.alloc(), &CLOSER_LEVEL)?;
+    for (log, expected) in [
+        (
+            b"geoplan-log 1\np 0\n".as_slice(),
+            accepted(Bound::NoPlan, 0, 0, 1),
+        ),
+        (b"geoplan-log 1\np 0".as_slice(), fault(2, LogKind::Form)),
+        (
+            b"geoplan-log 1\nc\n".as_slice(),
+            accepted(Bound::AtLeast(0), 0, 1, 0),
+        ),
+    ] {
+        assert_eq!(rt; replayed(rt.alloc(), &network, log), expected);
+    }
+    Ok(())
+}
