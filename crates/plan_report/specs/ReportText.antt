@@ -16,7 +16,7 @@ use Rattle.point_tables.specs.declared.record.PointRecord.{PointRecord}
 use Rattle.bound_log.specs.declared.bound.Bound.{Bound}
 use Rattle.bound_log.specs.declared.bound.Bound.TheVariants.{NoPlan, AtLeast}
 use Rattle.plan_report.specs.declared.length_kind.LengthKind.{LengthKind}
-use Rattle.plan_report.specs.declared.length_kind.LengthKind.TheVariants as length
+use Rattle.plan_report.specs.declared.length_kind.LengthKind.TheVariants as kind_of_length
 use Rattle.plan_report.specs.RowsText.{numbered}
 use Rattle.plan_report.specs.Shown.{length_of, redundancy_of}
 
@@ -53,8 +53,8 @@ values_text places shown limit =
 
 -- the line of an axis or a height: its point, what is shown of it, and its limit, in mm
 abbrev pub length_word : LengthKind → List ℕ
-length_word length.Axis = codes "axis,"
-length_word length.Height = codes "height,"
+length_word kind_of_length.Axis = codes "axis,"
+length_word kind_of_length.Height = codes "height,"
 
 abbrev pub length_text : LengthKind → List ℕ → ℕ → ℕ → List ℕ
 length_text kind name shown limit = length_word kind ++ (name ++ values_text 1 shown limit)
@@ -68,7 +68,7 @@ part_text network plan kind place name (part.New limit) = length_text kind name 
 -- the lines of a point: that of its axis, and then that of its height
 abbrev pub point_text : NetworkOf → List Bool → ℕ → PointRecord → List ℕ
 point_text network plan place point =
-    part_text network plan length.Axis place point.name point.plane ++ part_text network plan length.Height place point.name point.height
+    part_text network plan kind_of_length.Axis place point.name point.plane ++ part_text network plan kind_of_length.Height place point.name point.height
 
 -- the line of a row: its candidate, its number, what is shown of its redundancy, and the limit
 abbrev pub redundancy_text : List ℕ → ℕ → ℕ → ℕ → List ℕ

@@ -12,7 +12,7 @@ use Rattle.point_tables.specs.declared.record.PointRecord.{PointRecord}
 use Rattle.net_build.specs.Build.{axis_limit, height_limit}
 use Rattle.pivot_chain.specs.Verdict.{verdict_of}
 use Rattle.plan_report.specs.declared.length_kind.LengthKind.{LengthKind}
-use Rattle.plan_report.specs.declared.length_kind.LengthKind.TheVariants as length
+use Rattle.plan_report.specs.declared.length_kind.LengthKind.TheVariants as kind_of_length
 
 abbrev pub is_met : Verdict → Bool
 is_met Met = true
@@ -47,13 +47,13 @@ pub record TakesLengths (network : NetworkOf) (given : LimitOf) : Type 0 where
 
 -- the part of a point that is limited: that of its plane, or of its height
 abbrev pub part_of : LengthKind → PointRecord → Part
-part_of length.Axis point = point.plane
-part_of length.Height point = point.height
+part_of kind_of_length.Axis point = point.plane
+part_of kind_of_length.Height point = point.height
 
 -- the limit on the semi-major axis of the point of this number, or on its height
 abbrev pub length_limit : LengthKind → List Unknown → ℕ → ℕ → LimitOf
-length_limit length.Axis unknowns place value = axis_limit unknowns place value
-length_limit length.Height unknowns place value = height_limit unknowns place value
+length_limit kind_of_length.Axis unknowns place value = axis_limit unknowns place value
+length_limit kind_of_length.Height unknowns place value = height_limit unknowns place value
 
 -- what is shown of a point's axis or height, in tenths of a mm
 unfoldable pub length_of : NetworkOf → List Bool → LengthKind → ℕ → ℕ → ℕ
