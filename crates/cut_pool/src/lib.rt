@@ -13,6 +13,7 @@ mod cut;
 mod laws;
 mod pool;
 mod share;
+
 pub use cut::{Cut, cut_into, cut_of};
 pub use laws::{meeting_plans_satisfy_cuts, shifts_are_least};
 pub use pool::CutPool;

@@ -7,5 +7,6 @@
 #![tactic(auto)]
 
 mod proposal;
+
 pub use geo_model::{breaks, energy, load};
 pub use proposal::propose;

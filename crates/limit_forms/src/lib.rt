@@ -17,6 +17,7 @@ mod grid;
 mod laws;
 mod order;
 mod row;
+
 pub use exponents::full_diagonals;
 pub use form::form_entry;
 pub use grid::LimitGrid;

@@ -13,5 +13,6 @@ mod change;
 mod laws;
 mod normal;
 mod sums;
+
 pub use laws::{energy_is_the_form_of_the_normal_matrix, entries_are_small};
 pub use normal::Normal;

@@ -21,6 +21,7 @@ mod plan;
 mod room;
 mod row_squares;
 mod run;
+
 pub use chain::{Stop, step_row};
 pub use grids::{Grids, write_rows};
 pub use judging::{redundancy_at, verdict, verdict_at};

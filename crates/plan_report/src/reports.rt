@@ -87,11 +87,7 @@ fn put_choice(text: &mut Vec<u8>, reported: &Reported<'_>) -> Result<(), NoMemor
 }
 
 /// Appends the counts of the lines of a log, and its bound, which is the price of the plan.
-fn put_end(
-    text: &mut Vec<u8>,
-    reported: &Reported<'_>,
-    counts: &Counts,
-) -> Result<(), NoMemory>
+fn put_end(text: &mut Vec<u8>, reported: &Reported<'_>, counts: &Counts) -> Result<(), NoMemory>
     requires { IsReported reported.now }
     ensures { OnOk result (text.new.items ≡ text.old.items ++ end_text reported.now.network.now reported.now.plan.now counts.now) }
 {

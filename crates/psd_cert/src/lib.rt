@@ -11,6 +11,7 @@ mod lower;
 mod sizes;
 mod square_cert;
 mod step;
+
 pub use sizes::fits;
 pub use square_cert::{SquareCert, holds};
 pub use step::step_holds;
