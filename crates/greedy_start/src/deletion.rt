@@ -38,12 +38,7 @@ fn take_out(
 }
 
 /// Takes out of a certified plan one candidate after the other, each where the plan stays certified.
-pub fn take_out_each(
-    room: &mut ChainRoom,
-    network: &Network,
-    plan: &mut Plan,
-    offers: &[Offer],
-)
+pub fn take_out_each(room: &mut ChainRoom, network: &Network, plan: &mut Plan, offers: &[Offer])
     requires room { IsRoomOf network.now room.old }
     requires certified { IsCertified network.now plan.old }
     requires candidates { All (λ offer. offer.candidate < length network.now.candidates) offers.now }

@@ -8,8 +8,8 @@
 #![tactic(auto)]
 
 mod deletion;
-mod offer;
 mod first_plan;
+mod offer;
 mod unmet;
 
 pub use first_plan::start;
