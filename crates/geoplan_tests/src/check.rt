@@ -11,7 +11,7 @@ use std::test::Fail;
 const REDUNDANT_CHECK: &str = "geoplan check p.csv c.csv 501 l.log";
 
 // Second lines of a log of two levels, behind its head, and what is printed.
-const SECOND_LINES: [(&str, &str); 20] = [
+const SECOND_LINES: [(&str, &str); 23] = [
     ("s 2\n", "refused,2,Range\n"),
     ("s 9999999999999999999\n", "refused,2,Range\n"),
     ("p 3\n", "refused,2,Range\n"),
@@ -23,7 +23,10 @@ const SECOND_LINES: [(&str, &str); 20] = [
     ("s 0", "refused,2,Form\n"),
     ("c", "refused,2,Form\n"),
     ("q 0\n", "refused,2,Form\n"),
-    ("x 0 1 0 1\n", "refused,2,Form\n"),
+    ("x 0 1 0 1\n", "refused,2,CutHolds\n"),
+    ("x 0 1 1 1\n", "refused,2,Range\n"),
+    ("x 1 1 0 1\n", "refused,2,Owner\n"),
+    ("x 0 1 0\n", "refused,2,Form\n"),
     ("d 1 0\n", "refused,2,Form\n"),
     ("p 1\n", "refused,2,Owner\n"),
     ("p 2\n", "refused,2,Owner\n"),

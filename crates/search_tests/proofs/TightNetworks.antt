@@ -8,7 +8,8 @@ use Rattle.geo_model.specs.Row.{IsRow, IsSparse, unit_at}
 use Rattle.geo_model.specs.Candidate.{CandidateOf, IsCandidate}
 use Rattle.geo_model.specs.Energy.{full_energy}
 use Rattle.geo_model.specs.Limit.{SquareOf, LimitOf, IsLoad, load}
-use Rattle.geo_model.specs.Network.{NetworkOf, IsNetwork, IsLimit}
+use Rattle.geo_model.specs.Network.{NetworkOf, IsNetwork, IsLimit, network_of_lists}
+use Rattle.geo_model.proofs.StationLemmas.{no_stations}
 use Rattle.geo_model.specs.declared.limit.LimitKind.TheVariants.{Added}
 use Rattle.geo_model.specs.declared.network.Unknown.{Unknown}
 
@@ -54,10 +55,10 @@ no_owner count owner e = absurd (cc)
 
 -- a network of these candidates and limits, told by equations
 told : (unknowns : List Unknown) (candidates is_candidates : List CandidateOf) (limits is_limits : List LimitOf) → candidates ≡ is_candidates → limits ≡ is_limits
-    → IsNetwork (record { unknowns = unknowns; candidates = is_candidates; limits = is_limits }) → IsNetwork (record { unknowns = unknowns; candidates = candidates; limits = limits })
+    → IsNetwork (network_of_lists unknowns is_candidates is_limits) → IsNetwork (network_of_lists unknowns candidates limits)
 told unknowns candidates is_candidates limits is_limits e f bounds =
-    subst (λ c. IsNetwork (record { unknowns = unknowns; candidates = c; limits = limits })) (sym e)
-    (subst (λ l. IsNetwork (record { unknowns = unknowns; candidates = is_candidates; limits = l })) (sym f) bounds)
+    subst (λ c. IsNetwork (network_of_lists unknowns c limits)) (sym e)
+    (subst (λ l. IsNetwork (network_of_lists unknowns is_candidates l)) (sym f) bounds)
 
 -- ---- one height and a limit that its level misses by 1
 abbrev pub square : ℤ → ℤ → SquareOf
@@ -93,9 +94,9 @@ missed_bounds network inside is = record {
 }
 
 pub missed : (unknowns : List Unknown) (candidates : List CandidateOf) (limits : List LimitOf) → length unknowns ≡ 1 → candidates ≡ level_to 0 ∷ [] → limits ≡ missed_limit ∷ []
-    → IsNetwork (record { unknowns = unknowns; candidates = candidates; limits = limits })
+    → IsNetwork (network_of_lists unknowns candidates limits)
 missed unknowns candidates limits tall is limited_by =
-    let network : NetworkOf = record { unknowns = unknowns; candidates = level_to 0 ∷ []; limits = missed_limit ∷ [] } in
+    let network : NetworkOf = network_of_lists unknowns (level_to 0 ∷ []) (missed_limit ∷ []) in
     told unknowns candidates network.candidates limits network.limits is limited_by (record {
       unknowns = omega arith;
       candidates = omega arith;
@@ -104,6 +105,7 @@ missed unknowns candidates limits tall is limited_by =
       each_candidate = one (IsCandidate (length unknowns)) (level_to 0) (candidate_to (length unknowns) 0 (omega arith));
       each_limit = one (IsLimit network) missed_limit (missed_bounds network (omega arith) refl);
       one_limit = λ i. omega arith;
+      stations = no_stations _;
     })
 
 -- ---- two heights at the very bound of a limit
@@ -150,10 +152,10 @@ tight_load n e =
       diagonal = λ i lt. tight_diagonal i (omega arith);
     }
 
-tight_bounds : (unknowns : List Unknown) → length unknowns ≡ 2 → IsNetwork (record { unknowns = unknowns; candidates = fine_levels; limits = tight_limit ∷ [] })
+tight_bounds : (unknowns : List Unknown) → length unknowns ≡ 2 → IsNetwork (network_of_lists unknowns fine_levels (tight_limit ∷ []))
 tight_bounds unknowns tall =
     let n = length unknowns in
-    let network : NetworkOf = record { unknowns = unknowns; candidates = fine_levels; limits = tight_limit ∷ [] } in
+    let network : NetworkOf = network_of_lists unknowns fine_levels (tight_limit ∷ []) in
     record {
       unknowns = omega arith;
       candidates = omega arith;
@@ -163,9 +165,10 @@ tight_bounds unknowns tall =
           (candidate_to n 0 (omega arith)) (candidate_to n 1 (omega arith));
       each_limit = one (IsLimit network) tight_limit (record { bounded = tight_load n tall; owner = no_owner (length network.candidates); unowned = λ point. refl });
       one_limit = λ i. omega arith;
+      stations = no_stations _;
     }
 
 pub two_heights : (unknowns : List Unknown) (candidates : List CandidateOf) (limits : List LimitOf) → length unknowns ≡ 2
     → candidates ≡ fine_levels → limits ≡ tight_limit ∷ []
-    → IsNetwork (record { unknowns = unknowns; candidates = candidates; limits = limits })
+    → IsNetwork (network_of_lists unknowns candidates limits)
 two_heights unknowns candidates limits tall is limited_by = told unknowns candidates fine_levels limits (tight_limit ∷ []) is limited_by (tight_bounds unknowns tall)

@@ -15,14 +15,17 @@ fn fault(line: u64, kind: LogKind) -> Result<Replayed, ReplayAnswer> {
     Err(ReplayAnswer::Fault(LogFault { line, kind }))
 }
 
-fn accepted(bound: Bound, splits: u64, costs: u64, pivots: u64) -> Result<Replayed, ReplayAnswer> {
+fn accepted(
+    bound: Bound,
+    [splits, costs, pivots, cuts]: [u64; 4],
+) -> Result<Replayed, ReplayAnswer> {
     Ok(Replayed {
         bound,
         counts: Counts {
             splits,
             costs,
             pivots,
-            cuts: 0,
+            cuts,
             duals: 0,
         },
     })
@@ -31,37 +34,31 @@ fn accepted(bound: Bound, splits: u64, costs: u64, pivots: u64) -> Result<Replay
 // A log of two levels.
 const WHOLE: &[u8] = b"geoplan-log 1\ns 0\np 1\ns 1\np 2\np 0\n";
 
-// Logs of two levels, what each proves, and how many splits, cost leaves and pivot leaves it has.
-const LOGS: [(&[u8], Bound, u64, u64, u64); 4] = [
-    (WHOLE, Bound::NoPlan, 2, 0, 3),
+// Logs of two levels, what each proves, and how many splits, cost, pivot and cut leaves it has.
+const LOGS: [(&[u8], Bound, [u64; 4]); 4] = [
+    (WHOLE, Bound::NoPlan, [2, 0, 3, 0]),
     (
         b"geoplan-log 1\ns 0\nc\ns 1\nc\np 0\n",
         Bound::AtLeast(5),
-        2,
-        2,
-        1,
+        [2, 2, 1, 0],
     ),
     (
         b"geoplan-log 1\ns 1\nc\ns 0\np 1\np 0\n",
         Bound::AtLeast(7),
-        2,
-        1,
-        2,
+        [2, 1, 2, 0],
     ),
     (
         b"geoplan-log 1\ns 1\ns 0\nc\nc\nc\n",
         Bound::AtLeast(0),
-        2,
-        3,
-        0,
+        [2, 3, 0, 0],
     ),
 ];
 
 #[test]
 fn logs_of_two_levels(rt: HostRuntime) -> Result<(), Fail> {
     let network = network_of(&rt, rt.alloc(), &TOO_REDUNDANT)?;
-    for (log, bound, splits, costs, pivots) in LOGS {
-        let expected = accepted(bound, splits, costs, pivots);
+    for (log, bound, counts) in LOGS {
+        let expected = accepted(bound, counts);
         assert_eq!(rt; replayed(rt.alloc(), &network, log), expected);
     }
     Ok(())
@@ -88,7 +85,7 @@ fn logs_that_are_cut_off(rt: HostRuntime) -> Result<(), Fail> {
 }
 
 // Texts that are no log of two levels: the line and the kind of the first fault.
-const FAULTS: [(&[u8], u64, LogKind); 23] = [
+const FAULTS: [(&[u8], u64, LogKind); 30] = [
     (b"", 1, LogKind::Form),
     (b"geoplan-log 1", 1, LogKind::Form),
     (b"geoplan-log 1\n", 2, LogKind::Short),
@@ -117,7 +114,14 @@ const FAULTS: [(&[u8], u64, LogKind); 23] = [
     (b"geoplan-log 1\ns  0\n", 2, LogKind::Form),
     (b"geoplan-log 1\ns 0\r\n", 2, LogKind::Form),
     (b"geoplan-log 1\n\n", 2, LogKind::Form),
-    (b"geoplan-log 1\nx 0 1 0 1\n", 2, LogKind::Form),
+    (b"geoplan-log 1\nx 0 1 0 1\n", 2, LogKind::CutHolds),
+    (b"geoplan-log 1\nx 0 0\n", 2, LogKind::CutHolds),
+    (b"geoplan-log 1\nx 1 1 0 1\n", 2, LogKind::Owner),
+    (b"geoplan-log 1\nx 3 1 0 1\n", 2, LogKind::Range),
+    (b"geoplan-log 1\nx 0 1 1 1\n", 2, LogKind::Range),
+    (b"geoplan-log 1\nx 0 1 0 0\n", 2, LogKind::Range),
+    (b"geoplan-log 1\nx 0 1 0 32769\n", 2, LogKind::Range),
+    (b"geoplan-log 1\ns 0\nx 1 1 0 1\n", 4, LogKind::Short),
     (b"geoplan-log 1\nd 1 0\n", 2, LogKind::Form),
     (b"geoplan-log 2\ns 0\n", 1, LogKind::Form),
 ];
@@ -147,12 +151,20 @@ fn logs_of_a_level_that_misses_its_limit(rt: HostRuntime) -> Result<(), Fail> {
     for (log, expected) in [
         (
             b"geoplan-log 1\np 0\n".as_slice(),
-            accepted(Bound::NoPlan, 0, 0, 1),
+            accepted(Bound::NoPlan, [0, 0, 1, 0]),
         ),
         (b"geoplan-log 1\np 0".as_slice(), fault(2, LogKind::Form)),
         (
             b"geoplan-log 1\nc\n".as_slice(),
-            accepted(Bound::AtLeast(0), 0, 1, 0),
+            accepted(Bound::AtLeast(0), [0, 1, 0, 0]),
+        ),
+        (
+            b"geoplan-log 1\nx 0 1 0 1\n".as_slice(),
+            accepted(Bound::NoPlan, [0, 0, 0, 1]),
+        ),
+        (
+            b"geoplan-log 1\nx 0 1 0 -3\n".as_slice(),
+            accepted(Bound::NoPlan, [0, 0, 0, 1]),
         ),
     ] {
         assert_eq!(rt; replayed(rt.alloc(), &network, log), expected);
