@@ -5,7 +5,8 @@ use Rattle.std.specs.Option.{ForSome}
 use Rattle.shelf_io.specs.Files.{Files, bytes_of}
 use Rattle.shelf_io.specs.Faults.{Rose, KeepsFaults, read_of}
 use Rattle.std.specs.List.{AllByRecursion, enumerate_from, flat_map}
-use Rattle.std.proofs.lemmas.List.{length-map}
+use Rattle.std.proofs.lemmas.List.{append-nil, length-map}
+use Rattle.std.proofs.lemmas.List.Elements.{All-nil}
 use Rattle.geo_model.specs.Network.{NetworkOf, IsNetwork}
 use Rattle.geo_model.specs.declared.network.Component.TheVariants as component
 use Rattle.geo_model.specs.declared.network.Unknown.{Unknown}
@@ -18,6 +19,7 @@ use Rattle.design_rows.proofs.UnknownFacts.{every-append, every-weaker}
 use Rattle.net_build.specs.Bounds.{AreTables}
 use Rattle.net_build.specs.Build.{candidate_of, network_of}
 use Rattle.covariance_words.proofs.Meaning.{met-limits-mean}
+use Rattle.plan_report.specs.Reported.{IsAdded}
 use Rattle.geoplan.specs.declared.file_kind.FileKind.TheVariants as kind
 use Rattle.geoplan.specs.declared.load.LoadFault.{LoadFault}
 use Rattle.geoplan.specs.declared.load.LoadFault.TheVariants as load
@@ -179,6 +181,14 @@ good_network redundancy points candidates bounds are = record {
   named = sym (length-map candidates (candidate_of points (unknowns_of points candidates)));
   placed = unknowns-placed points candidates;
   means = λ plan meets. met-limits-mean points candidates redundancy plan are meets;
+  reported = record {
+    tables = are;
+    unknowns = refl;
+    offered = refl;
+    added = [];
+    limits = sym (append-nil (network_of points candidates redundancy).limits);
+    each_added = All-nil IsAdded;
+  };
 }
 
 -- so what is built is good

@@ -1,6 +1,10 @@
 -- What stands once the files of a command are loaded and its answer is made.
-use Rattle.std.proofs.Common.{◌≡◌, ◌⊎◌, inl, inr, ◌≤◌, ℕ, Bool, List, [], refl, sym, ap, ◌∙◌, subst, arith, Option, Some}
+use Rattle.std.proofs.Common.{◌≡◌, ◌⊎◌, inl, inr, ◌≤◌, ℕ, Bool, List, [], refl, sym, ap, ◌∙◌, subst, arith, Option, Some, Result, Ok, Err, Vec, Global, slice_get, ℤ}
+use Rattle.std.specs.Prelude.{IfOk, MatchResult}
 use Rattle.std.proofs.lemmas.List.{append-nil}
+use Rattle.std.proofs.lemmas.Option.{slice_get_within}
+use Rattle.geo_base.specs.declared.no_memory.NoMemory.{NoMemory}
+use Rattle.geo_model.specs.Limit.{LimitOf}
 use Rattle.shelf_io.specs.Files.{Files, with_bytes}
 use Rattle.shelf_io.specs.Faults.{Rose, KeepsFaults}
 use Rattle.shelf_io.specs.States.{ShelfState}
@@ -8,7 +12,9 @@ use Rattle.branch_bound.specs.declared.search_fault.SearchFault.{SearchFault}
 use Rattle.branch_bound.specs.declared.search_fault.SearchFault.TheVariants as search
 use Rattle.branch_bound.specs.Searched.{IsAnswer, IsCertified}
 use Rattle.geo_model.specs.Prices.{price_of}
-use Rattle.geo_model.specs.Network.{IsNetwork}
+use Rattle.geo_model.specs.Network.{IsNetwork, NetworkOf}
+use Rattle.point_tables.specs.declared.record.PointRecord.{PointRecord}
+use Rattle.candidate_tables.specs.declared.record.CandidateRecord.{CandidateRecord}
 use Rattle.geo_model.specs.declared.answer.Answer.{Answer}
 use Rattle.geo_model.specs.declared.answer.Answer.TheVariants as answer
 use Rattle.geo_model.specs.declared.answer.Counts.{Counts}
@@ -33,10 +39,11 @@ use Rattle.geoplan.specs.CommandOf.{SourcesOf, CommandOf}
 use Rattle.geoplan.specs.Ends.{Began}
 use Rattle.geoplan.specs.Loading.{refused_view, Loads, HasLoadFault, FailsLoad, IsGoodNetwork, Means}
 use Rattle.geoplan.specs.Outcomes.{LeavesLog, BeganLog, FailsToWrite, priced}
-use Rattle.geoplan.specs.Reporting.{CanReport, Ends, Reports, Replays, Refused, HasNoText}
+use Rattle.geoplan.specs.Reporting.{Ends, status_of, Reports, Replays, Refused, HasNoText}
 use Rattle.geoplan.specs.Solving.{Solves, FailsSolve, RunsOutPlanning, Plans}
 use Rattle.geoplan.specs.Standing.{RunsOut, IsOutcomeOf}
 use Rattle.geoplan.specs.Tables.{TablesOf}
+use Rattle.plan_report.specs.Reported.{IsAnswerFor, IsNetworkFor, IsReport}
 use Rattle.plan_report.specs.ReportText.{no_plan_text}
 use Rattle.geoplan.specs.Texts.{cannot_read_text, tables_plan_text, tables_undecided_text, tables_rows_text}
 use Rattle.geoplan.proofs.LoadLemmas.{keeps}
@@ -68,6 +75,40 @@ whole_began tables name done before now leaves = record {
   written = leaves.written;
 }
 
+-- the report of an open limit
+of_limit : (tables : TablesOf) (plan : List Bool) (counts : Counts) (number step : ℕ) (lo hi : ℤ) (ends : Status) (text : List ℕ) (limit : LimitOf) → slice_get tables.network.limits number ≡ Some limit
+    → Reports tables counts (answer.Undecided plan number step lo hi) ends text → Ends status.Undecided (tables_undecided_text tables plan counts limit.kind step lo hi) ends text
+of_limit tables plan counts number step lo hi ends text limit named (inl (is, said)) = inl (is, said limit named)
+of_limit tables plan counts number step lo hi ends text limit named (inr none) = inr none
+
+-- a report, where there was memory for it
+pub reports_made : (tables : TablesOf) (counts : Counts) (given : Answer) (meant ends : Status) (text : List ℕ) (made : Result (Vec ℕ Global) NoMemory)
+    → meant ≡ status_of given → IfOk made (λ words. IsReport tables.points tables.candidates tables.redundancy tables.network counts given words.items)
+    → MatchResult made (λ words. Ends meant words.items ends text) (λ _. HasNoText ends text) → Reports tables counts given ends text
+reports_made tables counts given meant ends text (Ok words) same is (inl (ended, said)) =
+    inl (ended ∙ same, subst (IsReport tables.points tables.candidates tables.redundancy tables.network counts given) (sym said) is)
+reports_made tables counts given meant ends text (Ok words) same is (inr none) = inr none
+reports_made tables counts given meant ends text (Err why) same is none = inr none
+
+-- .. of the parts of tables, as they are lent
+module _ (tables : TablesOf) (points : List PointRecord) (candidates : List CandidateRecord) (q : ℕ) (network : NetworkOf)
+    (same_points : points ≡ tables.points) (same_candidates : candidates ≡ tables.candidates) (same_q : q ≡ tables.redundancy) (same_network : network ≡ tables.network)
+  where
+  pub network_along : IsNetworkFor tables.points tables.candidates tables.redundancy tables.network → IsNetworkFor points candidates q network
+  network_along is =
+      subst (λ p. IsNetworkFor p candidates q network) (sym same_points)
+      (subst (λ c. IsNetworkFor tables.points c q network) (sym same_candidates)
+      (subst (λ k. IsNetworkFor tables.points tables.candidates k network) (sym same_q)
+      (subst (λ n. IsNetworkFor tables.points tables.candidates tables.redundancy n) (sym same_network) is)))
+
+  pub report_along : (counts : Counts) (given : Answer) (made : Result (Vec ℕ Global) NoMemory) → IfOk made (λ words. IsReport points candidates q network counts given words.items)
+      → IfOk made (λ words. IsReport tables.points tables.candidates tables.redundancy tables.network counts given words.items)
+  report_along counts given made is =
+      subst (λ p. IfOk made (λ words. IsReport p tables.candidates tables.redundancy tables.network counts given words.items)) same_points
+      (subst (λ c. IfOk made (λ words. IsReport points c tables.redundancy tables.network counts given words.items)) same_candidates
+      (subst (λ k. IfOk made (λ words. IsReport points candidates k tables.network counts given words.items)) same_q
+      (subst (λ n. IfOk made (λ words. IsReport points candidates q n counts given words.items)) same_network is)))
+
 module _ (tables : TablesOf) (name : List ℕ) (before now : ShelfState) (bound : Bound) (counts : Counts) (leaves : LeavesLog tables name (record { bound = bound; counts = counts }) before now) (ends : Status) (text : List ℕ) where
   -- with a whole log memory ran out
   out_after : ends ≡ status.NoMemory → text ≡ [] → Plans tables name before now ends text
@@ -90,9 +131,9 @@ module _ (tables : TablesOf) (name : List ℕ) (before now : ShelfState) (bound 
   uncertified : LeavesLog tables name (record { bound = NoPlan; counts = counts }) before now → (plan : List Bool) → IsCertified tables.network plan → ⊥
   uncertified none plan certified = none.lower plan certified.long (certified_meets tables.network plan none.network certified.certified)
 
-  by_answer : Means tables → (given : Answer) → IsAnswer tables.network bound given → Reports tables given ends text → Plans tables name before now ends text
+  by_answer : Means tables → (given : Answer) → IsAnswer tables.network bound given → Reports tables counts given ends text → Plans tables name before now ends text
   by_answer means (answer.Best plan) is reports =
-      ended status.Found (tables_plan_text tables plan)
+      ended status.Found (tables_plan_text tables plan counts)
       (λ said. record {
         plan = plan;
         counts = counts;
@@ -103,10 +144,10 @@ module _ (tables : TablesOf) (name : List ℕ) (before now : ShelfState) (bound 
         printed = said;
       }) reports
   by_answer means answer.NoPlan is reports =
-      ended status.NoPlan no_plan_text
+      ended status.NoPlan (no_plan_text counts)
       (λ said. record { counts = counts; leaves = leaves_as NoPlan is; uncertified = uncertified (leaves_as NoPlan is); printed = said }) reports
   by_answer means (answer.Undecided plan number step lo hi) is reports =
-      ended status.Undecided (tables_undecided_text tables plan is.open_limit.here.limit.kind step lo hi)
+      ended status.Undecided (tables_undecided_text tables plan counts is.open_limit.here.limit.kind step lo hi)
       (λ said. record {
         plan = plan;
         number = number;
@@ -120,10 +161,10 @@ module _ (tables : TablesOf) (name : List ℕ) (before now : ShelfState) (bound 
         open_limit = is.open_limit;
         printed = said;
       })
-      (reports is.open_limit.here.limit is.open_limit.here.named)
+      (of_limit tables plan counts number step lo hi ends text is.open_limit.here.limit is.open_limit.here.named reports)
 
 -- once the search is done and its answer is reported
-pub Plans-reported : (tables : TablesOf) (name : List ℕ) (done : SearchDone) (before now : ShelfState) (ends : Status) (text : List ℕ) → IsGoodNetwork tables → Solves tables name done before now → Reports tables done.answer ends text → Plans tables name before now ends text
+pub Plans-reported : (tables : TablesOf) (name : List ℕ) (done : SearchDone) (before now : ShelfState) (ends : Status) (text : List ℕ) → IsGoodNetwork tables → Solves tables name done before now → Reports tables done.counts done.answer ends text → Plans tables name before now ends text
 Plans-reported tables name done before now ends text good solved reports =
     by_answer tables name before now (bound_at tables.network (root_of tables.network) solved.tree) done.counts (leaves_log tables name done before now good.bounds solved) ends text good.means done.answer solved.searched.answered reports
 
@@ -139,12 +180,12 @@ Plans-out tables name why before now ends text failed ended none =
     subst (λ s. Plans tables name before now s text) (sym ended) (record { held = failed.held; later = failed.later; printed = none })
 
 -- the answer of a search can be reported
-can_report : (tables : TablesOf) (bound : Bound) (given : Answer) → IsAnswer tables.network bound given → CanReport tables given
+can_report : (tables : TablesOf) (bound : Bound) (given : Answer) → IsAnswer tables.network bound given → IsAnswerFor tables.network given
 can_report tables bound (answer.Best plan) is = is.certified.long
 can_report tables bound answer.NoPlan is = tt
-can_report tables bound (answer.Undecided plan number step lo hi) is = (is.unsettled.long, record { limit = is.open_limit.here.limit; named = is.open_limit.here.named })
+can_report tables bound (answer.Undecided plan number step lo hi) is = (is.unsettled.long, slice_get_within tables.network.limits number is.open_limit.here.limit is.open_limit.here.named)
 
-pub CanReport-solved : (tables : TablesOf) (log : List ℕ) (done : SearchDone) (before now : ShelfState) → Solves tables log done before now → CanReport tables done.answer
+pub CanReport-solved : (tables : TablesOf) (log : List ℕ) (done : SearchDone) (before now : ShelfState) → Solves tables log done before now → IsAnswerFor tables.network done.answer
 CanReport-solved tables log done before now solved = can_report tables (bound_at tables.network (root_of tables.network) solved.tree) done.answer solved.searched.answered
 
 -- ---- after the files were loaded

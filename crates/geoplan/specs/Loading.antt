@@ -7,6 +7,7 @@ use Rattle.shelf_io.specs.States.{ShelfState}
 use Rattle.geo_model.specs.Network.{IsNetwork}
 use Rattle.geo_model.specs.Meeting.{MeetsLimits}
 use Rattle.covariance_words.specs.Meaning.{HoldsAndIsPrecise}
+use Rattle.plan_report.specs.Reported.{IsNetworkFor}
 use Rattle.point_tables.specs.declared.fault.TableName.TheVariants as fault_table
 use Rattle.point_tables.specs.PointTable.{points_fault, points_of}
 use Rattle.candidate_tables.specs.CandidateTable.{candidates_fault, candidates_of}
@@ -28,13 +29,14 @@ refused_view refused = record { table = refused.table.now; number = refused.numb
 abbrev pub Means : TablesOf → Type 0
 Means tables = (plan : List Bool) → MeetsLimits tables.network plan → HoldsAndIsPrecise tables.points tables.network tables.redundancy plan
 
--- the network of the tables keeps the bounds of networks, has their candidates, its unknowns are of their points, and what
--- its limits mean
+-- the network of the tables keeps the bounds of networks, has their candidates, its unknowns are of their points, its limits
+-- mean what they say, and it is the one that a report is of
 pub record IsGoodNetwork (tables : TablesOf) : Type 0 where
   pub bounds : IsNetwork tables.network
   pub named : length tables.candidates ≡ length tables.network.candidates
   pub placed : All (λ unknown. unknown.point < length tables.points) tables.network.unknowns
   pub means : Means tables
+  pub reported : IsNetworkFor tables.points tables.candidates tables.redundancy tables.network
 
 -- ---- one file
 

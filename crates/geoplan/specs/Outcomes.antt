@@ -55,14 +55,14 @@ pub record FindsPlan (tables : TablesOf) (name : List ℕ) (before now : ShelfSt
   pub certified : IsCertified tables.network plan
   pub meets : MeetsLimits tables.network plan
   pub precise : HoldsAndIsPrecise tables.points tables.network tables.redundancy plan
-  pub printed : text ≡ tables_plan_text tables plan
+  pub printed : text ≡ tables_plan_text tables plan counts
 
 -- No plan meets the limits, so that none is certified, and the bound of the log says so.
 pub record FindsNone (tables : TablesOf) (name : List ℕ) (before now : ShelfState) (text : List ℕ) : Type 0 where
   pub counts : Counts
   pub leaves : LeavesLog tables name (record { bound = NoPlan; counts = counts }) before now
   pub uncertified : (plan : List Bool) → IsCertified tables.network plan → ⊥
-  pub printed : text ≡ no_plan_text
+  pub printed : text ≡ no_plan_text counts
 
 -- A plan that is neither certified nor refuted. Its price is the bound of the log, every certified plan costs more, and the
 -- named limit is the first one in force that is Open, at this step, with 0 in this interval.
@@ -77,7 +77,7 @@ pub record LeavesOpen (tables : TablesOf) (name : List ℕ) (before now : ShelfS
   pub unsettled : IsUnsettled tables.network plan
   pub dearer : (other : List Bool) → IsCertified tables.network other → price_of tables.network plan < price_of tables.network other
   pub open_limit : IsFirstOpen tables.network plan number step lo hi
-  pub printed : text ≡ tables_undecided_text tables plan open_limit.here.limit.kind step lo hi
+  pub printed : text ≡ tables_undecided_text tables plan counts open_limit.here.limit.kind step lo hi
 
 -- the name holds the beginning of a log of the tables' network, and every other name what it held
 pub record BeganLog (tables : TablesOf) (name : List ℕ) (before now : Option Files) : Type 0 where

@@ -1,16 +1,16 @@
-use Rattle.std.specs.Prelude.{◌≡◌, ◌⊎◌, ℕ, List, [], length, Some, slice_get}
-use Rattle.geo_model.specs.Limit.{LimitOf}
+use Rattle.std.specs.Prelude.{◌≡◌, ◌⊎◌, ℕ, List, []}
 use Rattle.geo_model.specs.Network.{NetworkOf}
 use Rattle.geo_model.specs.declared.answer.Answer.{Answer}
 use Rattle.geo_model.specs.declared.answer.Answer.TheVariants as answer
+use Rattle.geo_model.specs.declared.answer.Counts.{Counts}
 use Rattle.log_check.specs.declared.fault.LogFault.{LogFault}
 use Rattle.log_check.specs.declared.replaying.Replayed.{Replayed}
 use Rattle.log_check.specs.FirstFault.{IsFirstFault}
 use Rattle.log_check.specs.Replayed.{IsReplayed}
 use Rattle.geoplan.specs.Tables.{TablesOf}
 use Rattle.geoplan.specs.Loading.{refused_view}
-use Rattle.plan_report.specs.ReportText.{no_plan_text}
-use Rattle.geoplan.specs.Texts.{cannot_read_text, too_long_text, table_text, tables_plan_text, tables_undecided_text, replayed_text, log_fault_text}
+use Rattle.plan_report.specs.Reported.{IsReport}
+use Rattle.geoplan.specs.Texts.{cannot_read_text, too_long_text, table_text, replayed_text, log_fault_text}
 use Rattle.geoplan.specs.declared.load.LoadFault.{LoadFault}
 use Rattle.geoplan.specs.declared.load.LoadFault.TheVariants as load
 use Rattle.geoplan.specs.declared.status.Status.{Status}
@@ -18,16 +18,11 @@ use Rattle.geoplan.specs.declared.status.Status.TheVariants as status
 
 -- The text of an answer. Only private clauses and proofs cite it. This project's own.
 
--- the limit of a number is one of the network's
-pub record HasLimit (tables : TablesOf) (number : ℕ) : Type 0 where
-  pub limit : LimitOf
-  pub named : slice_get tables.network.limits number ≡ Some limit
-
--- an answer can be reported: its plan has an entry for each candidate, and its open limit is one of the network's
-abbrev pub CanReport : TablesOf → Answer → Type 0
-CanReport tables (answer.Best plan) = length plan ≡ length tables.network.candidates
-CanReport tables answer.NoPlan = Unit {0}
-CanReport tables (answer.Undecided plan number step lo hi) = (length plan ≡ length tables.network.candidates) × HasLimit tables number
+-- the status of an answer
+abbrev pub status_of : Answer → Status
+status_of (answer.Best plan) = status.Found
+status_of answer.NoPlan = status.NoPlan
+status_of (answer.Undecided plan number step lo hi) = status.Undecided
 
 -- memory ran out before there was a text
 abbrev pub HasNoText : Status → List ℕ → Type 0
@@ -37,13 +32,11 @@ HasNoText ends text = (ends ≡ status.NoMemory) × (text ≡ [])
 abbrev pub Ends : Status → List ℕ → Status → List ℕ → Type 0
 Ends meant words ends text = ((ends ≡ meant) × (text ≡ words)) ⊎ HasNoText ends text
 
--- the status and the text of an answer
-abbrev pub Reports : TablesOf → Answer → Status → List ℕ → Type 0
-Reports tables (answer.Best plan) ends text = Ends status.Found (tables_plan_text tables plan) ends text
-Reports tables answer.NoPlan ends text = Ends status.NoPlan no_plan_text ends text
-Reports tables (answer.Undecided plan number step lo hi) ends text =
-    (limit : LimitOf) → slice_get tables.network.limits number ≡ Some limit →
-    Ends status.Undecided (tables_undecided_text tables plan limit.kind step lo hi) ends text
+-- the status and the report of an answer, where there was memory for the report
+abbrev pub Reports : TablesOf → Counts → Answer → Status → List ℕ → Type 0
+Reports tables counts given ends text =
+    ((ends ≡ status_of given) × IsReport tables.points tables.candidates tables.redundancy tables.network counts given text)
+    ⊎ HasNoText ends text
 
 -- the status and the text of a log that is replayed over a network
 abbrev pub Replays : NetworkOf → List ℕ → Status → List ℕ → Type 0

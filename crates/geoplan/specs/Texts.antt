@@ -1,5 +1,6 @@
 use Rattle.std.specs.Prelude.{ℕ, ℤ, List, ◌++◌, Bool, codes}
 use Rattle.std.specs.Fmt.{decimal}
+use Rattle.geo_model.specs.declared.answer.Counts.{Counts}
 use Rattle.geo_model.specs.declared.limit.LimitKind.{LimitKind}
 use Rattle.point_tables.specs.declared.fault.FaultKind.{FaultKind}
 use Rattle.point_tables.specs.declared.fault.FaultKind.TheVariants as kind
@@ -79,15 +80,16 @@ log_fault_text fault = codes "refused," ++ (decimal fault.line ++ (codes "," ++ 
 
 -- ---- the reports for two tables
 
--- .. of a plan of their candidates
-abbrev pub tables_plan_text : TablesOf → List Bool → List ℕ
-tables_plan_text tables plan = plan_text (candidate.names_of tables.candidates) tables.network plan
+-- .. of a plan of their candidates, with the counts of the lines of its log
+abbrev pub tables_plan_text : TablesOf → List Bool → Counts → List ℕ
+tables_plan_text tables plan counts =
+    plan_text tables.points (candidate.names_of tables.candidates) tables.redundancy tables.network plan counts
 
 -- .. of such a plan that is not decided, with the kind of its open limit, the step and the interval
-abbrev pub tables_undecided_text : TablesOf → List Bool → LimitKind → ℕ → ℤ → ℤ → List ℕ
-tables_undecided_text tables plan kind step lo hi =
+abbrev pub tables_undecided_text : TablesOf → List Bool → Counts → LimitKind → ℕ → ℤ → ℤ → List ℕ
+tables_undecided_text tables plan counts kind step lo hi =
     undecided_text (candidate.names_of tables.candidates) tables.network plan
-    (open_text (which_text (point.names_of tables.points) (candidate.names_of tables.candidates) kind) step lo hi)
+    (open_text (which_text (point.names_of tables.points) (candidate.names_of tables.candidates) kind) step lo hi) counts
 
 -- .. of the unknowns and the rows of their network
 abbrev pub tables_rows_text : TablesOf → List ℕ

@@ -50,6 +50,13 @@ impl Tables {
         &self.candidates
     }
 
+    /// The redundancy that is asked for, in thousandths.
+    pub fn redundancy(&self) -> u32
+        ensures { result ≡ self.now.redundancy }
+    {
+        self.redundancy
+    }
+
     /// The network of the tables.
     pub fn network(&self) -> &Network
         ensures { result.now ≡ self.now.network }

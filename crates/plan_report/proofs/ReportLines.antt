@@ -50,3 +50,14 @@ pub six_pieces : (t1 t2 t3 t4 t5 t6 p1 p2 p3 p4 p5 p6 : List ℕ) → t1 ≡ p1 
 six_pieces t1 t2 t3 t4 t5 t6 p1 p2 p3 p4 p5 p6 e1 e2 e3 e4 e5 e6 =
     before t1 t2 t6 p2 (p3 ++ (p4 ++ (p5 ++ p6))) e2 (before t2 t3 t6 p3 (p4 ++ (p5 ++ p6)) e3 (before t3 t4 t6 p4 (p5 ++ p6) e4 (before t4 t5 t6 p5 p6 e5 e6)))
     ∙ ap (λ t. t ++ (p2 ++ (p3 ++ (p4 ++ (p5 ++ p6))))) e1
+
+-- .. of three, four and five
+pub three_pieces : (t1 t2 t3 p1 p2 p3 : List ℕ) → t1 ≡ p1 → t2 ≡ t1 ++ p2 → t3 ≡ t2 ++ p3 → t3 ≡ p1 ++ (p2 ++ p3)
+three_pieces t1 t2 t3 p1 p2 p3 e1 e2 e3 = before t1 t2 t3 p2 p3 e2 e3 ∙ ap (λ t. t ++ (p2 ++ p3)) e1
+
+pub four_pieces : (t1 t2 t3 t4 p1 p2 p3 p4 : List ℕ) → t1 ≡ p1 → t2 ≡ t1 ++ p2 → t3 ≡ t2 ++ p3 → t4 ≡ t3 ++ p4 → t4 ≡ p1 ++ (p2 ++ (p3 ++ p4))
+four_pieces t1 t2 t3 t4 p1 p2 p3 p4 e1 e2 e3 e4 = three_pieces t1 t2 t4 p1 p2 (p3 ++ p4) e1 e2 (before t2 t3 t4 p3 p4 e3 e4)
+
+pub five_pieces : (t1 t2 t3 t4 t5 p1 p2 p3 p4 p5 : List ℕ) → t1 ≡ p1 → t2 ≡ t1 ++ p2 → t3 ≡ t2 ++ p3 → t4 ≡ t3 ++ p4 → t5 ≡ t4 ++ p5
+    → t5 ≡ p1 ++ (p2 ++ (p3 ++ (p4 ++ p5)))
+five_pieces t1 t2 t3 t4 t5 p1 p2 p3 p4 p5 e1 e2 e3 e4 e5 = four_pieces t1 t2 t3 t5 p1 p2 p3 (p4 ++ p5) e1 e2 e3 (before t3 t4 t5 p4 p5 e4 e5)

@@ -4,10 +4,10 @@ use Rattle.geoplan.proofs.plan.answer_plan.Goals as goal
 pub returns-in-Ok : goal.returns-in-Ok
 returns-in-Ok g c =
     Plans-reported c.args.tables.now c.args.log.now c.in-Ok.done (g.H.Shelf.state c.args.shelf.now) (g.H.Shelf.state c.solve.new.shelf)
-    c.report.result.status c.report.result.text.items c.requires c.in-Ok.ensures.solved c.report.ensures
+    c.reported.result.status c.reported.result.text.items c.requires c.in-Ok.ensures.solved c.reported.ensures
 
-pub report-requires-clause-answer : goal.report-requires-clause-answer
-report-requires-clause-answer g c =
+pub reported-requires-clause-answer : goal.reported-requires-clause-answer
+reported-requires-clause-answer g c =
     CanReport-solved c.args.tables.now c.args.log.now c.in-Ok.done (g.H.Shelf.state c.args.shelf.now) (g.H.Shelf.state c.solve.new.shelf) c.in-Ok.ensures.solved
 
 pub returns-in-Err-WriteFault : goal.returns-in-Err-WriteFault
