@@ -94,20 +94,20 @@ reports_made tables counts given meant ends text (Err why) same is none = inr no
 module _ (tables : TablesOf) (points : List PointRecord) (candidates : List CandidateRecord) (q : ℕ) (network : NetworkOf)
     (same_points : points ≡ tables.points) (same_candidates : candidates ≡ tables.candidates) (same_q : q ≡ tables.redundancy) (same_network : network ≡ tables.network)
   where
-  pub network_along : IsNetworkFor tables.points tables.candidates tables.redundancy tables.network → IsNetworkFor points candidates q network
-  network_along is =
-      subst (λ p. IsNetworkFor p candidates q network) (sym same_points)
-      (subst (λ c. IsNetworkFor tables.points c q network) (sym same_candidates)
-      (subst (λ k. IsNetworkFor tables.points tables.candidates k network) (sym same_q)
-      (subst (λ n. IsNetworkFor tables.points tables.candidates tables.redundancy n) (sym same_network) is)))
+    pub network_along : IsNetworkFor tables.points tables.candidates tables.redundancy tables.network → IsNetworkFor points candidates q network
+    network_along is =
+        subst (λ p. IsNetworkFor p candidates q network) (sym same_points)
+        (subst (λ c. IsNetworkFor tables.points c q network) (sym same_candidates)
+        (subst (λ k. IsNetworkFor tables.points tables.candidates k network) (sym same_q)
+        (subst (λ n. IsNetworkFor tables.points tables.candidates tables.redundancy n) (sym same_network) is)))
 
-  pub report_along : (counts : Counts) (given : Answer) (made : Result (Vec ℕ Global) NoMemory) → IfOk made (λ words. IsReport points candidates q network counts given words.items)
-      → IfOk made (λ words. IsReport tables.points tables.candidates tables.redundancy tables.network counts given words.items)
-  report_along counts given made is =
-      subst (λ p. IfOk made (λ words. IsReport p tables.candidates tables.redundancy tables.network counts given words.items)) same_points
-      (subst (λ c. IfOk made (λ words. IsReport points c tables.redundancy tables.network counts given words.items)) same_candidates
-      (subst (λ k. IfOk made (λ words. IsReport points candidates k tables.network counts given words.items)) same_q
-      (subst (λ n. IfOk made (λ words. IsReport points candidates q n counts given words.items)) same_network is)))
+    pub report_along : (counts : Counts) (given : Answer) (made : Result (Vec ℕ Global) NoMemory) → IfOk made (λ words. IsReport points candidates q network counts given words.items)
+        → IfOk made (λ words. IsReport tables.points tables.candidates tables.redundancy tables.network counts given words.items)
+    report_along counts given made is =
+        subst (λ p. IfOk made (λ words. IsReport p tables.candidates tables.redundancy tables.network counts given words.items)) same_points
+        (subst (λ c. IfOk made (λ words. IsReport points c tables.redundancy tables.network counts given words.items)) same_candidates
+        (subst (λ k. IfOk made (λ words. IsReport points candidates k tables.network counts given words.items)) same_q
+        (subst (λ n. IfOk made (λ words. IsReport points candidates q n counts given words.items)) same_network is)))
 
 module _ (tables : TablesOf) (name : List ℕ) (before now : ShelfState) (bound : Bound) (counts : Counts) (leaves : LeavesLog tables name (record { bound = bound; counts = counts }) before now) (ends : Status) (text : List ℕ) where
   -- with a whole log memory ran out

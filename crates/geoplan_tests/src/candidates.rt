@@ -1,6 +1,7 @@
 //! Candidates tables with faults, and at their bounds.
 use crate::fixtures::{
-    CHECK, HEIGHTS, OLD_LOG, PLAN, POINT_HEADER, expect, expect_reading, shelf_of, shelf_with,
+    CHECK, HEIGHTS, OLD_LOG, PLAN, POINT_HEADER, expect_reading, expect_report, shelf_of,
+    shelf_with,
 };
 use std::test::Fail;
 
@@ -99,51 +100,59 @@ fn lines_are_refused(rt: HostRuntime) -> Result<(), Fail> {
     Ok(())
 }
 
-// Records of both tables, and the plan of the least cost.
-const ACCEPTED: [(&str, &str, &str); 7] = [
+// Records of both tables, and the report of the plan of the least cost before the counts of its log's
+// lines and behind them.
+const ACCEPTED: [(&str, &str, &str, &str); 7] = [
     (
         HEIGHTS,
         "l1,level,A,H,,1.00,,5.000\n",
-        "plan\ncost 5\ntake,l1\nbound 5\n",
+        "plan\ncost 5\ntake,l1\nheight,H,1.0,1.0\nredundancy,l1,1,0.000,0.000\nlog,",
+        "\nbound 5\n",
     ),
     (
         HEIGHTS,
         "A,level,H,A,,1.00,,5\n",
-        "plan\ncost 5\ntake,A\nbound 5\n",
+        "plan\ncost 5\ntake,A\nheight,H,1.0,1.0\nredundancy,A,1,0.000,0.000\nlog,",
+        "\nbound 5\n",
     ),
     (
         "A,0.000,0,+100,fixed,fixed\nH,,,101.000,,100.0\n",
         "l1,level,A,H,,100.00,,1000000000\n",
-        "plan\ncost 1000000000\ntake,l1\nbound 1000000000\n",
+        "plan\ncost 1000000000\ntake,l1\nheight,H,100.0,100.0\nredundancy,l1,1,0.000,0.000\nlog,",
+        "\nbound 1000000000\n",
     ),
     (
         "A,,,100.000,,fixed\nH,,,101.000,,0.1\n",
         "l1,level,A,H,,0.10,,0\n",
-        "plan\ncost 0\ntake,l1\nbound 0\n",
+        "plan\ncost 0\ntake,l1\nheight,H,0.1,0.1\nredundancy,l1,1,0.000,0.000\nlog,",
+        "\nbound 0\n",
     ),
     (
         "A,,,1,,fixed\nB,,,2,,fixed\nH,,,3,,2.0\n",
         "l1,level,A,B,,1.00,,1\nl2,level,H,B,,2.00,,2\n",
-        "plan\ncost 2\ntake,l2\nbound 2\n",
+        "plan\ncost 2\ntake,l2\nheight,H,2.0,2.0\nredundancy,l2,1,0.000,0.000\nlog,",
+        "\nbound 2\n",
     ),
     (
         "A,,,100.000,,fixed\nH,,,101.000,,fixed\n",
         "l1,level,A,H,,1.00,,5\n",
-        "plan\ncost 0\nbound 0\n",
+        "plan\ncost 0\nlog,",
+        "\nbound 0\n",
     ),
     (
         "A,0.000,0.000,100.000,fixed,fixed\nB,0.000,50.000,,fixed,\nH,,,101.000,,1.0\n",
         "l1,level,A,H,,1.00,,5\nd1,distance,A,B,,1.00,,5\n",
-        "plan\ncost 5\ntake,l1\nbound 5\n",
+        "plan\ncost 5\ntake,l1\nheight,H,1.0,1.0\nredundancy,l1,1,0.000,0.000\nlog,",
+        "\nbound 5\n",
     ),
 ];
 
 #[test]
 fn candidates_are_accepted(rt: HostRuntime) -> Result<(), Fail> {
     let alloc = rt.alloc();
-    for (points, candidates, printed) in &ACCEPTED {
+    for (points, candidates, printed, bound) in &ACCEPTED {
         let mut shelf = shelf_with(alloc, points, candidates)?;
-        expect(&rt, alloc, &mut shelf, PLAN, (0, printed));
+        expect_report(&rt, alloc, &mut shelf, PLAN, (0, printed, bound));
     }
     Ok(())
 }

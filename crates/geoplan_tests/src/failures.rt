@@ -80,7 +80,7 @@ const PLANS: [Failure; 9] = [
         words: PLAN,
         failing: Failing::Sink(1),
         status: 6,
-        printed: "no plan\nb",
+        printed: "no plan\nlog,2,0,",
         log: REDUNDANCY_LOG,
     },
     Failure {
@@ -107,7 +107,7 @@ const PLANS: [Failure; 9] = [
         words: "geoplan plan p.csv c.csv 0 l.log",
         failing: Failing::Sink(1),
         status: 6,
-        printed: "plan\ncost 5\nta",
+        printed: "plan\ncost 5\ntake,l1\nheight,H,1.0,1.0\nredund",
         log: b"geoplan-log 1\ns 0\nc\np 0\n",
     },
 ];

@@ -1,7 +1,7 @@
 //! Files that aren't there or are too long, and spreadsheet exports.
 use crate::fixtures::{
-    CANDIDATE_HEADER, CHECK, HEIGHTS, OLD_LOG, ONE_LEVEL, PLAN, POINT_HEADER, ROWS, expect,
-    expect_reading, shelf_of, table_of,
+    CANDIDATE_HEADER, CHECK, HEIGHTS, OLD_LOG, ONE_LEVEL, ONE_LEVEL_REPORT, PLAN, POINT_HEADER,
+    ROWS, expect_reading, expect_report, shelf_of, table_of,
 };
 use std::alloc::Global;
 use std::test::Fail;
@@ -18,8 +18,8 @@ fn exports_are_read(rt: HostRuntime) -> Result<(), Fail> {
     let alloc = rt.alloc();
     let tables = (EXPORTED_POINTS, EXPORTED_CANDIDATES);
     let mut shelf = shelf_of(alloc, tables, OLD_LOG)?;
-    let plan = (0, "plan\ncost 5\ntake,l1\nbound 5\n");
-    expect(&rt, alloc, &mut shelf, PLAN, plan);
+    let plan = (0, ONE_LEVEL_REPORT, "\nbound 5\n");
+    expect_report(&rt, alloc, &mut shelf, PLAN, plan);
     Ok(())
 }
 
@@ -39,8 +39,8 @@ fn tables_have_at_most_1048576_bytes(rt: HostRuntime) -> Result<(), Fail> {
     let most = lengthened(alloc, POINT_HEADER, HEIGHTS, 1048576)?;
     let tables = (most.as_slice(), candidates.as_slice());
     let mut shelf = shelf_of(alloc, tables, OLD_LOG)?;
-    let plan = (0, "plan\ncost 5\ntake,l1\nbound 5\n");
-    expect(&rt, alloc, &mut shelf, PLAN, plan);
+    let plan = (0, ONE_LEVEL_REPORT, "\nbound 5\n");
+    expect_report(&rt, alloc, &mut shelf, PLAN, plan);
     Ok(())
 }
 

@@ -23,6 +23,10 @@ pub const ONE_LEVEL: &str = "l1,level,A,H,,1.00,,5\n";
 
 pub const TWO_LEVELS: &str = "l1,level,A,H,,1.00,,5\nl2,level,A,H,,1.00,,7\n";
 
+/// The report of `HEIGHTS` and `ONE_LEVEL` before the counts of the lines of its log.
+pub const ONE_LEVEL_REPORT: &str =
+    "plan\ncost 5\ntake,l1\nheight,H,1.0,1.0\nredundancy,l1,1,0.000,0.000\nlog,";
+
 /// What stands under a log's name before a run.
 pub const OLD_LOG: &[u8] = b"old";
 
@@ -100,6 +104,22 @@ pub fn expect(
     let mut out = MemSink::new(alloc, Vec::new(alloc));
     let answer = run(rt, alloc, shelf, line, &mut out);
     assert_eq!(rt; out.bytes(), printed.as_bytes(), "{line}");
+    assert_eq!(rt; answer, status, "{printed}");
+}
+
+/// Runs a command line, and asserts its status and the report that it prints: what stands before the
+/// counts of the lines of its log, and behind them.
+pub fn expect_report(
+    rt: &impl Abort,
+    alloc: Global,
+    shelf: &mut MemShelf,
+    line: &str,
+    (status, printed, bound): (u8, &str, &str),
+) {
+    let mut out = MemSink::new(alloc, Vec::new(alloc));
+    let answer = run(rt, alloc, shelf, line, &mut out);
+    assert!(rt; out.bytes().starts_with(printed.as_bytes()), "{line}");
+    assert!(rt; out.bytes().ends_with(bound.as_bytes()), "{printed}");
     assert_eq!(rt; answer, status, "{printed}");
 }
 

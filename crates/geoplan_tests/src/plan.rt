@@ -1,14 +1,15 @@
 //! What `plan` answers, and that `check` accepts the logs that it leaves.
 use crate::fixtures::{
-    CLOSER_HEIGHTS, HEIGHTS, ONE_LEVEL, PLAN, SPACE_POINTS, TWO_LEVELS, expect, expect_accepted,
-    run, shelf_with,
+    CLOSER_HEIGHTS, HEIGHTS, ONE_LEVEL, PLAN, SPACE_POINTS, TWO_LEVELS, expect_accepted,
+    expect_report, run, shelf_with,
 };
 use shelf_io::MemSink;
 use std::alloc::Global;
 use std::process::Abort;
 use std::test::Fail;
 
-/// Records of two tables and a redundancy; the status of `plan`, what it prints, and its last line.
+/// Records of two tables and a redundancy; the status of `plan`, what it prints before the counts of
+/// its log's lines, and what it prints behind them.
 struct Planning {
     points: &'static str,
     candidates: &'static str,
@@ -26,7 +27,7 @@ const LEVELS: [Planning; 8] = [
         candidates: ONE_LEVEL,
         redundancy: "0",
         status: 0,
-        printed: "plan\ncost 5\ntake,l1\nbound 5\n",
+        printed: "plan\ncost 5\ntake,l1\nheight,H,1.0,1.0\nredundancy,l1,1,0.000,0.000\nlog,",
         bound: "\nbound 5\n",
     },
     Planning {
@@ -34,7 +35,7 @@ const LEVELS: [Planning; 8] = [
         candidates: ONE_LEVEL,
         redundancy: "0",
         status: 1,
-        printed: "no plan\nbound none\n",
+        printed: "no plan\nlog,",
         bound: "\nbound none\n",
     },
     Planning {
@@ -42,7 +43,7 @@ const LEVELS: [Planning; 8] = [
         candidates: TWO_LEVELS,
         redundancy: "0",
         status: 0,
-        printed: "plan\ncost 12\ntake,l1\ntake,l2\nbound 12\n",
+        printed: "plan\ncost 12\ntake,l1\ntake,l2\nheight,H,0.8,0.9\nredundancy,l1,1,0.500,0.000\nredundancy,l2,1,0.500,0.000\nlog,",
         bound: "\nbound 12\n",
     },
     Planning {
@@ -50,7 +51,7 @@ const LEVELS: [Planning; 8] = [
         candidates: TWO_LEVELS,
         redundancy: "500",
         status: 0,
-        printed: "plan\ncost 12\ntake,l1\ntake,l2\nbound 12\n",
+        printed: "plan\ncost 12\ntake,l1\ntake,l2\nheight,H,0.8,1.0\nredundancy,l1,1,0.500,0.500\nredundancy,l2,1,0.500,0.500\nlog,",
         bound: "\nbound 12\n",
     },
     Planning {
@@ -58,7 +59,7 @@ const LEVELS: [Planning; 8] = [
         candidates: TWO_LEVELS,
         redundancy: "501",
         status: 1,
-        printed: "no plan\nbound none\n",
+        printed: "no plan\nlog,",
         bound: "\nbound none\n",
     },
     Planning {
@@ -66,7 +67,7 @@ const LEVELS: [Planning; 8] = [
         candidates: THREE_LEVELS,
         redundancy: "400",
         status: 0,
-        printed: "plan\ncost 12\ntake,l1\ntake,l2\nbound 12\n",
+        printed: "plan\ncost 12\ntake,l1\ntake,l2\nheight,H,0.8,1.0\nredundancy,l1,1,0.500,0.400\nredundancy,l2,1,0.500,0.400\nlog,",
         bound: "\nbound 12\n",
     },
     Planning {
@@ -74,7 +75,7 @@ const LEVELS: [Planning; 8] = [
         candidates: "",
         redundancy: "0",
         status: 1,
-        printed: "no plan\nbound none\n",
+        printed: "no plan\nlog,",
         bound: "\nbound none\n",
     },
     Planning {
@@ -82,7 +83,7 @@ const LEVELS: [Planning; 8] = [
         candidates: "",
         redundancy: "0",
         status: 0,
-        printed: "plan\ncost 0\nbound 0\n",
+        printed: "plan\ncost 0\nlog,",
         bound: "\nbound 0\n",
     },
 ];
@@ -96,7 +97,7 @@ const NETWORKS: [Planning; 5] = [
         candidates: "d1,distance,A,P,,1.00,,5\nd2,distance,B,P,,1.00,,6\n",
         redundancy: "0",
         status: 0,
-        printed: "plan\ncost 11\ntake,d1\ntake,d2\nbound 11\n",
+        printed: "plan\ncost 11\ntake,d1\ntake,d2\naxis,P,1.0,1.0\nredundancy,d1,1,0.000,0.000\nredundancy,d2,1,0.000,0.000\nlog,",
         bound: "\nbound 11\n",
     },
     Planning {
@@ -104,7 +105,7 @@ const NETWORKS: [Planning; 5] = [
         candidates: LINE,
         redundancy: "0",
         status: 4,
-        printed: "undecided\ncost 20\ntake,l1\ntake,l2\ntake,l3\ntake,l4\nopen,height,H4,4,-1,1\nbound 20\n",
+        printed: "undecided\ncost 20\ntake,l1\ntake,l2\ntake,l3\ntake,l4\nopen,height,H4,4,-1,1\nlog,",
         bound: "\nbound 20\n",
     },
     Planning {
@@ -112,7 +113,7 @@ const NETWORKS: [Planning; 5] = [
         candidates: LINE,
         redundancy: "0",
         status: 0,
-        printed: "plan\ncost 20\ntake,l1\ntake,l2\ntake,l3\ntake,l4\nbound 20\n",
+        printed: "plan\ncost 20\ntake,l1\ntake,l2\ntake,l3\ntake,l4\nheight,H1,0.5,5.0\nheight,H2,0.8,5.0\nheight,H3,0.9,5.0\nheight,H4,1.1,1.1\nredundancy,l1,1,0.000,0.000\nredundancy,l2,1,0.000,0.000\nredundancy,l3,1,0.000,0.000\nredundancy,l4,1,0.000,0.000\nlog,",
         bound: "\nbound 20\n",
     },
     Planning {
@@ -120,7 +121,7 @@ const NETWORKS: [Planning; 5] = [
         candidates: "AP,level,A,P,,1.00,,40\nAQ,level,A,Q,,1.00,,50\nBP,level,B,P,,1.00,,45\nBQ,level,B,Q,,1.00,,35\nPQ,level,P,Q,,1.00,,30\n",
         redundancy: "300",
         status: 0,
-        printed: "plan\ncost 105\ntake,AP\ntake,BQ\ntake,PQ\nbound 105\n",
+        printed: "plan\ncost 105\ntake,AP\ntake,BQ\ntake,PQ\nheight,P,0.9,1.0\nheight,Q,0.9,1.0\nredundancy,AP,1,0.333,0.300\nredundancy,BQ,1,0.333,0.300\nredundancy,PQ,1,0.333,0.300\nlog,",
         bound: "\nbound 105\n",
     },
     Planning {
@@ -128,7 +129,7 @@ const NETWORKS: [Planning; 5] = [
         candidates: "g1,vector,F1,P,,5.00,8.00,100\ng2,vector,F2,P,,5.00,8.00,120\ng3,vector,F3,P,,5.00,8.00,150\n",
         redundancy: "200",
         status: 0,
-        printed: "plan\ncost 220\ntake,g1\ntake,g2\nbound 220\n",
+        printed: "plan\ncost 220\ntake,g1\ntake,g2\naxis,P,3.6,4.0\nheight,P,5.7,7.0\nredundancy,g1,1,0.500,0.200\nredundancy,g1,2,0.500,0.200\nredundancy,g1,3,0.500,0.200\nredundancy,g2,1,0.500,0.200\nredundancy,g2,2,0.500,0.200\nredundancy,g2,3,0.500,0.200\nlog,",
         bound: "\nbound 220\n",
     },
 ];
@@ -138,8 +139,8 @@ fn expect_plan(rt: &impl Abort, alloc: Global, planning: &Planning) -> Result<()
     let mut shelf = shelf_with(alloc, planning.points, planning.candidates)?;
     let redundancy = planning.redundancy;
     let plan = format!(in alloc; "geoplan plan p.csv c.csv {redundancy} l.log")?;
-    let answer = (planning.status, planning.printed);
-    expect(rt, alloc, &mut shelf, plan.as_str(), answer);
+    let answer = (planning.status, planning.printed, planning.bound);
+    expect_report(rt, alloc, &mut shelf, plan.as_str(), answer);
     let check = format!(in alloc; "geoplan check p.csv c.csv {redundancy} l.log")?;
     expect_accepted(rt, alloc, &mut shelf, check.as_str(), planning.bound);
     Ok(())

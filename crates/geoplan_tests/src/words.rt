@@ -1,5 +1,5 @@
 //! Command lines that are accepted and refused.
-use crate::fixtures::{HEIGHTS, ONE_LEVEL, expect, expect_reading, shelf_with};
+use crate::fixtures::{HEIGHTS, ONE_LEVEL, expect_reading, expect_report, shelf_with};
 use geoplan::{Words, geoplan};
 use shelf_io::MemSink;
 use std::test::Fail;
@@ -49,8 +49,8 @@ fn no_words_are_refused(rt: HostRuntime) -> Result<(), Fail> {
 fn a_redundancy_has_up_to_three_digits(rt: HostRuntime) -> Result<(), Fail> {
     let alloc = rt.alloc();
     let mut shelf = shelf_with(alloc, HEIGHTS, ONE_LEVEL)?;
-    let none = (1, "no plan\nbound none\n");
+    let none = (1, "no plan\nlog,", "\nbound none\n");
     let plan = "geoplan plan p.csv c.csv 007 l.log";
-    expect(&rt, alloc, &mut shelf, plan, none);
+    expect_report(&rt, alloc, &mut shelf, plan, none);
     Ok(())
 }

@@ -1,10 +1,11 @@
 //! The texts of a network's unknowns and rows, of the answer of a search, and of a log that is
 //! accepted.
 //!
-//! Proved: each text is that of its definition.
+//! Proved: each text is that of its definition; a report shows of each axis and height of a new point
+//! the value that a halving over the verdicts of the plan leaves, and of each row of a chosen
+//! candidate its redundancy likewise.
 //!
-//! Said by: `rows_text`, `found_report`, `no_plan_report`, `undecided_report`, `open_line`,
-//! `checked_report`.
+//! Said by: `rows_text`, `report`, `checked_report`.
 //!
 //! Caller: `answer_rows` of `geoplan/src/rows.rt`.
 #![tactic(auto)]
