@@ -1,6 +1,7 @@
 pub mod BelowLemmas
 pub mod DualLemmas
 pub mod EnergyLemmas
+pub mod ForceLemmas
 pub mod IntSums
 pub mod PlanLemmas
 pub mod PriceLemmas

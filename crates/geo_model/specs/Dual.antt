@@ -26,13 +26,20 @@ reduced_price prices d shares i = pos (d * get_or prices.candidates i 0) -ℤ po
 abbrev pub is_open : Node → ℕ → Bool
 is_open node i = chooses node.upper i && not (chooses node.inside i)
 
--- the sum of the reduced prices of the inner plan
-abbrev pub inner_sum : (ℕ → ℤ) → Node → ℤ
-inner_sum reduced node = int_sum_below (λ i. if chooses node.inside i then reduced i else pos 0) (length node.upper)
+-- what a candidate gives: its reduced price where the inner plan has it
+abbrev pub inner_part : (ℕ → ℤ) → Node → ℕ → ℤ
+inner_part reduced node i = if chooses node.inside i then reduced i else pos 0
 
--- the least sum of reduced prices of open candidates that pass a test: of those that are negative
+-- what an open candidate that passes a test gives at least: its reduced price where that is negative
+abbrev pub open_part : (ℕ → ℤ) → Node → (ℕ → Bool) → ℕ → ℤ
+open_part reduced node test i = if is_open node i && test i then int_min (pos 0) (reduced i) else pos 0
+
+-- their sums
+abbrev pub inner_sum : (ℕ → ℤ) → Node → ℤ
+inner_sum reduced node = int_sum_below (inner_part reduced node) (length node.upper)
+
 abbrev pub open_sum : (ℕ → ℤ) → Node → (ℕ → Bool) → ℤ
-open_sum reduced node test = int_sum_below (λ i. if is_open node i && test i then int_min (pos 0) (reduced i) else pos 0) (length node.upper)
+open_sum reduced node test = int_sum_below (open_part reduced node test) (length node.upper)
 
 -- a candidate has no station
 abbrev pub has_none : Option ℕ → Bool

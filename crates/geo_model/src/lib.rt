@@ -35,6 +35,6 @@ pub use laws::{
 pub use limit::{Limit, LimitKind, Square};
 pub use network::{Component, Network, Unknown};
 pub use plan::{Node, Plan};
-pub use price::cost;
+pub use price::{cost, uses_station};
 pub use row::Row;
 pub use verdict::Verdict;

@@ -16,8 +16,9 @@ fn has_station(network: &Network, candidate: u32, station: u32) -> bool
     }
 }
 
-// Whether a plan uses a station: whether it chooses a candidate that has it.
-fn uses_station(network: &Network, plan: &Plan, station: u32) -> bool
+/// Whether a plan uses a station, by its number from 0: whether it chooses a candidate that has it. The
+/// plan has an entry for each candidate of the network.
+pub fn uses_station(network: &Network, plan: &Plan, station: u32) -> bool
     requires { length plan.now ≡ length network.now.candidates }
     ensures { result ≡ uses_station network.now.stations plan.now station }
 {

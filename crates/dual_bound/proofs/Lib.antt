@@ -1,0 +1,4 @@
+pub mod Bounds
+pub mod PriceAt
+pub mod ShareLemmas
+pub mod SizeLemmas

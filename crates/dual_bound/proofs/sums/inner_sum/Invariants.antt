@@ -1,0 +1,12 @@
+use Rattle.std.proofs.Common.{◌≡◌, ◌*◌, ◌^◌, ◌≤◌}
+use Rattle.std.specs.Prelude.{unsigned_abs}
+use Rattle.geo_model.specs.Below.{int_sum_below}
+use Rattle.geo_model.specs.Dual.{inner_part}
+use Rattle.dual_bound.specs.Bound.{reduced_by}
+use Rattle.dual_bound.proofs.sums.inner_sum.Given as goal
+
+abbrev pub invariant-loop-i : goal.invariant-loop-i
+invariant-loop-i l = record {
+  value : l.sum ≡ int_sum_below (inner_part (reduced_by l.network l.weights.d l.weights.pool.now l.weights.shares.now) l.node) l.i;
+  size : unsigned_abs l.sum ≤ l.i * 2 ^ 75;
+}
