@@ -9,7 +9,7 @@
 //! Said by: `read_line`, `a_text_is_one_line`, `numbers_are_numerals`, `written_lines_are_read`;
 //! `a_text_has_one_tree`, `a_text_is_spelled`, `a_text_has_one_bound`; `checker_is_sound`.
 //!
-//! Caller: `take_at_node` of `log_check/src/replaying.rt`.
+//! Caller: `take_at_node` of `log_check/src/taking.rt`.
 #![tactic(auto)]
 
 mod bound;

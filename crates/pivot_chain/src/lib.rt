@@ -9,7 +9,7 @@
 //! Said by: `verdict`, clauses `exact`, `met`, `larger`, `refuted`, `interval`; `verdict_at`;
 //! `redundancy_at`; `certified_plans_meet_limits`, `refuted_plans_fail`.
 //!
-//! Caller: `is_met` of `branch_bound/src/limit_verdicts.rt`.
+//! Caller: `refutes` of `branch_bound/src/limit_verdicts.rt`.
 #![tactic(auto)]
 
 mod chain;
