@@ -1,5 +1,5 @@
 -- A session: a plan that changes, one candidate at a time, and goes back. This project's own.
-use Rattle.std.specs.Prelude.{ℕ, ◌+◌, ◌-◌, nat_lt, Bool, true, false, if◌then◌else◌, List, [], ◌∷◌, ◌++◌, length, take, get_or, slice_set, replicate, Option, Some, None}
+use Rattle.std.specs.Prelude.{◌≡◌, ℕ, ◌+◌, ◌-◌, nat_lt, Bool, true, false, if◌then◌else◌, List, [], ◌∷◌, ◌++◌, length, take, get_or, slice_set, replicate, Option, Some, None}
 use Rattle.std.specs.Bool.{beq}
 use Rattle.trial.specs.declared.command.Command.{Command}
 use Rattle.trial.specs.declared.command.Command.TheVariants.{Change, Undo, Show, Unknown}
@@ -77,3 +77,10 @@ is_done _ = false
 
 abbrev pub after : SessionOf → Command → SessionOf
 after session command = if is_done (answer_to session command) then after_done session command else session
+
+-- ---- a law of them
+-- an undo takes a change back
+abbrev pub UndoTakesChangesBack : Type 0
+UndoTakesChangesBack =
+    (session : SessionOf) (candidate : Option ℕ) (chosen : Bool) → answer_to session (Change candidate chosen) ≡ answer.Done →
+    after (after session (Change candidate chosen)) Undo ≡ session
