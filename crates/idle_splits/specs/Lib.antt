@@ -1,3 +1,4 @@
+pub mod Fillings
 pub mod Idle
 pub mod NoIdle
 pub mod UnitCuts

@@ -10,7 +10,10 @@
 #![tactic(auto)]
 
 mod dear;
+mod fill;
+mod filling;
 mod laws;
+mod offer;
 mod unit_cuts;
 mod unit_share;
 
