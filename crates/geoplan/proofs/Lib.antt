@@ -1,6 +1,7 @@
 pub mod CommandLemmas
 pub mod InputLemmas
 pub mod LoadLemmas
+pub mod PartLemmas
 pub mod SolveLemmas
 pub mod StandLemmas
 pub mod PrintLemmas

@@ -36,8 +36,9 @@ use Rattle.geoplan.specs.declared.status.Status.TheVariants as status
 use Rattle.geoplan.specs.declared.verb.Verb.{Verb}
 use Rattle.geoplan.specs.declared.verb.Verb.TheVariants as verb
 use Rattle.geoplan.specs.CommandOf.{SourcesOf, CommandOf}
-use Rattle.geoplan.specs.Ends.{Began}
-use Rattle.geoplan.specs.Loading.{refused_view, Loads, HasLoadFault, FailsLoad, IsGoodNetwork, Means}
+use Rattle.geoplan.specs.Ends.{AreBytes, Began}
+use Rattle.geoplan.specs.Loading.{refused_view, LoadsTables, Loads, HasLoadFault, FailsLoad, IsGoodNetwork, Means}
+use Rattle.geoplan.specs.Parts.{log_file, Checks}
 use Rattle.geoplan.specs.Outcomes.{LeavesLog, BeganLog, FailsToWrite, priced}
 use Rattle.geoplan.specs.Reporting.{Ends, status_of, Reports, Replays, Refused, HasNoText}
 use Rattle.geoplan.specs.Solving.{Solves, FailsSolve, RunsOutPlanning, Plans}
@@ -46,7 +47,7 @@ use Rattle.geoplan.specs.Tables.{TablesOf}
 use Rattle.plan_report.specs.Reported.{IsAnswerFor, IsNetworkFor, IsReport}
 use Rattle.plan_report.specs.ReportText.{no_plan_text}
 use Rattle.geoplan.specs.Texts.{cannot_read_text, tables_plan_text, tables_undecided_text, tables_rows_text}
-use Rattle.geoplan.proofs.LoadLemmas.{keeps}
+use Rattle.geoplan.proofs.LoadLemmas.{keeps, ReadsAll-none, ReadsAll-one, FailsLoad-after, Loads-all}
 
 -- ---- a search and its report
 
@@ -245,12 +246,12 @@ module _ (tables : TablesOf) (name : List ℕ) (before middle now : ShelfState) 
   Plans-before status.FileTooLong text never = absurd never
 
 -- memory ran out after the files were loaded
-out_loaded : (command : CommandOf) (tables : TablesOf) (log : List ℕ) (before now : ShelfState) → Loads command tables log before now → (ends : Status) (text : List ℕ) → HasNoText ends text → IsOutcomeOf command before now ends text
-out_loaded command tables log before now has ends text (is, none) =
+out_loaded : (command : CommandOf) (tables : TablesOf) (before now : ShelfState) → Loads command tables before now → (ends : Status) (text : List ℕ) → HasNoText ends text → IsOutcomeOf command before now ends text
+out_loaded command tables before now has ends text (is, none) =
     subst (λ s. IsOutcomeOf command before now s text) (sym is) (record { held = inl has.held; later = omega (arith, has.quiet.same_count); printed = none })
 
 -- `plan`
-module _ (sources : SourcesOf) (tables : TablesOf) (log : List ℕ) (before middle now : ShelfState) (has : Loads (record { verb = verb.Plan; sources = sources }) tables log before middle) where
+module _ (sources : SourcesOf) (tables : TablesOf) (before middle now : ShelfState) (has : Loads (record { verb = verb.Plan; sources = sources }) tables before middle) where
   planned : (ends : Status) (text : List ℕ) → Plans tables sources.log before now ends text → IsOutcomeOf (record { verb = verb.Plan; sources = sources }) before now ends text
   planned status.Found text found = (tables, has.input, found)
   planned status.NoPlan text found = (tables, has.input, found)
@@ -271,20 +272,20 @@ module _ (sources : SourcesOf) (tables : TablesOf) (log : List ℕ) (before midd
   IsOutcomeOf-planned ends text plans = planned ends text (Plans-before tables sources.log before middle now has.held has.quiet ends text plans)
 
 -- `rows`
-pub IsOutcomeOf-listed : (sources : SourcesOf) (tables : TablesOf) (log : List ℕ) (before now : ShelfState) → Loads (record { verb = verb.Rows; sources = sources }) tables log before now → (ends : Status) (text : List ℕ) → Ends status.Found (tables_rows_text tables) ends text → IsOutcomeOf (record { verb = verb.Rows; sources = sources }) before now ends text
-IsOutcomeOf-listed sources tables log before now has ends text (inl (is, said)) =
+pub IsOutcomeOf-listed : (sources : SourcesOf) (tables : TablesOf) (before now : ShelfState) → Loads (record { verb = verb.Rows; sources = sources }) tables before now → (ends : Status) (text : List ℕ) → Ends status.Found (tables_rows_text tables) ends text → IsOutcomeOf (record { verb = verb.Rows; sources = sources }) before now ends text
+IsOutcomeOf-listed sources tables before now has ends text (inl (is, said)) =
     subst (λ s. IsOutcomeOf (record { verb = verb.Rows; sources = sources }) before now s text) (sym is) (tables, has.input, record { held = has.held; quiet = has.quiet; printed = said })
-IsOutcomeOf-listed sources tables log before now has ends text (inr out) = out_loaded (record { verb = verb.Rows; sources = sources }) tables log before now has ends text out
+IsOutcomeOf-listed sources tables before now has ends text (inr out) = out_loaded (record { verb = verb.Rows; sources = sources }) tables before now has ends text out
 
 -- `check`
-module _ (sources : SourcesOf) (tables : TablesOf) (log : List ℕ) (before now : ShelfState) (has : Loads (record { verb = verb.Check; sources = sources }) tables log before now) (ends : Status) (text : List ℕ) where
+module _ (sources : SourcesOf) (tables : TablesOf) (log : List ℕ) (before now : ShelfState) (has : Loads (record { verb = verb.Check; sources = sources }) tables before now) (are : AreBytes sources.log before.held log) (ends : Status) (text : List ℕ) where
   pub IsOutcomeOf-replayed : Replays tables.network log ends text → IsOutcomeOf (record { verb = verb.Check; sources = sources }) before now ends text
   IsOutcomeOf-replayed (inl (done, is, inl (e, said))) = subst (λ s. IsOutcomeOf (record { verb = verb.Check; sources = sources }) before now s text) (sym e) (
     tables,
     has.input,
     (
       log,
-      has.read refl,
+      are,
       record {
         done = done;
         network = has.good.bounds;
@@ -296,37 +297,16 @@ module _ (sources : SourcesOf) (tables : TablesOf) (log : List ℕ) (before now 
       },
     ),
   )
-  IsOutcomeOf-replayed (inl (done, is, inr out)) = out_loaded (record { verb = verb.Check; sources = sources }) tables log before now has ends text out
+  IsOutcomeOf-replayed (inl (done, is, inr out)) = out_loaded (record { verb = verb.Check; sources = sources }) tables before now has ends text out
   IsOutcomeOf-replayed (inr (inl (fault, is, inl (e, said)))) = subst (λ s. IsOutcomeOf (record { verb = verb.Check; sources = sources }) before now s text) (sym e) (
     tables,
     has.input,
-    (log, has.read refl, record { fault = fault; network = has.good.bounds; first = is; held = has.held; quiet = has.quiet; printed = said }),
+    (log, are, record { fault = fault; network = has.good.bounds; first = is; held = has.held; quiet = has.quiet; printed = said }),
   )
-  IsOutcomeOf-replayed (inr (inl (fault, is, inr out))) = out_loaded (record { verb = verb.Check; sources = sources }) tables log before now has ends text out
-  IsOutcomeOf-replayed (inr (inr out)) = out_loaded (record { verb = verb.Check; sources = sources }) tables log before now has ends text out
+  IsOutcomeOf-replayed (inr (inl (fault, is, inr out))) = out_loaded (record { verb = verb.Check; sources = sources }) tables before now has ends text out
+  IsOutcomeOf-replayed (inr (inr out)) = out_loaded (record { verb = verb.Check; sources = sources }) tables before now has ends text out
 
 -- .. of the command that it is known to be
-pub IsOutcomeOf-plan : (which : Verb) (sources : SourcesOf) (tables : TablesOf) (log : List ℕ) (before middle now : ShelfState) (ends : Status) (text : List ℕ) → which ≡ verb.Plan →
-    Loads (record { verb = which; sources = sources }) tables log before middle → Plans tables sources.log middle now ends text → IsOutcomeOf (record { verb = which; sources = sources }) before now ends text
-IsOutcomeOf-plan which sources tables log before middle now ends text is has plans =
-    let known : Loads (record { verb = verb.Plan; sources = sources }) tables log before middle =
-    subst (λ v. Loads (record { verb = v; sources = sources }) tables log before middle) is has in
-    subst (λ v. IsOutcomeOf (record { verb = v; sources = sources }) before now ends text) (sym is) (IsOutcomeOf-planned sources tables log before middle now known ends text plans)
-
-pub IsOutcomeOf-rows : (which : Verb) (sources : SourcesOf) (tables : TablesOf) (log : List ℕ) (before now : ShelfState) (ends : Status) (text : List ℕ) → which ≡ verb.Rows →
-    Loads (record { verb = which; sources = sources }) tables log before now → Ends status.Found (tables_rows_text tables) ends text → IsOutcomeOf (record { verb = which; sources = sources }) before now ends text
-IsOutcomeOf-rows which sources tables log before now ends text is has listed =
-    let known : Loads (record { verb = verb.Rows; sources = sources }) tables log before now =
-    subst (λ v. Loads (record { verb = v; sources = sources }) tables log before now) is has in
-    subst (λ v. IsOutcomeOf (record { verb = v; sources = sources }) before now ends text) (sym is) (IsOutcomeOf-listed sources tables log before now known ends text listed)
-
-pub IsOutcomeOf-check : (which : Verb) (sources : SourcesOf) (tables : TablesOf) (log : List ℕ) (before now : ShelfState) (ends : Status) (text : List ℕ) → which ≡ verb.Check →
-    Loads (record { verb = which; sources = sources }) tables log before now → Replays tables.network log ends text → IsOutcomeOf (record { verb = which; sources = sources }) before now ends text
-IsOutcomeOf-check which sources tables log before now ends text is has replayed =
-    let known : Loads (record { verb = verb.Check; sources = sources }) tables log before now =
-    subst (λ v. Loads (record { verb = v; sources = sources }) tables log before now) is has in
-    subst (λ v. IsOutcomeOf (record { verb = v; sources = sources }) before now ends text) (sym is) (IsOutcomeOf-replayed sources tables log before now known ends text replayed)
-
 -- ---- the files were not loaded
 
 module _ (command : CommandOf) (before now : ShelfState) (held : now.held ≡ before.held) (later : before.faults ≤ now.faults) (ends : Status) (text : List ℕ) where
@@ -358,3 +338,37 @@ module _ (command : CommandOf) (before now : ShelfState) (held : now.held ≡ be
 
 pub IsOutcomeOf-refused : (command : CommandOf) (why : LoadFault) (before now : ShelfState) (ends : Status) (text : List ℕ) → FailsLoad command why before now → Refused why ends text → IsOutcomeOf command before now ends text
 IsOutcomeOf-refused command why before now ends text fails said = refused_for command before now fails.held fails.later ends text why fails.cause said
+
+-- the log was read and replayed, or was not read
+IsOutcomeOf-checked : (sources : SourcesOf) (tables : TablesOf) (before middle now : ShelfState) → LoadsTables (record { verb = verb.Check; sources = sources }) tables before middle → (ends : Status) (text : List ℕ) → Checks tables.network sources.log middle now ends text → IsOutcomeOf (record { verb = verb.Check; sources = sources }) before now ends text
+IsOutcomeOf-checked sources tables before middle now has ends text (inl (log, read, replayed)) =
+    let all = Loads-all (record { verb = verb.Check; sources = sources }) tables before middle now has (ReadsAll-one [] (log_file sources.log) log middle middle now (ReadsAll-none middle) read) in
+    IsOutcomeOf-replayed sources tables log before now all (λ files told. sym (read.has.1 files (has.read.held ∙ told))) ends text replayed
+IsOutcomeOf-checked sources tables before middle now has ends text (inr (why, fails, said)) =
+    IsOutcomeOf-refused (record { verb = verb.Check; sources = sources }) why before now ends text
+    (FailsLoad-after (record { verb = verb.Check; sources = sources }) before middle now has.read why (record { file = log_file sources.log; one = refl; fails = fails })) said
+
+-- .. of the command that it is known to be
+
+pub IsOutcomeOf-plan : (which : Verb) (sources : SourcesOf) (tables : TablesOf) (before middle now : ShelfState) (ends : Status) (text : List ℕ) → which ≡ verb.Plan →
+    LoadsTables (record { verb = which; sources = sources }) tables before middle → Plans tables sources.log middle now ends text → IsOutcomeOf (record { verb = which; sources = sources }) before now ends text
+IsOutcomeOf-plan which sources tables before middle now ends text is has plans =
+    let known : LoadsTables (record { verb = verb.Plan; sources = sources }) tables before middle =
+    subst (λ v. LoadsTables (record { verb = v; sources = sources }) tables before middle) is has in
+    let all = Loads-all (record { verb = verb.Plan; sources = sources }) tables before middle middle known (ReadsAll-none middle) in
+    subst (λ v. IsOutcomeOf (record { verb = v; sources = sources }) before now ends text) (sym is) (IsOutcomeOf-planned sources tables before middle now all ends text plans)
+
+pub IsOutcomeOf-rows : (which : Verb) (sources : SourcesOf) (tables : TablesOf) (before now : ShelfState) (ends : Status) (text : List ℕ) → which ≡ verb.Rows →
+    LoadsTables (record { verb = which; sources = sources }) tables before now → Ends status.Found (tables_rows_text tables) ends text → IsOutcomeOf (record { verb = which; sources = sources }) before now ends text
+IsOutcomeOf-rows which sources tables before now ends text is has listed =
+    let known : LoadsTables (record { verb = verb.Rows; sources = sources }) tables before now =
+    subst (λ v. LoadsTables (record { verb = v; sources = sources }) tables before now) is has in
+    let all = Loads-all (record { verb = verb.Rows; sources = sources }) tables before now now known (ReadsAll-none now) in
+    subst (λ v. IsOutcomeOf (record { verb = v; sources = sources }) before now ends text) (sym is) (IsOutcomeOf-listed sources tables before now all ends text listed)
+
+pub IsOutcomeOf-check : (which : Verb) (sources : SourcesOf) (tables : TablesOf) (before middle now : ShelfState) (ends : Status) (text : List ℕ) → which ≡ verb.Check →
+    LoadsTables (record { verb = which; sources = sources }) tables before middle → Checks tables.network sources.log middle now ends text → IsOutcomeOf (record { verb = which; sources = sources }) before now ends text
+IsOutcomeOf-check which sources tables before middle now ends text is has checked =
+    let known : LoadsTables (record { verb = verb.Check; sources = sources }) tables before middle =
+    subst (λ v. LoadsTables (record { verb = v; sources = sources }) tables before middle) is has in
+    subst (λ v. IsOutcomeOf (record { verb = v; sources = sources }) before now ends text) (sym is) (IsOutcomeOf-checked sources tables before middle now known ends text checked)

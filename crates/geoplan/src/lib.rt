@@ -10,6 +10,7 @@ mod command;
 mod file_kind;
 mod laws;
 mod load;
+mod log_parts;
 mod outcome;
 mod plan;
 mod refusal;
