@@ -1,20 +1,18 @@
 //! The test whether one unit cut shows that a node costs more than a bound. It takes no memory.
-ghost use Rattle.std.specs.Prelude.{◌≡◌, ◌↔◌, ◌<◌, ℕ, Some, true, length, slice_get, IsTrue, IfSome, IfNone};
-ghost use Rattle.geo_model.specs.Energy.{IsWithin};
+ghost use Rattle.std.specs.Prelude.{◌≡◌, ◌↔◌, ◌<◌, ℕ, length, IsTrue, IfSome, IfNone};
 ghost use Rattle.bound_log.specs.declared.bound.Bound.TheVariants.{AtLeast};
 ghost use Rattle.idle_splits.specs.Idle.{IsDearByUnit};
 ghost use Rattle.idle_splits.specs.UnitCuts.{KeepsUnitCuts, AreUnitCuts};
 ghost use Rattle.idle_splits.specs.UnitShares.{ShowsDear, IsShareOf, IsDearByKept};
 
-use crate::fill::{fill, is_held};
 use crate::unit_cuts::UnitCuts;
 use crate::unit_share::UnitShare;
 use cut_pool::Share;
 use dual_bound::leaf_bound;
-use geo_model::{Network, Node, Plan};
+use geo_model::{Network, Node};
 
 // The share of a kept cut, by its number, at the price of a candidate.
-fn share_of(network: &Network, cuts: &UnitCuts, k: u32, candidate: u32) -> UnitShare
+pub(crate) fn share_of(network: &Network, cuts: &UnitCuts, k: u32, candidate: u32) -> UnitShare
     requires cuts { KeepsUnitCuts network.now cuts.now }
     requires k { k < length cuts.now.pool }
     requires candidate { candidate < length network.now.candidates }
@@ -36,7 +34,7 @@ fn share_of(network: &Network, cuts: &UnitCuts, k: u32, candidate: u32) -> UnitS
 }
 
 // Whether the share of a kept cut, by its number, shows that a node costs more than a bound.
-fn is_dear(
+pub(crate) fn is_dear(
     network: &Network,
     node: &Node,
     cuts: &UnitCuts,
@@ -62,7 +60,7 @@ fn is_dear(
 
 // The share of a kept cut, by its number, at the price of the first candidate at which it shows that a
 // node costs more than a bound.
-fn first_dear_share(
+pub(crate) fn first_dear_share(
     network: &Network,
     node: &Node,
     cuts: &UnitCuts,
@@ -85,85 +83,24 @@ fn first_dear_share(
     None
 }
 
-// The share of a kept cut, by its number, at the price of a candidate, if any, where it shows that a
-// node costs more than a bound.
-fn dear_share_at(
-    network: &Network,
-    node: &Node,
-    cuts: &UnitCuts,
-    k: u32,
-    candidate: Option<u32>,
-    earlier: u128,
-) -> Option<UnitShare>
-    requires inside { length node.now.inside ≡ length network.now.candidates }
-    requires upper { length node.now.upper ≡ length network.now.candidates }
-    requires cuts { KeepsUnitCuts network.now cuts.now }
-    requires k { k < length cuts.now.pool }
-    requires candidate { IfSome candidate (λ candidate. slice_get node.now.upper candidate ≡ Some true) }
-    ensures { IfSome result (ShowsDear network.now node.now (AtLeast earlier)) }
-{
-    let share = share_of(network, cuts, k, candidate?);
-    if !is_dear(network, node, cuts, k, share, earlier) {
-        return None;
-    }
-    Some(share)
-}
-
-// The share of a kept cut, by its number, at the price of a candidate, where it shows that a node costs
-// more than a bound. As a function of the multiplier over the divisor the dual bound is concave, and
-// the candidate with which the cheapest ones for their weight reach the cut's bound is where it is
-// greatest. That candidate is asked alone, unless that doesn't decide it.
-fn dear_share_of(
-    network: &Network,
-    node: &Node,
-    cuts: &UnitCuts,
-    k: u32,
-    room: &mut Plan,
-    earlier: u128,
-) -> Option<UnitShare>
-    requires within { IsWithin node.now.inside node.now.upper }
-    requires inside { length node.now.inside ≡ length network.now.candidates }
-    requires upper { length node.now.upper ≡ length network.now.candidates }
-    requires room { length room.old ≡ length network.now.candidates }
-    requires cuts { KeepsUnitCuts network.now cuts.now }
-    requires k { k < length cuts.now.pool }
-    ensures found { IfSome result (ShowsDear network.now node.now (AtLeast earlier)) }
-    ensures none { IfNone result ((candidate : ℕ) → IsDearByKept network.now node.now (AtLeast earlier) cuts.now k candidate → ⊥) }
-    ensures room { length room.new ≡ length network.now.candidates }
-{
-    let last = fill(network, node, cuts, k, room);
-    let found = dear_share_at(network, node, cuts, k, last, earlier);
-    if found.is_some() {
-        return found;
-    }
-    if is_held(network, node, cuts, k, room, last, earlier) {
-        return None;
-    }
-    first_dear_share(network, node, cuts, k, earlier)
-}
-
 /// A share of one unit cut that shows that a node costs more than an earlier bound: its dual bound at
 /// the price of a candidate that the node may choose is greater. None only where no unit cut shows it
-/// at the price of any. Both plans of the node have an entry for each candidate, and so has `room`,
-/// whose content afterwards is open. It takes no memory.
+/// at the price of any. Both plans of the node have an entry for each candidate. It takes no memory,
+/// and asks each cut at the price of each candidate: `IdleTest` does the same in less time.
 pub fn dear_share(
     network: &Network,
     node: &Node,
     cuts: &UnitCuts,
-    room: &mut Plan,
     earlier: u128,
 ) -> Option<UnitShare>
-    requires within { IsWithin node.now.inside node.now.upper }
     requires inside { length node.now.inside ≡ length network.now.candidates }
     requires upper { length node.now.upper ≡ length network.now.candidates }
-    requires room { length room.old ≡ length network.now.candidates }
     requires cuts { AreUnitCuts network.now cuts.now }
     ensures found { IfSome result (ShowsDear network.now node.now (AtLeast earlier)) }
     ensures none { IfNone result ((number unknown candidate : ℕ) → IsDearByUnit network.now node.now (AtLeast earlier) number unknown candidate → ⊥) }
-    ensures room { length room.new ≡ length network.now.candidates }
 {
     for k in 0..cuts.pool.len() {
-        let found = dear_share_of(network, node, cuts, k, room, earlier);
+        let found = first_dear_share(network, node, cuts, k, earlier);
         if found.is_some() {
             return found;
         }

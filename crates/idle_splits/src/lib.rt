@@ -14,6 +14,7 @@ mod fill;
 mod filling;
 mod laws;
 mod offer;
+mod quick;
 mod unit_cuts;
 mod unit_share;
 

@@ -1,5 +1,5 @@
 use Rattle.idle_splits.proofs.ShareLemmas.{shows_dear}
-use Rattle.idle_splits.proofs.dear.dear_share_at.Goals as goal
+use Rattle.idle_splits.proofs.quick.dear_share_at.Goals as goal
 
 pub returns : goal.returns
 returns c =

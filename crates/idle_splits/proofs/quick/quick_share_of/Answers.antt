@@ -1,5 +1,5 @@
 use Rattle.idle_splits.proofs.Filled.{long_as}
-use Rattle.idle_splits.proofs.dear.dear_share_of.Goals as goal
+use Rattle.idle_splits.proofs.quick.quick_share_of.Goals as goal
 
 pub returns-then-is_some-clause-room : goal.returns-then-is_some-clause-room
 returns-then-is_some-clause-room c = long_as c.args.node.now c.fill-last.new.room _ c.fill-last.ensures.plan c.requires.upper
