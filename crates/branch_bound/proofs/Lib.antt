@@ -1,6 +1,7 @@
 pub mod PieceLemmas
 pub mod NodeLemmas
 pub mod VerdictLemmas
+pub mod BoundOrder
 pub mod DoneLemmas
 pub mod CutLemmas
 pub mod InheritedLemmas

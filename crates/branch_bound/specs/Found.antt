@@ -1,4 +1,4 @@
-use Rattle.std.specs.Prelude.{◌≡◌, ℕ, ◌<◌, ◌≤◌, ℤ, Bool, List}
+use Rattle.std.specs.Prelude.{◌≡◌, ℕ, ◌<◌, ◌≤◌, ◌⊎◌, ℤ, Bool, List}
 use Rattle.geo_model.specs.Energy.{IsWithin}
 use Rattle.geo_model.specs.Prices.{price_of}
 use Rattle.geo_model.specs.Network.{NetworkOf}
@@ -7,7 +7,6 @@ use Rattle.geo_model.specs.declared.answer.Answer.TheVariants as answer
 use Rattle.geo_model.specs.declared.plan.Node.{Node}
 use Rattle.bound_log.specs.declared.bound.Bound.{Bound}
 use Rattle.bound_log.specs.declared.bound.Bound.TheVariants.{NoPlan, AtLeast}
-use Rattle.bound_log.specs.Bound.{lesser}
 use Rattle.branch_bound.specs.declared.best.Best.{Best}
 use Rattle.branch_bound.specs.declared.best.Best.TheVariants as best
 use Rattle.branch_bound.specs.Searched.{IsCertified, IsUnsettled, IsFirstOpen}
@@ -37,13 +36,28 @@ abbrev pub IsBelow : ℕ → Bound → Type 0
 IsBelow price NoPlan = Unit {0}
 IsBelow price (AtLeast least) = price < least
 
--- The best plan is brought up to the plans of a node, for which a log proves this bound: its price is the bound, or that
--- of the best plan before where that is less; every certified plan of the node is covered, and so is each plan that was.
+-- a bound is no more than another one
+abbrev pub IsNoMore : Bound → Bound → Type 0
+IsNoMore lower NoPlan = Unit {0}
+IsNoMore NoPlan (AtLeast b) = ⊥
+IsNoMore (AtLeast a) (AtLeast b) = a ≤ b
+
+-- The best plan is brought up to the plans of a node, for which a log proves this bound: its price is no more than the
+-- bound, nor than that of the best plan before, and where it isn't the best plan before the bound is no more than its
+-- price; every certified plan of the node is covered, and so is each plan that was.
 pub record IsDone (network : NetworkOf) (node : Node) (bound : Bound) (before now : Best) : Type 0 where
-  pub price : best_bound network now ≡ lesser (best_bound network before) bound
+  pub price : IsNoMore (best_bound network now) bound
+  pub falls : IsNoMore (best_bound network now) (best_bound network before)
+  pub reached : (now ≡ before) ⊎ IsNoMore bound (best_bound network now)
   pub kept : IsKept network now
   pub covered : (other : List Bool) → IsCertified network other → IsWithin node.inside other → IsWithin other node.upper → IsCovered network now other
   pub still : (other : List Bool) → IsCovered network before other → IsCovered network now other
+
+-- a best plan to start with: none, or one that is certified
+abbrev pub IsStart : NetworkOf → Best → Type 0
+IsStart network best.NoPlan = Unit {0}
+IsStart network (best.Certified plan) = IsCertified network plan
+IsStart network (best.Unsettled plan) = ⊥
 
 -- an unsettled plan is answered with the first limit in force that is open
 pub record IsLeftOpen (network : NetworkOf) (plan : List Bool) (made : Answer) : Type 0 where
