@@ -4,7 +4,9 @@ pub mod CountLemmas
 pub mod CutLemmas
 pub mod CutSpellLemmas
 pub mod Decisions
+pub mod DualLemmas
 pub mod GrammarLemmas
+pub mod ItemLemmas
 pub mod MoveLemmas
 pub mod NumberLemmas
 pub mod OpenLemmas
