@@ -82,9 +82,10 @@ pair_kind = record { words = pair_words; numbers = pair_numbers; read = pair_in;
 
 pub cut_reads : (front : List (List ℕ)) (cut : CutTextOf) (rest : List (List ℕ)) → CutBegins front cut rest → (cut ≡ cut_in front) × (rest ≡ after_cut front)
 cut_reads front cut rest begins =
-    let head = head_reads pair_kind cut.limit cut.pairs rest begins.short in
-    (ap₂ (λ (l : ℕ) (ps : List (ℕ × ℤ)). let made : CutTextOf = record { limit = l; pairs = ps } in made) head.number_is head.items_are ∙ ap cut_in (sym begins.spelled),
-    head.after_is ∙ ap after_cut (sym begins.spelled))
+    let head = head_reads pair_kind cut.limit cut.pairs rest begins.short in (
+      ap₂ (λ (l : ℕ) (ps : List (ℕ × ℤ)). let made : CutTextOf = record { limit = l; pairs = ps } in made) head.number_is head.items_are ∙ ap cut_in (sym begins.spelled),
+      head.after_is ∙ ap after_cut (sym begins.spelled),
+    )
 
 -- cuts as items
 abbrev pub cut_kind : Kind CutTextOf

@@ -10,6 +10,7 @@ pub mod ItemLemmas
 pub mod MoveLemmas
 pub mod NumberLemmas
 pub mod OpenLemmas
+pub mod PoolLemmas
 pub mod SoundLemmas
 pub mod SpellLemmas
 pub mod TreeLemmas
