@@ -1,19 +1,15 @@
 -- The words of cuts: their bytes, and that each cut has its own.
-use Rattle.std.proofs.Common.{◌≡◌, ◌==◌, if◌then◌else◌, ℕ, zero, suc, ◌+◌, ◌-◌, ◌<◌, ◌≤◌, ◌^◌, Bool, true, false, List, [], ◌∷◌, ◌++◌, get_or, length, length-append, Option, Some, None, IfSome, IfNone, MatchOption, append_assoc, All, arith, refl, ap, ap₂, sym, ◌∙◌, subst}
+use Rattle.std.proofs.Common.{◌≡◌, ◌==◌, if◌then◌else◌, ℕ, suc, ◌<◌, false, List, [], ◌∷◌, ◌++◌, get_or, length, All, arith, refl, ap, ap₂, sym, ◌∙◌, subst}
 use Rattle.std.specs.Prelude.{ℤ, pos, negsuc, neg_ℤ, unsigned_abs, flat_map}
 use Rattle.std.specs.Fmt.{decimal, signed_decimal}
 use Rattle.std.specs.Int.{IsInRange}
-use Rattle.std.specs.List.{AllByRecursion}
 use Rattle.std.specs.Str.Parse.{AllDigits, digits_value}
 use Rattle.std.proofs.lemmas.Bool.{ne_eqb}
 use Rattle.std.proofs.lemmas.Fmt.{decimal_nonempty}
-use Rattle.std.proofs.lemmas.Grind.{flat_map-append}
 use Rattle.std.proofs.lemmas.List.Elements.{All-nil, All-cons, All-weaker}
 use Rattle.std.proofs.lemmas.Str.Parse.{digit_from_value}
 use Rattle.bound_log.specs.CutReading.{PairBegins, CutBegins, after_cut, after_pair, cut_in, pair_in, signed_value}
 use Rattle.bound_log.specs.CutText.{CutTextOf, cut_numbers, cut_words, pair_numbers, pair_words, pairs_words}
-use Rattle.lent_parts.specs.Pieces.{TokenOf}
-use Rattle.bound_log.specs.LogWords.{words_of}
 use Rattle.bound_log.specs.Numbers.{AreShort, IsNumber, IsSigned, number_bound}
 use Rattle.bound_log.proofs.ItemLemmas.{Kind, head_reads, some_words}
 use Rattle.bound_log.proofs.NumberLemmas.{decimal-apart, decimal-bytes, decimal-digits, decimal-value}

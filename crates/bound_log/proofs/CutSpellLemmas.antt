@@ -1,13 +1,13 @@
 -- The lines of cuts and of dual bounds, put together from their parts.
-use Rattle.std.proofs.Common.{◌≡◌, ℕ, suc, ◌+◌, ◌<◌, ◌≤◌, List, [], ◌∷◌, ◌++◌, length, take, arith, refl, ap, ap₂, sym, ◌∙◌, append-nil, append_assoc, length-append, length-take, subst}
+use Rattle.std.proofs.Common.{◌≡◌, ℕ, List, [], ◌∷◌, ◌++◌, length, take, refl, ap, ap₂, sym, ◌∙◌, append-nil, append_assoc}
 use Rattle.std.specs.Prelude.{ℤ, flat_map}
 use Rattle.std.specs.Fmt.{decimal, signed_decimal}
 use Rattle.std.specs.List.{join_with_byte}
 use Rattle.std.proofs.lemmas.Grind.{flat_map-append}
-use Rattle.bound_log.specs.CutSpelling.{cut_text, numbers_text, pair_text, pairs_text, share_text, shares_text, spaced}
+use Rattle.bound_log.specs.CutSpelling.{cut_text, numbers_text, pairs_text, shares_text, spaced}
 use Rattle.bound_log.specs.CutText.{CutTextOf, cut_words, pairs_words}
 use Rattle.bound_log.specs.DualText.{dual_words, share_words}
-use Rattle.bound_log.specs.LogText.{line_end, line_text}
+use Rattle.bound_log.specs.LogText.{line_text}
 use Rattle.bound_log.specs.declared.log_leaf.LogLeaf.TheVariants.{Cut, Dual}
 use Rattle.bound_log.specs.declared.log_line.LogLine.TheVariants.{Leaf}
 

@@ -1,22 +1,14 @@
 -- What can be decided of a text: whether it is a line of the grammar.
-use Rattle.std.proofs.Common.{◌≡◌, ◌==◌, if◌then◌else◌, ◌⊎◌, ℕ, zero, suc, ◌<◌, ◌≤◌, ltb, List, [], ◌∷◌, length, arith, refl, ap, ap₂, subst, sym, ◌∙◌, append-nil, inl, inr}
-use Rattle.std.specs.Prelude.{ℤ}
-use Rattle.std.specs.Fmt.{decimal}
-use Rattle.std.specs.Str.Parse.{digits_value}
+use Rattle.std.proofs.Common.{◌≡◌, ◌⊎◌, ℕ, zero, suc, ◌<◌, ◌≤◌, ltb, List, [], ◌∷◌, arith, refl, ap, ap₂, subst, sym, ◌∙◌, append-nil, inl, inr}
 use Rattle.std.proofs.lemmas.Bool.{cases_Bool, false≢true, lt-ltb, ltb-true}
 use Rattle.lent_parts.specs.Pieces.{tokens_of}
-use Rattle.bound_log.specs.CutReading.{PairsBegin, pairs_in}
-use Rattle.bound_log.specs.CutText.{CutTextOf, cut_numbers, cut_words, pairs_words}
 use Rattle.bound_log.specs.Grammar.{number_bound, HasNumbersBelow, IsLine}
 use Rattle.bound_log.specs.Lines.{numbers_of}
 use Rattle.bound_log.specs.LogLines.{words_of}
 use Rattle.bound_log.specs.LogText.{line_words}
 use Rattle.bound_log.specs.Numbers.{AreShort}
-use Rattle.bound_log.specs.declared.log_leaf.LogLeaf.TheVariants.{Cost, Pivot, Cut}
 use Rattle.bound_log.specs.declared.log_line.LogLine.{LogLine}
-use Rattle.bound_log.specs.declared.log_line.LogLine.TheVariants.{Split, Leaf}
 use Rattle.bound_log.proofs.GrammarLemmas.{line_in, line_of_words, reads_line, words_of_line}
-use Rattle.bound_log.proofs.NumberLemmas.{decimal-value}
 
 -- something holds, or it doesn't
 abbrev pub Decided : Type 0 → Type 0

@@ -1,16 +1,16 @@
 -- The words of shares and of dual bounds: how they are read, and their bytes.
-use Rattle.std.proofs.Common.{◌≡◌, ℕ, ◌+◌, ◌≤◌, List, [], ◌∷◌, ◌++◌, length, All, refl, ap, ap₂, sym, ◌∙◌}
+use Rattle.std.proofs.Common.{◌≡◌, ℕ, List, [], ◌∷◌, ◌++◌, length, All, refl, ap, ap₂, sym, ◌∙◌}
 use Rattle.std.specs.Prelude.{flat_map}
 use Rattle.std.specs.Fmt.{decimal}
 use Rattle.std.specs.Int.{IsInRange}
 use Rattle.std.specs.Str.Parse.{digits_value}
 use Rattle.std.proofs.lemmas.List.Elements.{All-nil, All-cons, All-append}
 use Rattle.bound_log.specs.CutText.{CutTextOf, cut_words}
-use Rattle.bound_log.specs.DualReading.{DualBegins, ShareBegins, after_share, after_shares, share_in, shares_in}
+use Rattle.bound_log.specs.DualReading.{ShareBegins, after_share, after_shares, share_in, shares_in}
 use Rattle.bound_log.specs.DualText.{dual_numbers, dual_words, share_numbers, share_words}
-use Rattle.bound_log.specs.Numbers.{AreShort, IsNumber}
+use Rattle.bound_log.specs.Numbers.{AreShort}
 use Rattle.bound_log.proofs.CutLemmas.{cut_bytes, cut_reads, number_bytes}
-use Rattle.bound_log.proofs.ItemLemmas.{Kind, HeadBegins, head_reads, short_first, short_rest, some_words}
+use Rattle.bound_log.proofs.ItemLemmas.{Kind, head_reads, short_first, short_rest, some_words}
 use Rattle.bound_log.proofs.NumberLemmas.{decimal-value}
 
 -- ---- shares are read from their words

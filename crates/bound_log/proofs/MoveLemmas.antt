@@ -1,5 +1,5 @@
 -- The moves of a displacement, as a line names them.
-use Rattle.std.proofs.Common.{◌≡◌, ◌==◌, if◌then◌else◌, ℕ, zero, suc, ◌+◌, ◌<◌, ◌≤◌, ◌^◌, ◌&&◌, ltb, Bool, true, false, List, [], ◌∷◌, length, get_or, drop, arith, refl, ap, subst, sym, ◌∙◌, Some, inl, inr}
+use Rattle.std.proofs.Common.{◌≡◌, if◌then◌else◌, ℕ, zero, suc, ◌+◌, ◌<◌, ◌≤◌, ◌^◌, ◌&&◌, ltb, Bool, true, false, List, [], ◌∷◌, length, get_or, drop, arith, refl, ap, subst, sym, ◌∙◌, Some, inl, inr}
 use Rattle.std.specs.Prelude.{ℤ, pos, negsuc, flat_map, nat_le, slice_get, unsigned_abs}
 use Rattle.std.proofs.lemmas.Bool.{cases_Bool, false≢true, le-leb, lt-ltb, ne_eqb}
 use Rattle.std.proofs.Common.{eq-eqb}
@@ -15,7 +15,7 @@ use Rattle.bound_log.specs.CutText.{cut_numbers, displaced_by, moves_from, pair_
 use Rattle.bound_log.specs.Grammar.{IsLine, number_bound}
 use Rattle.bound_log.specs.LogText.{line_body}
 use Rattle.bound_log.specs.Numbers.{AreShort}
-use Rattle.bound_log.specs.Rules.{IsAllowedLine, are_moves, is_displacement, is_move}
+use Rattle.bound_log.specs.Rules.{IsAllowedLine, are_moves, is_displacement}
 use Rattle.bound_log.specs.declared.log_leaf.LogLeaf.TheVariants.{Cut}
 use Rattle.bound_log.specs.declared.log_line.LogLine.TheVariants.{Leaf}
 use Rattle.bound_log.proofs.AllowedLemmas.{cut_allowed}

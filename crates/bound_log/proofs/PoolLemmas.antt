@@ -1,5 +1,5 @@
 -- Shares of cuts of a pool, as a line spells them.
-use Rattle.std.proofs.Common.{◌≡◌, ℕ, ◌<◌, ◌≤◌, ◌^◌, List, [], ◌∷◌, ◌++◌, length, map, Option, Some, All, arith, refl, ap, sym, ◌∙◌, subst}
+use Rattle.std.proofs.Common.{◌≡◌, ℕ, ◌≤◌, ◌^◌, List, [], ◌∷◌, length, Some, All, arith, ap, sym, ◌∙◌, subst}
 use Rattle.std.specs.Prelude.{flat_map, slice_get}
 use Rattle.std.proofs.lemmas.List.{length-map}
 use Rattle.std.proofs.lemmas.List.Elements.{All-nil, All-cons, All-head, All-tail}
@@ -12,9 +12,9 @@ use Rattle.geo_model.specs.Row.{Displaced}
 use Rattle.geo_model.specs.declared.plan.Node.{Node}
 use Rattle.cut_pool.specs.Cut.{CutOf, cover, cover_of}
 use Rattle.cut_pool.specs.declared.share.Share.{Share}
-use Rattle.bound_log.specs.CutText.{CutTextOf, cut_numbers, text_of_cut}
-use Rattle.bound_log.specs.DualText.{cover_at, dual_numbers, share_numbers, text_of_share, text_or_none, texts_of_shares, weighed_text}
-use Rattle.bound_log.specs.Grammar.{IsLine, number_bound}
+use Rattle.bound_log.specs.CutText.{CutTextOf, text_of_cut}
+use Rattle.bound_log.specs.DualText.{cover_at, share_numbers, text_of_share, text_or_none, texts_of_shares, weighed_text}
+use Rattle.bound_log.specs.Grammar.{IsLine}
 use Rattle.bound_log.specs.LogText.{line_body}
 use Rattle.bound_log.specs.LogTree.{IsShareAt, IsWeight}
 use Rattle.bound_log.specs.Numbers.{AreShort}

@@ -1,4 +1,4 @@
-use Rattle.std.proofs.Common.{◌≡◌, ◌<◌, ◌≤◌, map, ℕ, zero, suc, Bool, true, false, List, [], ◌∷◌, length, replicate, arith, refl, ap, sym, Some, subst, ◌⊎◌, inl, inr}
+use Rattle.std.proofs.Common.{◌≡◌, ◌<◌, ◌≤◌, map, ℕ, zero, suc, Bool, true, false, List, [], ◌∷◌, length, replicate, arith, refl, sym, Some, subst, ◌⊎◌, inl, inr}
 use Rattle.std.specs.Prelude.{slice_get, All, ℤ, ◌*ℤ◌, ◌≤ℤ◌, ◌<ℤ◌}
 use Rattle.std.proofs.lemmas.Int.{ints}
 use Rattle.std.proofs.lemmas.List.Elements.{All-nil, All-cons, All-head, All-tail}

@@ -1,4 +1,3 @@
-use Rattle.std.proofs.Common.{◌≡◌, ℕ, ◌+◌, List}
 use Rattle.bound_log.specs.LogWords.{words_of}
 use Rattle.bound_log.proofs.CutLemmas.{pair_kind}
 use Rattle.bound_log.proofs.ItemLemmas.{Took}

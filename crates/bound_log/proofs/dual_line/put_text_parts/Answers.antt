@@ -1,4 +1,4 @@
-use Rattle.std.proofs.Common.{◌≡◌, List, ℕ, ap, ◌∙◌, ◌++◌}
+use Rattle.std.proofs.Common.{List, ℕ, ap, ◌∙◌, ◌++◌}
 use Rattle.bound_log.specs.CutSpelling.{shares_text}
 use Rattle.bound_log.specs.CutText.{CutTextOf}
 use Rattle.bound_log.proofs.CutSpellLemmas.{dual_put}

@@ -1,10 +1,7 @@
-use Rattle.std.proofs.Common.{◌≡◌, [], List, ℕ, ap, sym, ◌∙◌, subst}
-use Rattle.bound_log.specs.CutReading.{CutBegins, pairs_in}
 use Rattle.bound_log.specs.Reading.{words_in}
-use Rattle.bound_log.specs.CutText.{CutTextOf}
 use Rattle.bound_log.specs.LogWords.{words_of}
 use Rattle.bound_log.proofs.CutLemmas.{pair_kind}
-use Rattle.bound_log.proofs.ItemLemmas.{LeftWords, head_begins, items_spelled, left_words, no_head}
+use Rattle.bound_log.proofs.ItemLemmas.{items_spelled, left_words, no_head}
 use Rattle.bound_log.proofs.next_cut.next_cut.Goals as goal
 
 pub of-requires : goal.of-requires

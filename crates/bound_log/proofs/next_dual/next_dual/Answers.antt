@@ -1,7 +1,7 @@
 use Rattle.bound_log.specs.LogWords.{words_of}
 use Rattle.bound_log.specs.Reading.{words_in}
 use Rattle.bound_log.proofs.DualLemmas.{share_kind}
-use Rattle.bound_log.proofs.ItemLemmas.{head_begins, items_spelled, left_words, no_head}
+use Rattle.bound_log.proofs.ItemLemmas.{items_spelled, left_words, no_head}
 use Rattle.bound_log.proofs.next_dual.next_dual.Goals as goal
 
 pub of-requires : goal.of-requires

@@ -1,5 +1,4 @@
-use Rattle.std.proofs.Common.{◌≡◌, List, ℕ, ap, sym, ◌∙◌, subst}
-use Rattle.lent_parts.specs.Pieces.{tokens_of}
+use Rattle.std.proofs.Common.{List, ℕ, ap, sym, ◌∙◌, subst}
 use Rattle.lent_parts.proofs.PieceLemmas.{tokens_of-texts}
 use Rattle.bound_log.specs.CutReading.{CanRead, pairs_in}
 use Rattle.bound_log.specs.LogWords.{words_of}

@@ -1,4 +1,4 @@
-use Rattle.std.proofs.Common.{◌≡◌, ◌-◌, List, ℕ, ap, sym, ◌∙◌, subst}
+use Rattle.std.proofs.Common.{◌-◌, List, ℕ, subst}
 use Rattle.std.specs.Prelude.{ℤ}
 use Rattle.std.specs.Iterator.{YieldsFirst}
 use Rattle.bound_log.specs.CutReading.{pairs_in}
