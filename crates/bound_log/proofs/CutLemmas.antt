@@ -83,10 +83,6 @@ cut_reads front cut rest begins =
       head.after_is ∙ ap after_cut (sym begins.spelled),
     )
 
--- cuts as items
-abbrev pub cut_kind : Kind CutTextOf
-cut_kind = record { words = cut_words; numbers = cut_numbers; read = cut_in; after = after_cut; reads = cut_reads; some = λ cut rest is. some_words (decimal cut.limit) (decimal (length cut.pairs) ∷ (pairs_words cut.pairs ++ rest)) is }
-
 -- ---- numbers below 0
 
 pub not_minus_zero : (digits : List ℕ) (value : ℤ) → IsNumber digits 0 → IsSigned (45 ∷ digits) value → ⊥
