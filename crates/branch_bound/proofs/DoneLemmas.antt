@@ -15,9 +15,10 @@ use Rattle.pivot_chain.proofs.Verdicts.{met_sound, refuted_fails}
 use Rattle.bound_log.specs.declared.bound.Bound.{Bound}
 use Rattle.bound_log.specs.declared.bound.Bound.TheVariants.{NoPlan, AtLeast}
 use Rattle.bound_log.specs.Bound.{lesser}
-use Rattle.bound_log.specs.LogTree.{IsOpenAt, IsRefutedBy, with_chosen, without_chosen}
+use Rattle.bound_log.specs.CutText.{CutTextOf, displaced_by}
+use Rattle.bound_log.specs.LogTree.{IsBrokenBy, IsOpenAt, IsRefutedBy, with_chosen, without_chosen}
 use Rattle.bound_log.proofs.BoundLemmas.{lesser_none, lesser_assoc}
-use Rattle.bound_log.proofs.SoundLemmas.{IsInForce-grows, at_place}
+use Rattle.bound_log.proofs.SoundLemmas.{IsInForce-grows, at_place, broken_fails}
 use Rattle.branch_bound.specs.declared.best.Best.{Best}
 use Rattle.branch_bound.specs.declared.best.Best.TheVariants as best
 use Rattle.branch_bound.specs.Found.{best_bound, IsKept, IsCovered, IsBelow, IsDone}
@@ -99,15 +100,36 @@ refuted_empty network node number other bounds refuted certified above below =
     let kept : IsLimit network refuted.limit = at_place (IsLimit network) network.limits number refuted.limit bounds.each_limit refuted.named in
     refuted_fails network other node.upper refuted.limit bounds kept below refuted.refuted (met_sound network other refuted.limit bounds kept met)
 
+-- no plan of a node that breaks a cut is certified
+broken_empty : (network : NetworkOf) (node : Node) (cut : CutTextOf) (other : List Bool) → IsNetwork network → IsBrokenBy network node cut →
+    IsCertified network other → IsWithin node.inside other → IsWithin other node.upper → ⊥
+broken_empty network node cut other bounds broken certified above below =
+    let met : verdict_of network other broken.limit ≡ Met =
+    at_place (λ l. IsInForce l other → verdict_of network other l ≡ Met) network.limits cut.limit broken.limit certified.certified broken.named (IsInForce-grows broken.limit node.inside other above broken.owned) in
+    let kept : IsLimit network broken.limit = at_place (IsLimit network) network.limits cut.limit broken.limit bounds.each_limit broken.named in
+    broken_fails network other node.upper broken.limit (displaced_by cut.pairs) bounds kept below broken.breaks (met_sound network other broken.limit bounds kept met)
+
+-- a node has no certified plan
+IsDone-empty : (network : NetworkOf) (node : Node) (found : Best) → IsKept network found →
+    ((other : List Bool) → IsCertified network other → IsWithin node.inside other → IsWithin other node.upper → ⊥) → IsDone network node NoPlan found found
+IsDone-empty network node found kept empty = record {
+  price = sym (lesser_none (best_bound network found));
+  kept = kept;
+  covered = λ other certified above below. absurd (empty other certified above below);
+  still = λ other covered. covered;
+}
+
 -- a limit refutes a node
 pub IsDone-refuted : (network : NetworkOf) (node : Node) (number : ℕ) (found : Best) → IsNetwork network → IsKept network found →
     IsRefutedBy network node number → IsDone network node NoPlan found found
-IsDone-refuted network node number found bounds kept refuted = record {
-  price = sym (lesser_none (best_bound network found));
-  kept = kept;
-  covered = λ other certified above below. absurd (refuted_empty network node number other bounds refuted certified above below);
-  still = λ other covered. covered;
-}
+IsDone-refuted network node number found bounds kept refuted =
+    IsDone-empty network node found kept (λ other. refuted_empty network node number other bounds refuted)
+
+-- all plans of a node break a cut
+pub IsDone-broken : (network : NetworkOf) (node : Node) (cut : CutTextOf) (found : Best) → IsNetwork network → IsKept network found →
+    IsBrokenBy network node cut → IsDone network node NoPlan found found
+IsDone-broken network node cut found bounds kept broken =
+    IsDone-empty network node found kept (λ other. broken_empty network node cut other bounds broken)
 
 -- the inner plan is certified, and becomes the best one
 pub IsDone-certified : (network : NetworkOf) (node : Node) (found : Best) (plan : List Bool) → plan ≡ node.inside → IsCertified network node.inside →

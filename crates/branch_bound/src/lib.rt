@@ -15,11 +15,14 @@ mod answer;
 mod best;
 mod branch;
 mod choice;
+mod cut_sums;
+mod cuts;
 mod inherited;
 mod limit_verdicts;
 mod line;
 mod missing;
 mod node_judgements;
+mod node_line;
 mod run;
 mod search_fault;
 

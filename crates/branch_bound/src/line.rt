@@ -1,28 +1,29 @@
 //! The lines that the search writes.
-ghost use Rattle.std.specs.Prelude.{◌≡◌, ℕ, ◌<◌, [], ◌∷◌, length, Some, OnOk, IfErr, IfSome, IfNone};
+ghost use Rattle.std.specs.Prelude.{◌≡◌, ◌∷◌, ◌++◌, [], Some, OnOk, IfErr};
 ghost use Rattle.bound_log.specs.Counted.{counts_with};
 ghost use Rattle.bound_log.specs.Lines.{kind_of};
 ghost use Rattle.bound_log.specs.LogText.{line_text};
-ghost use Rattle.bound_log.specs.declared.log_line.LogLine.TheVariants as log_line;
+ghost use Rattle.branch_bound.specs.Cuts.{line_of, NamesCutsOf};
 ghost use Rattle.branch_bound.specs.Explored.{Adds, Breaks};
 
+use crate::cuts::Cuts;
+use crate::node_line::NodeLine;
 use crate::search_fault::SearchFault;
-use bound_log::{LogLine, count_line, put_line};
-use geo_model::{Counts, Network};
+use bound_log::{count_line, put_cost, put_cut, put_pivot, put_split};
+use geo_base::NoMemory;
+use geo_model::Counts;
 use shelf_io::{Shelf, WriteAnswer};
 
-/// The candidate on which a line splits its node; a leaf splits none.
-pub fn split_candidate(network: &Network, line: &LogLine<'_>) -> Option<u32>
-    requires { (candidate : ℕ) → line.now ≡ log_line.Split candidate → candidate < length network.now.candidates }
-    ensures some { IfSome result (λ candidate. line.now ≡ log_line.Split candidate) }
-    ensures none { IfNone result ((candidate : ℕ) → line.now ≡ log_line.Split candidate → ⊥) }
+/// Appends the line of a node. `cuts` are those of the search.
+fn put_node_line(out: &mut Vec<u8>, cuts: &Cuts, line: NodeLine) -> Result<(), NoMemory>
+    requires { NamesCutsOf cuts.now line }
+    ensures put { OnOk result (out.new.items ≡ out.old.items ++ line_text (line_of cuts.now line)) }
 {
     match line {
-        LogLine::Split(candidate) => {
-            prove!(*candidate < network.candidates().len() as u64);
-            Some(*candidate as u32)
-        }
-        LogLine::Leaf(_) => None,
+        NodeLine::Split(candidate) => put_split(out, candidate),
+        NodeLine::Cost => put_cost(out),
+        NodeLine::Pivot(limit) => put_pivot(out, limit),
+        NodeLine::Cut(number) => put_cut(out, cuts.get(number)),
     }
 }
 
@@ -39,21 +40,24 @@ pub fn write_piece<H: Shelf>(shelf: &mut H, name: &str, piece: &[u8]) -> Result<
     }
 }
 
-/// Writes a line of the log and counts it. `buffer` is room for its bytes.
+/// Writes the line of a node to the log and counts it. `buffer` is room for its bytes, and `cuts` are
+/// those of the search.
 pub fn write_line<H: Shelf>(
     shelf: &mut H,
     name: &str,
     buffer: &mut Vec<u8>,
     counts: &mut Counts,
-    line: &LogLine<'_>,
+    cuts: &Cuts,
+    line: NodeLine,
 ) -> Result<(), SearchFault>
-    requires { (H.state shelf.old).started ≡ Some name.now }
-    ensures added { OnOk result (Adds name.now (line_text line.now) (H.state shelf.old) (H.state shelf.new)) }
-    ensures counted { OnOk result (counts.new ≡ counts_with counts.old (kind_of line.now ∷ [])) }
-    ensures refused { IfErr result (λ why. Breaks name.now (line_text line.now) why (H.state shelf.old) (H.state shelf.new)) }
+    requires started { (H.state shelf.old).started ≡ Some name.now }
+    requires line { NamesCutsOf cuts.now line }
+    ensures added { OnOk result (Adds name.now (line_text (line_of cuts.now line)) (H.state shelf.old) (H.state shelf.new)) }
+    ensures counted { OnOk result (counts.new ≡ counts_with counts.old (kind_of (line_of cuts.now line) ∷ [])) }
+    ensures refused { IfErr result (λ why. Breaks name.now (line_text (line_of cuts.now line)) why (H.state shelf.old) (H.state shelf.new)) }
 {
     buffer.clear();
-    if put_line(buffer, line).is_err() {
+    if put_node_line(buffer, cuts, line).is_err() {
         return Err(SearchFault::NoMemory);
     }
     write_piece(shelf, name, buffer.as_slice())?;

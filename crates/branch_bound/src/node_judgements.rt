@@ -4,6 +4,7 @@ ghost use Rattle.geo_model.specs.Prices.{price_of};
 ghost use Rattle.geo_model.specs.Network.{IsNetwork};
 ghost use Rattle.pivot_chain.specs.Room.{IsRoomOf};
 ghost use Rattle.bound_log.specs.LogTree.{IsRefutedBy};
+ghost use Rattle.branch_bound.specs.Cuts.{AreCutsFor, NamesCutsOf, line_of};
 ghost use Rattle.branch_bound.specs.Explored.{IsNode, IsLineAt};
 ghost use Rattle.branch_bound.specs.Found.{IsKept, IsCovered, IsBelow, best_bound};
 ghost use Rattle.branch_bound.specs.Searched.{IsCertified};
@@ -12,9 +13,10 @@ ghost use Rattle.std.specs.Option.{ForSome};
 
 use crate::best::Best;
 use crate::branch::branch_candidate;
+use crate::cuts::Cuts;
 use crate::inherited::Inherited;
 use crate::limit_verdicts::{is_owned_by, refutes};
-use bound_log::{LogLeaf, LogLine};
+use crate::node_line::NodeLine;
 use geo_base::NoMemory;
 use geo_model::{Network, Node, Plan, cost};
 use pivot_chain::{ChainRoom, is_met};
@@ -131,26 +133,34 @@ pub fn line_at(
     node: &Node,
     inherited: &mut Inherited,
     best: &mut Best,
-) -> Result<LogLine<'static>, NoMemory>
+    cuts: &mut Cuts,
+) -> Result<NodeLine, NoMemory>
     requires room { IsRoomOf network.now room.old }
     requires node { IsNode network.now node.now }
     requires inherited { IsInherited network.now node.now inherited.old }
     requires kept { IsKept network.now best.old }
-    ensures line { IfOk result (λ line. IsLineAt network.now node.now best.old best.new line) }
+    requires cuts { AreCutsFor network.now cuts.old }
+    ensures line { IfOk result (λ line. IsLineAt network.now node.now best.old best.new (line_of cuts.new line)) }
+    ensures names { IfOk result (NamesCutsOf cuts.new) }
     ensures inherited { ForSome inherited.new.unmet (λ limit. IsUnmetAt network.now node.now.inside limit) }
     ensures room { IsRoomOf network.now room.new }
+    ensures cuts { cuts.new ≡ cuts.old }
 {
     // The price is asked first, since it needs no verdict. The log is no longer for it: both answers
     // are leaves. At equal price a node is cut off only where the best plan is certified.
     if is_cut_off(network, &node.inside, best) {
-        return Ok(LogLine::Leaf(LogLeaf::Cost));
+        return Ok(NodeLine::Cost);
+    }
+    // A cut is asked before the verdicts, since it takes less to test.
+    if let Some(number) = cuts.first_broken(network, node, inherited) {
+        return Ok(NodeLine::Cut(number));
     }
     if let Some(limit) = refuting_limit(room, network, node, inherited) {
-        return Ok(LogLine::Leaf(LogLeaf::Pivot(limit as u64)));
+        return Ok(NodeLine::Pivot(limit));
     }
     let Some(limit) = unmet_limit(room, network, &node.inside, inherited.unmet) else {
         *best = Best::Certified(node.inside.copy(alloc)?);
-        return Ok(LogLine::Leaf(LogLeaf::Cost));
+        return Ok(NodeLine::Cost);
     };
     inherited.unmet = Some(limit);
     if let Some(candidate) = branch_candidate(
@@ -160,13 +170,13 @@ pub fn line_at(
         &mut inherited.none_shut,
         limit,
     ) {
-        return Ok(LogLine::Split(candidate as u64));
+        return Ok(NodeLine::Split(candidate));
     }
     // An unsettled plan is offered only where it is its node's only one. At equal price the first one
     // stays, and a certified plan takes its place.
     if !is_cheaper(network, &node.inside, best) {
-        return Ok(LogLine::Leaf(LogLeaf::Cost));
+        return Ok(NodeLine::Cost);
     }
     *best = Best::Unsettled(node.inside.copy(alloc)?);
-    Ok(LogLine::Leaf(LogLeaf::Cost))
+    Ok(NodeLine::Cost)
 }

@@ -4,6 +4,7 @@ ghost use Rattle.pivot_chain.specs.Room.{IsRoomOf};
 ghost use Rattle.bound_log.specs.Counted.{no_counts};
 ghost use Rattle.bound_log.specs.LogText.{head_text};
 ghost use Rattle.branch_bound.specs.declared.best.Best.TheVariants as found;
+ghost use Rattle.branch_bound.specs.Cuts.{AreCutsFor};
 ghost use Rattle.branch_bound.specs.Explored.{IsNode, Adds, Breaks, Explores, BreaksOff};
 ghost use Rattle.branch_bound.specs.Found.{IsKept, IsAnswerOf};
 ghost use Rattle.branch_bound.specs.Logged.{Searches, BreaksLog};
@@ -11,8 +12,9 @@ ghost use Rattle.branch_bound.specs.Inherited.{IsInherited};
 
 use crate::answer::answer_of;
 use crate::best::Best;
+use crate::cuts::Cuts;
 use crate::inherited::Inherited;
-use crate::line::{split_candidate, write_line, write_piece};
+use crate::line::{write_line, write_piece};
 use crate::node_judgements::line_at;
 use crate::search_fault::SearchFault;
 use bound_log::put_head;
@@ -22,27 +24,30 @@ use shelf_io::Shelf;
 use std::alloc::Global;
 
 /// What a search has found so far: the best plan and the lines counted, with room for the next line
-/// and for verdicts.
+/// and for verdicts, and the cuts that it tries.
 #[derive(Drop)]
 struct Findings {
     best: Best,
     counts: Counts,
     buffer: Vec<u8>,
     room: ChainRoom,
+    cuts: Cuts,
 }
 
 impl Findings {
     /// Nothing has been found yet.
-    fn new(alloc: Global, room: ChainRoom) -> Findings
+    fn new(alloc: Global, room: ChainRoom, cuts: Cuts) -> Findings
         ensures best { result.best ≡ found.NoPlan }
         ensures counts { result.counts ≡ no_counts }
         ensures room { result.room ≡ room }
+        ensures cuts { result.cuts ≡ cuts }
     {
         Findings {
             best: Best::NoPlan,
             counts: Counts::none(),
             buffer: Vec::new(alloc),
             room,
+            cuts,
         }
     }
 
@@ -79,11 +84,13 @@ fn explore<H: Shelf>(
     requires inherited { IsInherited network.now node.old inherited }
     requires room { IsRoomOf network.now findings.old.room }
     requires kept { IsKept network.now findings.old.best }
+    requires cuts { AreCutsFor network.now findings.old.cuts }
     ensures explored { OnOk result (Explores network.now node.old name.now
         findings.old.best findings.new.best findings.old.counts findings.new.counts (H.state shelf.old)
         (H.state shelf.new)) }
     ensures node { OnOk result (node.new ≡ node.old) }
     ensures room { OnOk result (IsRoomOf network.now findings.new.room) }
+    ensures cuts { OnOk result (AreCutsFor network.now findings.new.cuts) }
     ensures refused { IfErr result (λ why. BreaksOff network.now node.old name.now why (H.state shelf.old)
         (H.state shelf.new)) }
 {
@@ -95,15 +102,17 @@ fn explore<H: Shelf>(
         node,
         &mut inherited,
         &mut findings.best,
+        &mut findings.cuts,
     )?;
     write_line(
         shelf,
         name,
         &mut findings.buffer,
         &mut findings.counts,
-        &line,
+        &findings.cuts,
+        line,
     )?;
-    let Some(candidate) = split_candidate(network, &line) else {
+    let Some(candidate) = line.split_candidate() else {
         return Ok(());
     };
     // This child has the same upper plan. So of the limits only the candidate's own can refute it, and
@@ -166,7 +175,8 @@ pub fn search<H: Shelf>(
 {
     let mut node = Node::whole(alloc, network.candidates().len() as u32)?;
     let room = ChainRoom::new(alloc, network)?;
-    let mut findings = Findings::new(alloc, room);
+    let cuts = Cuts::of_units(alloc, network)?;
+    let mut findings = Findings::new(alloc, room, cuts);
     begin_log(shelf, name, &mut findings.buffer)?;
     let inherited = Inherited {
         chosen: None,

@@ -1,7 +1,7 @@
 -- The displacement of a line, written pair by pair.
-use Rattle.std.proofs.Common.{◌≡◌, ◌⊎◌, ◌==◌, if◌then◌else◌, ℕ, zero, suc, ◌+◌, ◌<◌, ◌≤◌, ◌&&◌, ltb, Bool, true, false, List, [], ◌∷◌, length, replicate, get_or, arith, refl, ap, sym, ◌∙◌, subst, inl, inr, eq-eqb}
+use Rattle.std.proofs.Common.{◌≡◌, ◌⊎◌, ◌==◌, if◌then◌else◌, ℕ, zero, suc, ◌+◌, ◌<◌, ◌≤◌, ◌&&◌, ltb, Bool, true, false, List, [], ◌∷◌, length, replicate, arith, refl, ap, sym, ◌∙◌, inl, inr, eq-eqb}
 use Rattle.std.specs.Prelude.{ℤ, pos, nat_le, slice_set, unsigned_abs}
-use Rattle.std.proofs.lemmas.Bool.{cases_Bool, false≢true, le-leb, leb-true, lt-ltb, ltb-true, ne_eqb, eqb-true}
+use Rattle.std.proofs.lemmas.Bool.{cases_Bool, false≢true, le-leb, leb-true, lt-ltb, ltb-true, ltb-false, ne_eqb, eqb-true}
 use Rattle.std.proofs.lemmas.List.{length-set, get_or-set_same, get_or-set_other, length-replicate}
 use Rattle.whole_algebra.specs.Matrices.{at}
 use Rattle.bound_log.specs.CutText.{displaced_by}
@@ -106,18 +106,12 @@ writes_next unknowns pairs left pair least x low high some small writes =
         ∙ ap (λ b. if b then pair.1 else displaced_by left i) here
         ∙ sym (ap (λ k. at (slice_set x pair.0 pair.1) k) (sym same) ∙ get_or-set_same x pair.0 pair.1 (pos 0) (omega (arith, high, writes.long)))
     behind are i below (inr later) (inr elsewhere) =
-        let from : least ≤ i = omega_from i least later in
+        let from : least ≤ i = ltb-false i least later in
         let apart : i ≡ pair.0 → ⊥ = λ same. false≢true (sym elsewhere ∙ eq-eqb pair.0 i (sym same)) in
         writes.ahead i from
         ∙ ap (λ b. if b then pair.1 else displaced_by left i) elsewhere
         ∙ before_moves unknowns (pair.0 + 1) i left are below
         ∙ sym (other_entry x pair.0 i pair.1 apart ∙ writes.unmoved i from)
-      where
-        omega_from : (i least : ℕ) → ltb i least ≡ false → least ≤ i
-        omega_from i least is = not_below i least (λ below. false≢true (sym is ∙ lt-ltb i least below))
-          where
-            not_below : (i least : ℕ) → (i < least → ⊥) → least ≤ i
-            not_below i least other = grind (arith, other)
 
 -- ---- the answers
 
@@ -129,12 +123,9 @@ pub writes_all : (unknowns : ℕ) (pairs : List (ℕ × ℤ)) (least : ℕ) (x :
 writes_all unknowns pairs least x writes i = elim (cases_Bool (ltb i least)) [
   | inl early ↦ writes.behind refl i (ltb-true i least early)
   | inr later ↦
-      let from : least ≤ i = not_below (λ below. false≢true (sym later ∙ lt-ltb i least below)) in
+      let from : least ≤ i = ltb-false i least later in
       writes.ahead i from ∙ sym (writes.unmoved i from)
 ]
-  where
-    not_below : (i < least → ⊥) → least ≤ i
-    not_below other = grind (arith, other)
 
 -- a pair that is no move
 pub writes_wrong : (unknowns : ℕ) (pairs left : List (ℕ × ℤ)) (pair : ℕ × ℤ) (least : ℕ) (x : List ℤ) → (is_move unknowns least pair ≡ true → ⊥) → Writes unknowns pairs (pair ∷ left) least x → is_displacement unknowns pairs ≡ false

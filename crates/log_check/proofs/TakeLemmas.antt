@@ -57,7 +57,7 @@ closed_by_pivot network node rest end limit before now is stack bound counts num
     (record { stack = stack; least = bound ∙ sym (lesser_none before.bound); counted = counts; numbered = numbered })
 
 pub closed_by_cut : (network : NetworkOf) (node : Node) (rest : List Node) (end : LogLeaf) (cut : CutTextOf) (before now : Progress) → end ≡ Cut cut → now.stack ≡ record { candidates = before.stack.candidates; nodes = rest } → now.bound ≡ before.bound → now.counts ≡ before.counts → now.lines ≡ before.lines → EndsAt rest (leaf_bound network node end) before now
-unfolding leaf_bound
+unfolding leaf_bound_for
 closed_by_cut network node rest end cut before now is stack bound counts numbered =
     subst (λ (e : LogLeaf). EndsAt rest (leaf_bound network node e) before now) (sym is)
     (record { stack = stack; least = bound ∙ sym (lesser_none before.bound); counted = counts; numbered = numbered })

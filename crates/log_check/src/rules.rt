@@ -114,8 +114,8 @@ fn broken_by_cut(
     if !write_moves(&mut room.moves, cut) {
         return Some(LogKind::Range);
     }
-    let limit = &limits[number as usize];
-    if !limit.is_in_force(&node.inside) {
+    let broken = &limits[number as usize];
+    if !broken.is_in_force(&node.inside) {
         return Some(LogKind::Owner);
     }
     if !breaks(network, &node.upper, number as u32, &room.moves) {

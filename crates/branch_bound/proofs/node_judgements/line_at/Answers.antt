@@ -1,8 +1,10 @@
 use Rattle.std.proofs.lemmas.Bool.{iff_false}
 use Rattle.bound_log.specs.LogTree.{leaf_bound_for}
-use Rattle.bound_log.proofs.AllowedLemmas.{cost_allowed, pivot_allowed}
+use Rattle.std.specs.Prelude.{slice_get}
+use Rattle.bound_log.proofs.AllowedLemmas.{cost_allowed, cut_allowed, pivot_allowed}
+use Rattle.branch_bound.specs.Cuts.{text_or_none}
 use Rattle.branch_bound.proofs.VerdictLemmas.{unsettled_by}
-use Rattle.branch_bound.proofs.DoneLemmas.{IsDone-cut_off, IsDone-refuted, IsDone-certified, IsDone-unsettled, IsDone-undercut}
+use Rattle.branch_bound.proofs.DoneLemmas.{IsDone-cut_off, IsDone-broken, IsDone-refuted, IsDone-certified, IsDone-unsettled, IsDone-undercut}
 use Rattle.branch_bound.proofs.node_judgements.line_at.Goals as goal
 
 pub returns-then-is_cut_off-clause-line : goal.returns-then-is_cut_off-clause-line
@@ -15,8 +17,15 @@ returns-then-is_cut_off-clause-line c = record {
 pub returns-in-Some-clause-line : goal.returns-in-Some-clause-line
 unfolding leaf_bound_for
 returns-in-Some-clause-line c = record {
-  allowed = pivot_allowed c.args.network.now c.args.node.now c.in-Some.limit c.in-Some.ensures.found;
-  done = IsDone-refuted c.args.network.now c.args.node.now c.in-Some.limit c.args.best.now c.in-Some.ensures.bounds c.requires.kept c.in-Some.ensures.found;
+  allowed = cut_allowed c.args.network.now c.args.node.now (text_or_none (slice_get c.first_broken.new.self c.in-Some.number)) c.in-Some.ensures.found.broken;
+  done = IsDone-broken c.args.network.now c.args.node.now (text_or_none (slice_get c.first_broken.new.self c.in-Some.number)) c.args.best.now c.in-Some.ensures.bounds c.requires.kept c.in-Some.ensures.found.broken;
+}
+
+pub returns-in-Some-refuting_limit-clause-line : goal.returns-in-Some-refuting_limit-clause-line
+unfolding leaf_bound_for
+returns-in-Some-refuting_limit-clause-line c = record {
+  allowed = pivot_allowed c.args.network.now c.args.node.now c.in-Some-refuting_limit.limit c.in-Some-refuting_limit.ensures.found;
+  done = IsDone-refuted c.args.network.now c.args.node.now c.in-Some-refuting_limit.limit c.args.best.now c.in-Some-refuting_limit.ensures.bounds c.requires.kept c.in-Some-refuting_limit.ensures.found;
 }
 
 pub returns-in_default-unmet_limit-clause-line : goal.returns-in_default-unmet_limit-clause-line
@@ -31,7 +40,7 @@ unfolding leaf_bound_for
 returns-clause-line c = record {
   allowed = cost_allowed c.args.network.now c.args.node.now;
   done = IsDone-unsettled c.args.network.now c.args.node.now c.args.best.now c.in_ok-copy-2.field-0 c.in_ok-copy-2.ensures c.in_default-branch_candidate.ensures.none
-      (unsettled_by c.args.network.now c.args.node.now c.in-Some-unmet_limit.limit c.requires.node c.in_default-branch_candidate.ensures.none c.in_default.ensures.none c.in-Some-unmet_limit.ensures.unmet.unmet)
+      (unsettled_by c.args.network.now c.args.node.now c.in-Some-unmet_limit.limit c.requires.node c.in_default-branch_candidate.ensures.none c.in_default-refuting_limit.ensures.none c.in-Some-unmet_limit.ensures.unmet.unmet)
       (iff_false c.is_cut_off.ensures c.if-is_cut_off.false);
 }
 
@@ -40,6 +49,6 @@ unfolding leaf_bound_for
 returns-then-not-is_cheaper-clause-line c = record {
   allowed = cost_allowed c.args.network.now c.args.node.now;
   done = IsDone-undercut c.args.network.now c.args.node.now c.args.best.now c.requires.kept c.in_default-branch_candidate.ensures.none
-      (unsettled_by c.args.network.now c.args.node.now c.in-Some-unmet_limit.limit c.requires.node c.in_default-branch_candidate.ensures.none c.in_default.ensures.none c.in-Some-unmet_limit.ensures.unmet.unmet)
+      (unsettled_by c.args.network.now c.args.node.now c.in-Some-unmet_limit.limit c.requires.node c.in_default-branch_candidate.ensures.none c.in_default-refuting_limit.ensures.none c.in-Some-unmet_limit.ensures.unmet.unmet)
       (iff_false c.is_cheaper.ensures c.if-not-is_cheaper.true);
 }

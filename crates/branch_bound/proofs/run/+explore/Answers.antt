@@ -2,9 +2,11 @@ use Rattle.std.proofs.lemmas.Result.{err_from_is_err_and}
 use Rattle.std.proofs.Common.{rules, ◌≡◌, ◌<◌, sym, ◌∙◌, subst, refl, Some, None, false}
 use Rattle.geo_model.specs.declared.plan.Node.{Node}
 use Rattle.bound_log.specs.LogTree.{with_chosen, without_chosen, IsOpenAt}
+use Rattle.branch_bound.specs.Cuts.{AreCutsFor, line_of}
 use Rattle.branch_bound.specs.Explored.{IsNode}
 use Rattle.branch_bound.specs.Found.{IsKept}
 use Rattle.branch_bound.proofs.ExploreLemmas.{BreaksOff-nothing, BreaksOff-line, BreaksOff-first, BreaksOff-second, Explores-leaf, Explores-split, IsNode-with, IsNode-without, IsNode-same, IsKept-same, IsOpenAt-line, IsKept-line, unrefuted-line, Adds-line, Counts-line, BreaksOff-same, Explores-same, child_with, child_without, node_back}
+use Rattle.branch_bound.proofs.CutLemmas.{cuts_kept, split_line, unsplit_line}
 use Rattle.bound_log.specs.OpenCount.{open_count}
 use Rattle.bound_log.proofs.OpenLemmas.{open_count-with, open_count-without}
 use Rattle.branch_bound.proofs.InheritedLemmas.{IsInherited-with, IsInherited-without, IsInherited-same}
@@ -26,27 +28,31 @@ returns-in_err-write_line-clause-refused g t c =
     (BreaksOff-line c.args.network.now c.args.node.now c.args.name.now c.args.findings.now.best c.line_at.new.best c.in_err-write_line.field-0.0
     (g.H.Shelf.state c.args.shelf.now)
     (g.H.Shelf.state c.write_line.new.shelf)
-    c.in_ok-line.line c.in_ok-line.ensures.line c.in_err-write_line.ensures.refused)
+    (line_of c.line_at.new.cuts c.in_ok-line.line) c.in_ok-line.ensures.line c.in_err-write_line.ensures.refused)
 
 pub returns-in_default : goal.returns-in_default
 returns-in_default g t c = record {
   explored = Explores-leaf c.args.network.now c.args.node.now c.args.name.now c.args.findings.now.best c.line_at.new.best c.args.findings.now.counts c.write_line.new.counts
       (g.H.Shelf.state c.args.shelf.now)
       (g.H.Shelf.state c.write_line.new.shelf)
-      c.in_ok-line.line c.in_ok-line.ensures.line c.in_default.ensures.none c.in_ok-write_line.ensures.added c.in_ok-write_line.ensures.counted;
+      (line_of c.line_at.new.cuts c.in_ok-line.line) c.in_ok-line.ensures.line (unsplit_line c.line_at.new.cuts c.in_ok-line.line c.in_default.ensures.none) c.in_ok-write_line.ensures.added c.in_ok-write_line.ensures.counted;
   node = refl;
   room = c.in_ok-line.ensures.room;
+  cuts = cuts_kept c.args.network.now c.args.findings.now.cuts c.line_at.new.cuts (search rules) c.in_ok-line.ensures.cuts;
   refused = tt;
 }
 
 pub explore-requires : goal.explore-requires
 explore-requires g t c κs within =
+    let line = line_of c.line_at.new.cuts c.in_ok-line.line in
+    let split = split_line c.line_at.new.cuts c.in_ok-line.line c.in-Some.candidate c.in-Some.ensures.some in
     let node : IsNode c.args.network.now c.args.node.now = search rules in
     let before : IsKept c.args.network.now c.args.findings.now.best = search rules in
+    let cuts : AreCutsFor c.args.network.now c.args.findings.now.cuts = search rules in
     let is_open : IsOpenAt c.args.network.now c.args.node.now c.in-Some.candidate =
-    IsOpenAt-line c.args.network.now c.args.node.now c.args.findings.now.best c.line_at.new.best c.in_ok-line.line c.in-Some.candidate c.in-Some.ensures.some c.in_ok-line.ensures.line in
+    IsOpenAt-line c.args.network.now c.args.node.now c.args.findings.now.best c.line_at.new.best line c.in-Some.candidate split c.in_ok-line.ensures.line in
     let same =
-    IsKept-line c.args.network.now c.args.node.now c.args.findings.now.best c.line_at.new.best c.in_ok-line.line c.in-Some.candidate c.in-Some.ensures.some c.in_ok-line.ensures.line in
+    IsKept-line c.args.network.now c.args.node.now c.args.findings.now.best c.line_at.new.best line c.in-Some.candidate split c.in_ok-line.ensures.line in
     let first : (record { inside = c.set.new.self; upper = c.args.node.now.upper }) ≡ with_chosen c.args.node.now c.in-Some.candidate =
     child_with c.args.node.now c.in-Some.candidate c.set.new.self c.set.ensures in
     let kept : IsKept c.args.network.now c.line_at.new.best =
@@ -57,14 +63,16 @@ explore-requires g t c κs within =
     IsNode-same c.args.network.now (with_chosen c.args.node.now c.in-Some.candidate) (record { inside = c.set.new.self; upper = c.args.node.now.upper }) first (IsNode-with c.args.network.now c.args.node.now c.in-Some.candidate node is_open) in
     let inherited = IsInherited-same c.args.network.now (with_chosen c.args.node.now c.in-Some.candidate) (record { inside = c.set.new.self; upper = c.args.node.now.upper }) (record { chosen = Some c.in-Some.candidate; none_shut = c.line_at.new.inherited.none_shut; unmet = None }) first
     (IsInherited-with c.args.network.now c.args.node.now c.in-Some.candidate c.line_at.new.inherited.none_shut
-    (unrefuted-line c.args.network.now c.args.node.now c.args.findings.now.best c.line_at.new.best c.in_ok-line.line c.in-Some.candidate c.in-Some.ensures.some c.in_ok-line.ensures.line)) in
-    (search rules, (within, (c.in_ok-write_line.ensures.added.started, (child, (inherited, (c.in_ok-line.ensures.room, kept))))))
+    (unrefuted-line c.args.network.now c.args.node.now c.args.findings.now.best c.line_at.new.best line c.in-Some.candidate split c.in_ok-line.ensures.line)) in
+    (search rules, (within, (c.in_ok-write_line.ensures.added.started, (child, (inherited, (c.in_ok-line.ensures.room, (kept, cuts_kept c.args.network.now c.args.findings.now.cuts c.line_at.new.cuts cuts c.in_ok-line.ensures.cuts)))))))
 
 pub explore-requires-2 : goal.explore-requires-2
 explore-requires-2 g t c κs within =
+    let line = line_of c.line_at.new.cuts c.in_ok-line.line in
+    let split = split_line c.line_at.new.cuts c.in_ok-line.line c.in-Some.candidate c.in-Some.ensures.some in
     let node : IsNode c.args.network.now c.args.node.now = search rules in
     let is_open : IsOpenAt c.args.network.now c.args.node.now c.in-Some.candidate =
-    IsOpenAt-line c.args.network.now c.args.node.now c.args.findings.now.best c.line_at.new.best c.in_ok-line.line c.in-Some.candidate c.in-Some.ensures.some c.in_ok-line.ensures.line in
+    IsOpenAt-line c.args.network.now c.args.node.now c.args.findings.now.best c.line_at.new.best line c.in-Some.candidate split c.in_ok-line.ensures.line in
     let first : (record { inside = c.set.new.self; upper = c.args.node.now.upper }) ≡ with_chosen c.args.node.now c.in-Some.candidate =
     child_with c.args.node.now c.in-Some.candidate c.set.new.self c.set.ensures in
     let second : (record { inside = c.set-2.new.self; upper = c.set-3.new.self }) ≡ without_chosen c.args.node.now c.in-Some.candidate =
@@ -76,14 +84,16 @@ explore-requires-2 g t c κs within =
     IsNode-same c.args.network.now (without_chosen c.args.node.now c.in-Some.candidate) (record { inside = c.set-2.new.self; upper = c.set-3.new.self }) second (IsNode-without c.args.network.now c.args.node.now c.in-Some.candidate node is_open) in
     let inherited = IsInherited-same c.args.network.now (without_chosen c.args.node.now c.in-Some.candidate) (record { inside = c.set-2.new.self; upper = c.set-3.new.self }) (record { chosen = None; none_shut = false; unmet = c.line_at.new.inherited.unmet }) second
     (IsInherited-without c.args.network.now c.args.node.now c.in-Some.candidate c.line_at.new.inherited.unmet c.line_at.ensures.inherited) in
-    (search rules, (within, (c.in_ok-explore.ensures.explored.added.started, (child, (inherited, (c.in_ok-explore.ensures.room, c.in_ok-explore.ensures.explored.done.kept))))))
+    (search rules, (within, (c.in_ok-explore.ensures.explored.added.started, (child, (inherited, (c.in_ok-explore.ensures.room, (c.in_ok-explore.ensures.explored.done.kept, c.in_ok-explore.ensures.cuts)))))))
 
 pub returns-in_err-explore-clause-refused : goal.returns-in_err-explore-clause-refused
 returns-in_err-explore-clause-refused g t c =
+    let line = line_of c.line_at.new.cuts c.in_ok-line.line in
+    let split = split_line c.line_at.new.cuts c.in_ok-line.line c.in-Some.candidate c.in-Some.ensures.some in
     let is_open : IsOpenAt c.args.network.now c.args.node.now c.in-Some.candidate =
-    IsOpenAt-line c.args.network.now c.args.node.now c.args.findings.now.best c.line_at.new.best c.in_ok-line.line c.in-Some.candidate c.in-Some.ensures.some c.in_ok-line.ensures.line in
+    IsOpenAt-line c.args.network.now c.args.node.now c.args.findings.now.best c.line_at.new.best line c.in-Some.candidate split c.in_ok-line.ensures.line in
     let added =
-    Adds-line c.args.name.now c.in_ok-line.line c.in-Some.candidate (g.H.Shelf.state c.args.shelf.now) (g.H.Shelf.state c.write_line.new.shelf) c.in-Some.ensures.some c.in_ok-write_line.ensures.added in
+    Adds-line c.args.name.now line c.in-Some.candidate (g.H.Shelf.state c.args.shelf.now) (g.H.Shelf.state c.write_line.new.shelf) split c.in_ok-write_line.ensures.added in
     let first : (record { inside = c.set.new.self; upper = c.args.node.now.upper }) ≡ with_chosen c.args.node.now c.in-Some.candidate =
     child_with c.args.node.now c.in-Some.candidate c.set.new.self c.set.ensures in
     let p = err_from_is_err_and c.from_residual-in_err-explore.result c.from_residual-in_err-explore.ensures.1 in
@@ -100,12 +110,14 @@ returns-in_err-explore-clause-refused g t c =
 
 pub returns-in_err-explore-2-clause-refused : goal.returns-in_err-explore-2-clause-refused
 returns-in_err-explore-2-clause-refused g t c =
+    let line = line_of c.line_at.new.cuts c.in_ok-line.line in
+    let split = split_line c.line_at.new.cuts c.in_ok-line.line c.in-Some.candidate c.in-Some.ensures.some in
     let is_open : IsOpenAt c.args.network.now c.args.node.now c.in-Some.candidate =
-    IsOpenAt-line c.args.network.now c.args.node.now c.args.findings.now.best c.line_at.new.best c.in_ok-line.line c.in-Some.candidate c.in-Some.ensures.some c.in_ok-line.ensures.line in
+    IsOpenAt-line c.args.network.now c.args.node.now c.args.findings.now.best c.line_at.new.best line c.in-Some.candidate split c.in_ok-line.ensures.line in
     let added =
-    Adds-line c.args.name.now c.in_ok-line.line c.in-Some.candidate (g.H.Shelf.state c.args.shelf.now) (g.H.Shelf.state c.write_line.new.shelf) c.in-Some.ensures.some c.in_ok-write_line.ensures.added in
+    Adds-line c.args.name.now line c.in-Some.candidate (g.H.Shelf.state c.args.shelf.now) (g.H.Shelf.state c.write_line.new.shelf) split c.in_ok-write_line.ensures.added in
     let same =
-    IsKept-line c.args.network.now c.args.node.now c.args.findings.now.best c.line_at.new.best c.in_ok-line.line c.in-Some.candidate c.in-Some.ensures.some c.in_ok-line.ensures.line in
+    IsKept-line c.args.network.now c.args.node.now c.args.findings.now.best c.line_at.new.best line c.in-Some.candidate split c.in_ok-line.ensures.line in
     let first : (record { inside = c.set.new.self; upper = c.args.node.now.upper }) ≡ with_chosen c.args.node.now c.in-Some.candidate =
     child_with c.args.node.now c.in-Some.candidate c.set.new.self c.set.ensures in
     let second : (record { inside = c.set-2.new.self; upper = c.set-3.new.self }) ≡ without_chosen c.args.node.now c.in-Some.candidate =
@@ -131,18 +143,20 @@ returns-in_err-explore-2-clause-refused g t c =
 
 pub returns-clause-explored : goal.returns-clause-explored
 returns-clause-explored g t c =
+    let line = line_of c.line_at.new.cuts c.in_ok-line.line in
+    let split = split_line c.line_at.new.cuts c.in_ok-line.line c.in-Some.candidate c.in-Some.ensures.some in
     let is_open : IsOpenAt c.args.network.now c.args.node.now c.in-Some.candidate =
-    IsOpenAt-line c.args.network.now c.args.node.now c.args.findings.now.best c.line_at.new.best c.in_ok-line.line c.in-Some.candidate c.in-Some.ensures.some c.in_ok-line.ensures.line in
+    IsOpenAt-line c.args.network.now c.args.node.now c.args.findings.now.best c.line_at.new.best line c.in-Some.candidate split c.in_ok-line.ensures.line in
     let added =
-    Adds-line c.args.name.now c.in_ok-line.line c.in-Some.candidate (g.H.Shelf.state c.args.shelf.now) (g.H.Shelf.state c.write_line.new.shelf) c.in-Some.ensures.some c.in_ok-write_line.ensures.added in
+    Adds-line c.args.name.now line c.in-Some.candidate (g.H.Shelf.state c.args.shelf.now) (g.H.Shelf.state c.write_line.new.shelf) split c.in_ok-write_line.ensures.added in
     let same =
-    IsKept-line c.args.network.now c.args.node.now c.args.findings.now.best c.line_at.new.best c.in_ok-line.line c.in-Some.candidate c.in-Some.ensures.some c.in_ok-line.ensures.line in
+    IsKept-line c.args.network.now c.args.node.now c.args.findings.now.best c.line_at.new.best line c.in-Some.candidate split c.in_ok-line.ensures.line in
     let first : (record { inside = c.set.new.self; upper = c.args.node.now.upper }) ≡ with_chosen c.args.node.now c.in-Some.candidate =
     child_with c.args.node.now c.in-Some.candidate c.set.new.self c.set.ensures in
     let second : (record { inside = c.set-2.new.self; upper = c.set-3.new.self }) ≡ without_chosen c.args.node.now c.in-Some.candidate =
     child_without c.args.network.now c.args.node.now c.explore.new.node c.in-Some.candidate c.set-2.new.self c.set-3.new.self is_open (c.in_ok-explore.ensures.node ∙ first) c.set-2.ensures c.set-3.ensures in
     let counted =
-    Counts-line c.args.findings.now.counts c.write_line.new.counts c.in_ok-line.line c.in-Some.candidate c.in-Some.ensures.some c.in_ok-write_line.ensures.counted in
+    Counts-line c.args.findings.now.counts c.write_line.new.counts line c.in-Some.candidate split c.in_ok-write_line.ensures.counted in
     Explores-split c.args.network.now c.args.node.now c.args.name.now c.in-Some.candidate
     c.args.findings.now.best c.explore.new.findings.best c.explore-2.new.findings.best
     c.args.findings.now.counts c.write_line.new.counts c.explore.new.findings.counts c.explore-2.new.findings.counts
@@ -164,14 +178,12 @@ returns-clause-explored g t c =
 
 pub returns-clause-node : goal.returns-clause-node
 returns-clause-node g t c =
+    let line = line_of c.line_at.new.cuts c.in_ok-line.line in
+    let split = split_line c.line_at.new.cuts c.in_ok-line.line c.in-Some.candidate c.in-Some.ensures.some in
     let is_open : IsOpenAt c.args.network.now c.args.node.now c.in-Some.candidate =
-    IsOpenAt-line c.args.network.now c.args.node.now c.args.findings.now.best c.line_at.new.best c.in_ok-line.line c.in-Some.candidate c.in-Some.ensures.some c.in_ok-line.ensures.line in
+    IsOpenAt-line c.args.network.now c.args.node.now c.args.findings.now.best c.line_at.new.best line c.in-Some.candidate split c.in_ok-line.ensures.line in
     let first : (record { inside = c.set.new.self; upper = c.args.node.now.upper }) ≡ with_chosen c.args.node.now c.in-Some.candidate =
     child_with c.args.node.now c.in-Some.candidate c.set.new.self c.set.ensures in
     let second : (record { inside = c.set-2.new.self; upper = c.set-3.new.self }) ≡ without_chosen c.args.node.now c.in-Some.candidate =
     child_without c.args.network.now c.args.node.now c.explore.new.node c.in-Some.candidate c.set-2.new.self c.set-3.new.self is_open (c.in_ok-explore.ensures.node ∙ first) c.set-2.ensures c.set-3.ensures in
     node_back c.args.network.now c.args.node.now c.explore-2.new.node c.in-Some.candidate c.set-4.new.self is_open (c.in_ok-explore-2.ensures.node ∙ second) c.set-4.ensures
-
-pub split_candidate-requires : goal.split_candidate-requires
-split_candidate-requires g t c = λ candidate is.
-    (IsOpenAt-line c.args.network.now c.args.node.now c.args.findings.now.best c.line_at.new.best c.in_ok-line.line candidate is c.in_ok-line.ensures.line).in_range

@@ -21,6 +21,13 @@ returns-in_err-room-clause-refused g c =
     (BreaksLog-nothing c.args.network.now c.args.name.now (g.H.Shelf.state c.args.shelf.now)
     (λ files held. g.met.H.Shelf.started_is_held c.args.shelf.now files c.args.name.now held c.requires.started))
 
+pub returns-in_err-cuts-clause-refused : goal.returns-in_err-cuts-clause-refused
+returns-in_err-cuts-clause-refused g c =
+    let p = err_from_is_err_and c.from_residual-in_err-cuts.result c.from_residual-in_err-cuts.ensures.1 in
+    rw (p.1, p.2)
+    (BreaksLog-nothing c.args.network.now c.args.name.now (g.H.Shelf.state c.args.shelf.now)
+    (λ files held. g.met.H.Shelf.started_is_held c.args.shelf.now files c.args.name.now held c.requires.started))
+
 pub returns-in_err-begin_log-clause-refused : goal.returns-in_err-begin_log-clause-refused
 returns-in_err-begin_log-clause-refused g c =
     let p = err_from_is_err_and c.from_residual-in_err-begin_log.result c.from_residual-in_err-begin_log.ensures.1 in

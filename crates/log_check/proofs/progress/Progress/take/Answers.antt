@@ -29,8 +29,8 @@ split-requires-clause-candidate c =
 
 pub returns-in-Split : goal.returns-in-Split
 returns-in-Split c = λ node rest is.
-    split_taken c.args.network.now node rest c.args.line c.in-Split.candidate c.args.self.now _ c.in-Split.is (c.split.ensures node rest is) refl (c.count_line.ensures ∙ ap (λ (k : LineKind). counts_with c.args.self.now.counts (k ∷ [])) c.kind.ensures) refl
+    split_taken c.args.network.now node rest c.args.line.now c.in-Split.candidate c.args.self.now _ c.in-Split.is (c.split.ensures node rest is) refl (c.count_line.ensures ∙ ap (λ (k : LineKind). counts_with c.args.self.now.counts (k ∷ [])) c.kind.ensures) refl
 
 pub returns-in-Leaf : goal.returns-in-Leaf
 returns-in-Leaf c = λ node rest is.
-    leaf_taken c.args.network.now node rest c.args.line c.in-Leaf.leaf c.args.self.now _ _ c.in-Leaf.is refl refl (c.count_line.ensures ∙ ap (λ (k : LineKind). counts_with c.args.self.now.counts (k ∷ [])) c.kind.ensures) refl (c.close.ensures node rest is)
+    leaf_taken c.args.network.now node rest c.args.line.now c.in-Leaf.leaf c.args.self.now _ _ c.in-Leaf.is refl refl (c.count_line.ensures ∙ ap (λ (k : LineKind). counts_with c.args.self.now.counts (k ∷ [])) c.kind.ensures) refl (c.close.ensures node rest is)

@@ -1,0 +1,5 @@
+use Rattle.branch_bound.specs.Cuts.{AreCutsFor}
+use Rattle.branch_bound.proofs.cuts.add_unit_cuts.Given as goal
+
+abbrev pub invariant-loop-unknown : goal.invariant-loop-unknown
+invariant-loop-unknown l = AreCutsFor l.fn.network l.pool

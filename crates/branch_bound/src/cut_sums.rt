@@ -1,0 +1,99 @@
+//! What the cuts of a pool reach under a plan, in one pass over narrow numbers. It only proposes: each
+//! cut that it proposes is tested exactly.
+ghost use Rattle.std.specs.Prelude.{◌≡◌, length};
+
+use cut_pool::CutPool;
+use geo_base::NoMemory;
+use geo_model::{Network, Plan};
+use std::alloc::Global;
+
+/// Coefficients are rounded up: so a plan may break a cut whose coefficients sum to more than its
+/// bound, by at most one for each of at most 256 candidates, and one for the bound.
+const SLACK: u32 = 257;
+
+/// The coefficients of the cuts of a pool, stored by candidate, and what they sum to under a plan.
+#[derive(Drop)]
+pub struct CutSums {
+    /// For each candidate its coefficient in each cut.
+    columns: Vec<Vec<u32>>,
+    bounds: Vec<u32>,
+    sums: Vec<u32>,
+}
+
+impl CutSums {
+    /// The sums of a pool under no candidates.
+    pub fn new(alloc: Global, network: &Network, pool: &CutPool) -> Result<CutSums, NoMemory> {
+        let mut columns = Vec::new(alloc);
+        for candidate in 0..network.candidates().len() {
+            columns.push(column_of(alloc, pool, candidate)?)?;
+        }
+        let sums = vec![in alloc; 0; pool.len() as usize]?;
+        let bounds = bounds_of(alloc, pool)?;
+        Ok(CutSums {
+            columns,
+            bounds,
+            sums,
+        })
+    }
+
+    /// Sums the coefficients of the candidates of a plan. It takes no memory.
+    pub fn take(&mut self, network: &Network, plan: &Plan)
+        requires { length plan.now ≡ length network.now.candidates }
+    {
+        for sum in self.sums.iter_mut() {
+            *sum = 0;
+        }
+        self.add_plan(network, plan);
+    }
+
+    // Adds the coefficients of the candidates of a plan.
+    fn add_plan(&mut self, network: &Network, plan: &Plan)
+        requires { length plan.now ≡ length network.now.candidates }
+    {
+        for candidate in 0..network.candidates().len() as u32 {
+            if plan.has(candidate) {
+                self.add_candidate(candidate);
+            }
+        }
+    }
+
+    // Adds the coefficients of a candidate.
+    fn add_candidate(&mut self, candidate: u32) {
+        if let Some(column) = self.columns.get(candidate as usize) {
+            add_column(self.sums.as_mut_slice(), column.as_slice());
+        }
+    }
+
+    /// Whether the plan may break the cut of a number: it does not where this is false.
+    pub fn may_break(&self, cut: u32) -> bool {
+        let at = cut as usize;
+        let bound = self.bounds.get(at).copied().unwrap_or(0);
+        self.sums.get(at).copied().unwrap_or(0) <= bound.saturating_add(SLACK)
+    }
+}
+
+// The coefficient of a candidate in each cut.
+fn column_of(alloc: Global, pool: &CutPool, candidate: usize) -> Result<Vec<u32>, NoMemory> {
+    let mut column = Vec::new(alloc);
+    for k in 0..pool.len() {
+        let coefficients = pool.get(k).coefficients.as_slice();
+        column.push(coefficients.get(candidate).copied().unwrap_or(0))?;
+    }
+    Ok(column)
+}
+
+// The bound of each cut.
+fn bounds_of(alloc: Global, pool: &CutPool) -> Result<Vec<u32>, NoMemory> {
+    let mut bounds = Vec::new(alloc);
+    for k in 0..pool.len() {
+        bounds.push(pool.get(k).bound)?;
+    }
+    Ok(bounds)
+}
+
+// Adds a column to sums.
+fn add_column(sums: &mut [u32], column: &[u32]) {
+    for (sum, coefficient) in sums.iter_mut().zip(column) {
+        *sum = sum.wrapping_add(*coefficient);
+    }
+}

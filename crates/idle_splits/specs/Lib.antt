@@ -1,0 +1,4 @@
+pub mod Idle
+pub mod NoIdle
+pub mod UnitCuts
+pub mod UnitShares

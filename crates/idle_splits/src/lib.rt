@@ -1,0 +1,20 @@
+//! Idle splits of a log: those that a verdict, a price or the dual bound of one cut makes needless,
+//! beside the bound of a leaf that stands before them.
+//!
+//! Proved: no split is idle, by a recursion on the log's tree, exactly where none of its lines in
+//! preorder is; what is idle beside a bound is idle beside a lower one; the test by the cuts of
+//! displacements by 1 in one unknown finds a share exactly where one makes a split idle, and takes
+//! no memory.
+//!
+//! Said by: `logs_without_idle_splits`, `idleness_falls`; `UnitCuts::new`, `dear_share`.
+#![tactic(auto)]
+
+mod dear;
+mod laws;
+mod unit_cuts;
+mod unit_share;
+
+pub use dear::dear_share;
+pub use laws::{idleness_falls, logs_without_idle_splits};
+pub use unit_cuts::UnitCuts;
+pub use unit_share::UnitShare;

@@ -1,0 +1,5 @@
+pub mod Zips
+pub mod StackLists
+pub mod Sessions
+pub mod Texts
+pub mod Lines

@@ -1,0 +1,5 @@
+pub mod Script
+pub mod Session
+pub mod TrialText
+pub mod Surveyed
+pub mod Stacks

@@ -1,0 +1,79 @@
+-- A session: a plan that changes, one candidate at a time, and goes back. This project's own.
+use Rattle.std.specs.Prelude.{ℕ, ◌+◌, ◌-◌, nat_lt, Bool, true, false, if◌then◌else◌, List, [], ◌∷◌, ◌++◌, length, take, get_or, slice_set, replicate, Option, Some, None}
+use Rattle.std.specs.Bool.{beq}
+use Rattle.trial.specs.declared.command.Command.{Command}
+use Rattle.trial.specs.declared.command.Command.TheVariants.{Change, Undo, Show, Unknown}
+use Rattle.trial.specs.declared.answer.Answer.{Answer}
+use Rattle.trial.specs.declared.answer.Answer.TheVariants as answer
+
+-- the plan; the plans before the changes that aren't taken back, the oldest first; and how often a plan was shown
+pub record SessionOf : Type 0 where
+  pub plan : List Bool
+  pub before : List (List Bool)
+  pub shows : ℕ
+
+-- at first the plan of no candidate, of so many
+abbrev pub first_session : ℕ → SessionOf
+first_session candidates = record { plan = replicate candidates false; before = []; shows = 0 }
+
+-- whether a plan chooses a candidate
+abbrev pub is_chosen : SessionOf → ℕ → Bool
+is_chosen session candidate = get_or session.plan candidate false
+
+-- ---- answers
+-- .. to a change: a candidate is chosen or left out, where it isn't yet and 32 changes aren't reached
+abbrev pub change_answer : SessionOf → Option ℕ → Bool → Answer
+change_answer session None chosen = answer.NoCandidate
+change_answer session (Some candidate) chosen =
+    if beq (is_chosen session candidate) chosen then (if chosen then answer.TakenAlready else answer.NotTaken)
+    else if nat_lt (length session.before) 32 then answer.Done
+    else answer.TooDeep
+
+abbrev pub undo_answer : List (List Bool) → Answer
+undo_answer [] = answer.NothingToUndo
+undo_answer (plan ∷ plans) = answer.Done
+
+abbrev pub show_answer : ℕ → Answer
+show_answer shows = if nat_lt shows 256 then answer.Shown else answer.TooManyShows
+
+abbrev pub answer_to : SessionOf → Command → Answer
+answer_to session (Change candidate chosen) = change_answer session candidate chosen
+answer_to session Undo = undo_answer session.before
+answer_to session Show = show_answer session.shows
+answer_to session Unknown = answer.NotACommand
+
+-- ---- what comes after
+-- the plan changes, and the one before it is kept
+abbrev pub changed : SessionOf → Option ℕ → Bool → SessionOf
+changed session None chosen = session
+changed session (Some candidate) chosen = record {
+  plan = slice_set session.plan candidate chosen;
+  before = session.before ++ session.plan ∷ [];
+  shows = session.shows;
+}
+
+-- the plan before the latest change is the plan again
+abbrev pub undone : SessionOf → SessionOf
+undone session = record {
+  plan = get_or session.before (length session.before - 1) session.plan;
+  before = take (length session.before - 1) session.before;
+  shows = session.shows;
+}
+
+abbrev pub shown : SessionOf → SessionOf
+shown session = record { plan = session.plan; before = session.before; shows = session.shows + 1 }
+
+-- the session after a command that is done; after one that is refused it is the same
+abbrev pub after_done : SessionOf → Command → SessionOf
+after_done session (Change candidate chosen) = changed session candidate chosen
+after_done session Undo = undone session
+after_done session Show = shown session
+after_done session Unknown = session
+
+abbrev pub is_done : Answer → Bool
+is_done answer.Done = true
+is_done answer.Shown = true
+is_done _ = false
+
+abbrev pub after : SessionOf → Command → SessionOf
+after session command = if is_done (answer_to session command) then after_done session command else session

@@ -1,0 +1,16 @@
+/// The answer to a command.
+#[derive(Clone, Copy, Debug, PartialEq, Eq)]
+pub enum Answer {
+    /// The plan is changed, or changed back.
+    Done,
+    NoCandidate,
+    TakenAlready,
+    NotTaken,
+    /// As many changes aren't taken back as there may be.
+    TooDeep,
+    NothingToUndo,
+    /// The plan is shown.
+    Shown,
+    TooManyShows,
+    NotACommand,
+}

@@ -1,0 +1,74 @@
+//! Which limit it is.
+ghost use Rattle.std.specs.Prelude.{◌≡◌, ◌++◌, [], get_or, OnOk};
+ghost use Rattle.std.specs.Fmt.{decimal};
+ghost use Rattle.candidate_tables.specs.CandidateTable as candidate;
+ghost use Rattle.point_tables.specs.PointTable as point;
+ghost use Rattle.trial.specs.Surveyed.{survey_of};
+ghost use Rattle.trial.specs.TrialText.{limit_text};
+
+use crate::survey::Survey;
+use candidate_tables::Candidates;
+use geo_base::NoMemory;
+use geo_model::LimitKind;
+use point_tables::Points;
+use text_num::put_whole;
+
+// The name of a point, and no bytes where there is no point of this number.
+fn point_name(points: &Points, place: u32) -> &[u8]
+    ensures { result.now ≡ get_or (point.names_of points.now) place [] }
+{
+    if place >= points.len() {
+        return b"";
+    }
+    points.get(place).name.bytes()
+}
+
+// The name of a candidate, and no bytes where there is no candidate of this number.
+fn candidate_name(candidates: &Candidates, place: u32) -> &[u8]
+    ensures { result.now ≡ get_or (candidate.names_of candidates.now) place [] }
+{
+    if place >= candidates.len() {
+        return b"";
+    }
+    candidates.get(place).name.bytes()
+}
+
+/// Appends the digits of a count.
+#[tactic(auto, unfolding(text_num::specs::Whole::whole_text))]
+pub fn put_count(text: &mut Vec<u8>, count: u64) -> Result<(), NoMemory>
+    ensures { OnOk result (text.new.items ≡ text.old.items ++ decimal count) }
+{
+    put_whole(text, i128::from(count))
+}
+
+/// Appends which limit it is.
+#[tactic(auto, unfolding(crate::specs::TrialText::limit_text))]
+pub fn put_limit_name(
+    text: &mut Vec<u8>,
+    survey: &Survey<'_>,
+    kind: LimitKind,
+) -> Result<(), NoMemory>
+    ensures { OnOk result (text.new.items ≡ text.old.items ++ limit_text (survey_of survey.now) kind) }
+{
+    match kind {
+        LimitKind::Axis(place) => {
+            text.extend_from_slice(b"axis,")?;
+            text.extend_from_slice(point_name(survey.points, place))?;
+        }
+        LimitKind::Height(place) => {
+            text.extend_from_slice(b"height,")?;
+            text.extend_from_slice(point_name(survey.points, place))?;
+        }
+        LimitKind::Redundancy(owner, row) => {
+            text.extend_from_slice(b"redundancy,")?;
+            text.extend_from_slice(candidate_name(survey.candidates, owner))?;
+            text.extend_from_slice(b",")?;
+            put_count(text, u64::from(row) + 1)?;
+        }
+        LimitKind::Added(number) => {
+            text.extend_from_slice(b"added,")?;
+            put_count(text, u64::from(number))?;
+        }
+    }
+    Ok(())
+}

@@ -1,0 +1,96 @@
+//! A script, line by line.
+ghost use Rattle.std.specs.Prelude.{◌≡◌, ◌++◌, length, IfOk, OnOk};
+ghost use Rattle.point_tables.specs.PointTable as point;
+ghost use Rattle.candidate_tables.specs.CandidateTable as candidate;
+ghost use Rattle.trial.specs.Script.{command_of};
+ghost use Rattle.trial.specs.Session.{after};
+ghost use Rattle.trial.specs.Stacks.{session_of, IsSessionOf};
+ghost use Rattle.trial.specs.Surveyed.{survey_of};
+ghost use Rattle.trial.specs.TrialText.{answer_text, line_text, trial_text};
+
+use crate::answer::Answer;
+use crate::command::{Command, body_of};
+use crate::session::Session;
+use crate::shown::put_plan;
+use crate::survey::Survey;
+use candidate_tables::Candidates;
+use geo_base::NoMemory;
+use geo_model::Network;
+use lent_parts::lines;
+use point_tables::Points;
+use std::alloc::Global;
+
+// Appends the text of an answer.
+#[tactic(auto, unfolding(crate::specs::TrialText::answer_text))]
+fn put_answer(
+    text: &mut Vec<u8>,
+    survey: &Survey<'_>,
+    session: &Session,
+    answer: Answer,
+) -> Result<(), NoMemory>
+    requires { IsSessionOf survey.now.network.now session.now }
+    ensures { OnOk result (text.new.items ≡ text.old.items ++ answer_text (survey_of survey.now) session.now.plan answer) }
+{
+    match answer {
+        Answer::Done => text.extend_from_slice(b"ok\n")?,
+        Answer::NoCandidate => text.extend_from_slice(b"no candidate\n")?,
+        Answer::TakenAlready => text.extend_from_slice(b"taken already\n")?,
+        Answer::NotTaken => text.extend_from_slice(b"not taken\n")?,
+        Answer::TooDeep => text.extend_from_slice(b"too deep\n")?,
+        Answer::NothingToUndo => text.extend_from_slice(b"nothing to undo\n")?,
+        Answer::Shown => put_plan(text, survey, session)?,
+        Answer::TooManyShows => text.extend_from_slice(b"too many shows\n")?,
+        Answer::NotACommand => text.extend_from_slice(b"not a command\n")?,
+    }
+    Ok(())
+}
+
+// Appends the answer to a line, and does what it asks for.
+fn put_line(
+    alloc: Global,
+    text: &mut Vec<u8>,
+    survey: &Survey<'_>,
+    session: &mut Session,
+    line: &[u8],
+) -> Result<(), NoMemory>
+    requires named { length survey.now.candidates.now ≡ length survey.now.network.now.candidates }
+    requires made { IsSessionOf survey.now.network.now session.old }
+    ensures text { OnOk result (text.new.items ≡ text.old.items ++ line_text (survey_of survey.now) (session_of session.old) line.now) }
+    ensures after { OnOk result (session_of session.new ≡ after (session_of session.old) (command_of (candidate.names_of survey.now.candidates.now) line.now)) }
+    ensures made { OnOk result (IsSessionOf survey.now.network.now session.new) }
+{
+    let command = Command::read(survey.candidates, line);
+    let answer = session.obey(alloc, survey.network, command)?;
+    put_answer(text, survey, session, answer)
+}
+
+/// The answers to a script, of the network of these tables: a line each, and for `show` the price of
+/// the plan and a line for each limit in force. A script is cut into lines at LF, or CR and LF; the
+/// last line needs no end, and an empty one has no answer. The plan is empty at first, and at most 32
+/// changes are kept; it is shown 256 times at most. Refused for want of memory alone. The form of a
+/// script and of the text is this project's own.
+pub fn run(
+    alloc: Global,
+    points: &Points,
+    candidates: &Candidates,
+    network: &Network,
+    script: &[u8],
+) -> Result<Vec<u8>, NoMemory>
+    requires { length candidates.now ≡ length network.now.candidates }
+    ensures { IfOk result (λ text. text.items ≡ trial_text (record { points = point.names_of points.now; candidates = candidate.names_of candidates.now; network = network.now }) script.now) }
+{
+    let survey = Survey {
+        points,
+        candidates,
+        network,
+    };
+    let mut session = Session::new(alloc, network)?;
+    let mut text = Vec::new(alloc);
+    for line in lines(script) {
+        let body = body_of(&line);
+        if !body.is_empty() {
+            put_line(alloc, &mut text, &survey, &mut session, body)?;
+        }
+    }
+    Ok(text)
+}
