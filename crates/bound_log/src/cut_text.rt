@@ -16,7 +16,8 @@ pub struct CutText<'a> {
 
 impl<'a> Model for CutText<'a> {
     ghost use Rattle.bound_log.specs.CutText.{CutTextOf};
-    ghost use Rattle.bound_log.specs.CutReading.{CanRead, pairs_in, words_in};
+    ghost use Rattle.bound_log.specs.CutReading.{CanRead, pairs_in};
+    ghost use Rattle.bound_log.specs.Reading.{words_in};
 
     ghost Value = { CutTextOf };
 
@@ -27,7 +28,8 @@ impl<'a> Model for CutText<'a> {
 
 impl<'a> CutText<'a> {
     ghost use Rattle.std.specs.Prelude.{◌≡◌, length};
-    ghost use Rattle.bound_log.specs.CutReading.{CanRead, pairs_in, words_in};
+    ghost use Rattle.bound_log.specs.CutReading.{CanRead, pairs_in};
+    ghost use Rattle.bound_log.specs.Reading.{words_in};
 
     /// The cut of a limit with so many pairs, of which this is the text.
     pub(crate) fn of(limit: u64, count: u64, spelled: &'a [u8]) -> CutText<'a>

@@ -17,6 +17,8 @@ mod count;
 mod cut_line;
 mod cut_text;
 mod cut_words;
+mod dual_line;
+mod dual_text;
 mod grammar_laws;
 mod laws;
 mod line;
@@ -25,6 +27,7 @@ mod log_kind;
 mod log_leaf;
 mod log_line;
 mod next_cut;
+mod next_dual;
 mod number;
 mod read;
 mod tree_laws;
@@ -33,6 +36,8 @@ pub use bound::Bound;
 pub use count::{count_line, lines_are_counted_on};
 pub use cut_line::put_cut;
 pub use cut_text::{CutText, Pairs};
+pub use dual_line::put_dual;
+pub use dual_text::{ShareTexts, Shares};
 pub use grammar_laws::{a_text_is_one_line, numbers_are_numerals, written_lines_are_read};
 pub use laws::checker_is_sound;
 pub use line::{is_head, put_cost, put_head, put_line, put_pivot, put_split};
@@ -43,5 +48,6 @@ pub use log_line::LogLine;
 pub use read::read_line;
 pub use tree_laws::{
     a_text_has_one_bound, a_text_has_one_tree, a_text_is_spelled, cuts_keep_their_displacements,
-    lines_are_allowed_by_their_kinds, rules_say_what_is_allowed, trees_are_allowed_line_by_line,
+    duals_keep_their_shares, lines_are_allowed_by_their_kinds, rules_say_what_is_allowed,
+    trees_are_allowed_line_by_line,
 };

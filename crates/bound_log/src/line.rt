@@ -5,6 +5,7 @@ ghost use Rattle.bound_log.specs.declared.log_leaf.LogLeaf.TheVariants as log_le
 ghost use Rattle.bound_log.specs.declared.log_line.LogLine.TheVariants as log_line;
 
 use crate::cut_line::put_cut_text;
+use crate::dual_line::put_dual_text;
 use crate::log_leaf::LogLeaf;
 use crate::log_line::LogLine;
 use geo_base::NoMemory;
@@ -46,6 +47,7 @@ pub fn put_line(out: &mut Vec<u8>, line: &LogLine<'_>) -> Result<(), NoMemory>
             put_words(out, b"p ", buffer.format(*limit).as_bytes())
         }
         LogLine::Leaf(LogLeaf::Cut(cut)) => put_cut_text(out, cut),
+        LogLine::Leaf(LogLeaf::Dual(divisor, shares)) => put_dual_text(out, *divisor, shares),
     }
 }
 
