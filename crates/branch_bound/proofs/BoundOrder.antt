@@ -2,7 +2,7 @@ use Rattle.std.proofs.Common.{◌≡◌, arith, refl, ap}
 use Rattle.bound_log.specs.declared.bound.Bound.{Bound}
 use Rattle.bound_log.specs.declared.bound.Bound.TheVariants.{NoPlan, AtLeast}
 use Rattle.bound_log.specs.Bound.{lesser}
-use Rattle.branch_bound.specs.Found.{IsNoMore}
+use Rattle.idle_splits.specs.Idle.{IsNoMore}
 
 -- The order of bounds.
 

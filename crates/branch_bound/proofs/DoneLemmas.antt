@@ -8,19 +8,24 @@ use Rattle.geo_model.specs.Limit.{IsInForce}
 use Rattle.geo_model.specs.Network.{NetworkOf, IsNetwork, IsLimit}
 use Rattle.geo_model.specs.declared.plan.Node.{Node}
 use Rattle.geo_model.specs.declared.verdict.Verdict.TheVariants.{Met}
-use Rattle.geo_model.proofs.PriceLemmas.{plan_price-grows}
+use Rattle.geo_model.proofs.PriceLemmas.{plan_price-grows, network_stations}
 use Rattle.geo_model.proofs.PlanLemmas.{IsWithin-with, IsWithin-without, IsWithin-length}
 use Rattle.pivot_chain.specs.Verdict.{verdict_of}
-use Rattle.pivot_chain.proofs.Verdicts.{met_sound, refuted_fails}
+use Rattle.pivot_chain.proofs.Verdicts.{certified_meets, met_sound, refuted_fails}
 use Rattle.bound_log.specs.declared.bound.Bound.{Bound}
 use Rattle.bound_log.specs.declared.bound.Bound.TheVariants.{NoPlan, AtLeast}
-use Rattle.bound_log.specs.Bound.{lesser}
+use Rattle.bound_log.specs.Bound.{IsAtMost, lesser}
 use Rattle.bound_log.specs.CutText.{CutTextOf, displaced_by}
-use Rattle.bound_log.specs.LogTree.{IsBrokenBy, IsOpenAt, IsRefutedBy, with_chosen, without_chosen}
-use Rattle.bound_log.proofs.SoundLemmas.{IsInForce-grows, at_place, broken_fails}
+use Rattle.bound_log.specs.LogTree.{IsBrokenBy, IsOpenAt, IsRefutedBy, leaf_bound, with_chosen, without_chosen}
+use Rattle.bound_log.specs.Rules.{IsAllowedLine}
+use Rattle.bound_log.specs.Tree.{tip}
+use Rattle.bound_log.specs.declared.log_leaf.LogLeaf.{LogLeaf}
+use Rattle.bound_log.specs.declared.log_line.LogLine.TheVariants.{Leaf}
+use Rattle.bound_log.proofs.SoundLemmas.{IsInForce-grows, at_place, bound_for-below, broken_fails}
+use Rattle.idle_splits.specs.Idle.{IsNoMore}
 use Rattle.branch_bound.specs.declared.best.Best.{Best}
 use Rattle.branch_bound.specs.declared.best.Best.TheVariants as best
-use Rattle.branch_bound.specs.Found.{best_bound, IsKept, IsCovered, IsBelow, IsNoMore, IsDone}
+use Rattle.branch_bound.specs.Found.{best_bound, IsKept, IsCovered, IsBelow, IsPast, IsDone}
 use Rattle.branch_bound.specs.Searched.{IsCertified, IsUnsettled}
 use Rattle.branch_bound.proofs.BoundOrder.{no_more_same, no_more_then, no_more_both, lesser_left, lesser_right}
 
@@ -82,6 +87,28 @@ IsDone-stays network node bound found kept price covered = record {
   covered = covered;
   still = λ other was. was;
 }
+
+-- what is no less than a price past the best plan is past it
+past_more : (network : NetworkOf) (found : Best) (price more : ℕ) → price ≤ more → IsPast network found price → IsPast network found more
+past_more network best.NoPlan price more le past = past
+past_more network (best.Certified plan) price more le past = omega (arith, le, past)
+past_more network (best.Unsettled plan) price more le past = omega (arith, le, past)
+
+past_price : (network : NetworkOf) (found : Best) (price : ℕ) → IsPast network found price → IsNoMore (best_bound network found) (AtLeast price)
+past_price network best.NoPlan price past = absurd past
+past_price network (best.Certified plan) price past = past
+past_price network (best.Unsettled plan) price past = less_than_bound (price_of network plan) price past
+
+-- a node is cut off by the bound of a leaf
+pub IsDone-past : (network : NetworkOf) (node : Node) (end : LogLeaf) (price : ℕ) (found : Best) → IsNetwork network → IsKept network found →
+    IsAllowedLine network node (Leaf end) → leaf_bound network node end ≡ AtLeast price → IsPast network found price →
+    IsDone network node (leaf_bound network node end) found found
+IsDone-past network node end price found bounds kept allowed is past =
+    IsDone-stays network node (leaf_bound network node end) found kept (subst (λ b. IsNoMore (best_bound network found) b) (sym is) (past_price network found price past))
+    (λ other certified above below.
+    let least : IsAtMost (leaf_bound network node end) (price_of network other) =
+    bound_for-below (prices_of network) network node (tip end) (network_stations network bounds) bounds allowed other above below (certified_meets network other bounds certified.certified) in
+    past_more network found price (price_of network other) (subst (λ b. IsAtMost b (price_of network other)) is least) past)
 
 -- a node is cut off by its price
 pub IsDone-cut_off : (network : NetworkOf) (node : Node) (found : Best) → IsKept network found → IsCovered network found node.inside →

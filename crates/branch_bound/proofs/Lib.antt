@@ -4,6 +4,7 @@ pub mod VerdictLemmas
 pub mod BoundOrder
 pub mod DoneLemmas
 pub mod CutLemmas
+pub mod DearLemmas
 pub mod InheritedLemmas
 pub mod ExploreLemmas
 pub mod SearchLemmas

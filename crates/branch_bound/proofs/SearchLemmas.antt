@@ -8,6 +8,7 @@ use Rattle.geo_model.specs.declared.answer.Counts.{Counts}
 use Rattle.geo_model.specs.declared.answer.SearchDone.{SearchDone}
 use Rattle.geo_model.specs.declared.plan.Node.{Node}
 use Rattle.geo_model.proofs.PlanLemmas.{IsWithin-none, IsWithin-all}
+use Rattle.geo_model.proofs.PriceLemmas.{network_stations}
 use Rattle.pivot_chain.proofs.Verdicts.{certified_meets}
 use Rattle.bound_log.specs.declared.bound.Bound.{Bound}
 use Rattle.bound_log.specs.declared.bound.Bound.TheVariants.{NoPlan, AtLeast}
@@ -21,13 +22,16 @@ use Rattle.bound_log.specs.LogText.{head_text, lines_text, log_text}
 use Rattle.bound_log.specs.LogTree.{root_of, IsAllowed, bound_at}
 use Rattle.bound_log.specs.declared.log_leaf.LogLeaf.TheVariants.{Cost}
 use Rattle.bound_log.specs.Tree.{Tree, tip, tree_lines}
+use Rattle.idle_splits.specs.NoIdle.{HasNoIdle}
+use Rattle.idle_splits.proofs.Lines.{tree_to_splits}
 use Rattle.branch_bound.specs.declared.search_fault.SearchFault.{SearchFault}
 use Rattle.branch_bound.specs.declared.search_fault.SearchFault.TheVariants as fault
+use Rattle.idle_splits.specs.Idle.{IsNoMore}
 use Rattle.branch_bound.specs.declared.best.Best.{Best}
 use Rattle.branch_bound.specs.declared.best.Best.TheVariants as best
 use Rattle.shelf_io.specs.States.{ShelfState}
 use Rattle.branch_bound.specs.Explored.{Adds, Breaks, Explores, BreaksOff}
-use Rattle.branch_bound.specs.Found.{IsDone, IsAnswerOf, IsKept, IsNoMore, IsStart}
+use Rattle.branch_bound.specs.Found.{IsDone, IsAnswerOf, IsKept, IsStart}
 use Rattle.branch_bound.specs.Logged.{Searches, BreaksLog}
 use Rattle.branch_bound.specs.Searched.{IsAnswer, IsCertified}
 use Rattle.branch_bound.proofs.BoundOrder.{no_more_twice}
@@ -79,7 +83,7 @@ certified_price : (network : NetworkOf) (tree : Tree) (plan : List Bool) → IsN
 certified_price network tree plan bounds allowed certified price =
     no_more_twice (bound_at network (root_of network) tree) (AtLeast (price_of network plan))
     (at_most_no_more (bound_at network (root_of network) tree) (price_of network plan)
-    (bound_for-below (prices_of network) network (root_of network) tree bounds allowed plan (root_above network plan certified.long) (root_below network plan certified.long)
+    (bound_for-below (prices_of network) network (root_of network) tree (network_stations network bounds) bounds allowed plan (root_above network plan certified.long) (root_below network plan certified.long)
     (certified_meets network plan bounds certified.certified)))
     price
 
@@ -126,6 +130,7 @@ Searches-done network node name found found_now counts counts_now done before mi
       searched = record {
         allowed = allowed;
         counted = counted_all ∙ explored.counted ∙ ap (λ c. counts_with c (map kind_of (tree_lines explored.tree))) none_counted;
+        no_idle = tree_to_splits network (root_of network) explored.tree (subst (λ (n : Node). HasNoIdle network n NoPlan explored.tree) root (explored.no_idle NoPlan tt));
         answered = answer_fits network explored.tree found found_now done.answer bounds allowed begun
             (subst (λ (n : Node). IsDone network n (bound_at network n explored.tree) found found_now) root explored.done)
             answered;

@@ -7,6 +7,7 @@ use Rattle.geo_model.specs.declared.answer.Answer.TheVariants as answer
 use Rattle.geo_model.specs.declared.plan.Node.{Node}
 use Rattle.bound_log.specs.declared.bound.Bound.{Bound}
 use Rattle.bound_log.specs.declared.bound.Bound.TheVariants.{NoPlan, AtLeast}
+use Rattle.idle_splits.specs.Idle.{IsNoMore}
 use Rattle.branch_bound.specs.declared.best.Best.{Best}
 use Rattle.branch_bound.specs.declared.best.Best.TheVariants as best
 use Rattle.branch_bound.specs.Searched.{IsCertified, IsUnsettled, IsFirstOpen}
@@ -25,22 +26,20 @@ IsKept network best.NoPlan = Unit {0}
 IsKept network (best.Certified plan) = IsCertified network plan
 IsKept network (best.Unsettled plan) = IsUnsettled network plan
 
--- a plan is covered by the best one: it costs no less, and where the best one is unsettled it costs more
+-- a price is past the best plan: it is no less than the best one's, and more where that is unsettled
+abbrev pub IsPast : NetworkOf → Best → ℕ → Type 0
+IsPast network best.NoPlan price = ⊥
+IsPast network (best.Certified plan) price = price_of network plan ≤ price
+IsPast network (best.Unsettled plan) price = price_of network plan < price
+
+-- a plan is covered by the best one: its price is past it
 abbrev pub IsCovered : NetworkOf → Best → List Bool → Type 0
-IsCovered network best.NoPlan other = ⊥
-IsCovered network (best.Certified plan) other = price_of network plan ≤ price_of network other
-IsCovered network (best.Unsettled plan) other = price_of network plan < price_of network other
+IsCovered network found other = IsPast network found (price_of network other)
 
 -- a price is below a bound
 abbrev pub IsBelow : ℕ → Bound → Type 0
 IsBelow price NoPlan = Unit {0}
 IsBelow price (AtLeast least) = price < least
-
--- a bound is no more than another one
-abbrev pub IsNoMore : Bound → Bound → Type 0
-IsNoMore lower NoPlan = Unit {0}
-IsNoMore NoPlan (AtLeast b) = ⊥
-IsNoMore (AtLeast a) (AtLeast b) = a ≤ b
 
 -- The best plan is brought up to the plans of a node, for which a log proves this bound: its price is no more than the
 -- bound, nor than that of the best plan before, and where it isn't the best plan before the bound is no more than its

@@ -107,6 +107,7 @@ fn explore<H: Shelf>(
         &mut findings.cuts,
     )?;
     write_line(
+        alloc,
         shelf,
         name,
         &mut findings.buffer,
