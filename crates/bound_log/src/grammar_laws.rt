@@ -17,8 +17,8 @@ pub fn a_text_is_one_line()
     ensures { (text : List ℕ) (a b : LineOf) → IsLine text a → IsLine text b → a ≡ b }
 {}
 
-/// What a call that puts a line of numbers of at most 19 digits appends is in the grammar, without its
-/// LF, as the same line; and such lines one after another are cut into these lines.
+/// What a call that puts a line of numbers of at most 19 digits appends is in the grammar, without
+/// its LF, as the same line; and such lines one after another are cut into these lines.
 pub fn written_lines_are_read()
     ensures ended { (line : LineOf) → line_text line ≡ line_body line ++ line_end }
     ensures read { (line : LineOf) → HasNumbersBelow number_bound line → IsLine (line_body line) line }
