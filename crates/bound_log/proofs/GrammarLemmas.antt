@@ -1,8 +1,8 @@
 -- Lines, their texts and their words.
-use Rattle.std.proofs.Common.{◌≡◌, ◌==◌, if◌then◌else◌, ℕ, ◌<◌, ◌^◌, true, false, List, [], ◌∷◌, ◌++◌, map, All, arith, refl, ap, ap₂, sym, ◌∙◌, append-nil, append_assoc}
+use Rattle.std.proofs.Common.{◌≡◌, ◌==◌, if◌then◌else◌, ℕ, ◌<◌, true, false, List, [], ◌∷◌, ◌++◌, map, All, arith, refl, ap, ap₂, sym, ◌∙◌, append-nil, append_assoc}
 use Rattle.std.specs.Fmt.{decimal}
 use Rattle.std.specs.Int.{IsInRange}
-use Rattle.std.specs.List.{AllByRecursion, join_with_byte}
+use Rattle.std.specs.List.{join_with_byte}
 use Rattle.std.specs.Str.Parse.{digits_value}
 use Rattle.std.proofs.lemmas.Bool.{ne_eqb}
 use Rattle.std.proofs.lemmas.List.{same_from_push}
@@ -10,7 +10,6 @@ use Rattle.std.proofs.lemmas.List.Elements.{All-append, All-nil, All-cons, All-h
 use Rattle.lent_parts.specs.Pieces.{is_space, space, is_line_feed, tokens_of, lines_of}
 use Rattle.lent_parts.proofs.PieceLemmas.{tokens_of-joined, tokens_of-only, lines_of-more}
 use Rattle.bound_log.specs.Grammar.{number_bound, HasNumbersBelow, IsLine, text_line}
-use Rattle.bound_log.specs.Lines.{numbers_of}
 use Rattle.bound_log.specs.LogLines.{words_of, WordsBeginWith}
 use Rattle.bound_log.specs.LogText.{line_words, line_body, line_text, line_end, lines_text}
 use Rattle.bound_log.specs.declared.log_leaf.LogLeaf.TheVariants.{Cost, Pivot, Cut, Dual}
@@ -207,11 +206,3 @@ lines_of-lines_text [] small = refl
 lines_of-lines_text (line ∷ lines) small =
     lines_of-line_text line (lines_text lines) (All-head (HasNumbersBelow number_bound) line lines small)
     ∙ ap (λ rest. text_line line ∷ rest) (lines_of-lines_text lines (All-tail (HasNumbersBelow number_bound) line lines small))
-
--- a bound on numbers may be raised
-shorter : (numbers : List ℕ) → AllByRecursion (λ number. number < 2 ^ 32) numbers → AreShort numbers
-shorter [] small = tt
-shorter (number ∷ numbers) small = (omega (arith, small.0), shorter numbers small.1)
-
-pub HasNumbersBelow-32 : (line : LogLine) → HasNumbersBelow (2 ^ 32) line → HasNumbersBelow number_bound line
-HasNumbersBelow-32 line small = shorter (numbers_of line) small

@@ -87,7 +87,7 @@ IsAllowed network node (fork candidate with_it without_it) =
     IsAllowed network (with_chosen node candidate) with_it ×
     IsAllowed network (without_chosen node candidate) without_it
 
--- the bound of a leaf at a node under these prices: the price of the inner plan, the dual bound of shares, or that no plan is left
+-- the bound of a leaf at a node under these prices: the price of the inner plan, a dual bound, or that no plan is left
 unfoldable pub leaf_bound_for : PricesOf → NetworkOf → Node → LogLeaf → Bound
 leaf_bound_for prices network node Cost = AtLeast (plan_price prices node.inside)
 leaf_bound_for prices network node (Pivot limit) = NoPlan

@@ -4,9 +4,9 @@ use crate::cut_words::next_pair;
 use lent_parts::{TokenWalk, tokens};
 use std::marker::Model;
 
-/// A cut as a line of a log spells it, lent from the line: the number of a limit, and each unknown that
-/// a displacement moves, by its number, with how far. Contracts see it as a record of these, as they
-/// stand in the line, in their ranges or not.
+/// A cut as a line of a log spells it, lent from the line: the number of a limit, and each unknown
+/// that a displacement moves, by its number, with how far. Contracts see it as a record of these,
+/// as they stand in the line, in their ranges or not.
 #[derive(Debug, Drop)]
 pub struct CutText<'a> {
     limit: u64,
@@ -57,8 +57,8 @@ impl<'a> CutText<'a> {
         self.count
     }
 
-    /// The unknowns that the displacement moves, by their numbers from 0, with how far, in the order of
-    /// the line. It takes no memory.
+    /// The unknowns that the displacement moves, by their numbers from 0, with how far, in the
+    /// order of the line. It takes no memory.
     pub fn pairs(&self) -> Pairs<'a>
         ensures { result ≡ self.now.pairs }
     {

@@ -12,10 +12,10 @@ use crate::dual_text::{ShareTexts, Shares};
 use cut_pool::{CutPool, Share};
 use geo_base::NoMemory;
 
-/// Appends the line of a leaf whose bound is the dual bound of the divisor `d` and these shares, each
-/// of a cut of the pool: each share's multiplier, and its cut's limit and displacement. A line that is
-/// to be read again has a divisor and multipliers from 1 to 2^44, and at most 64 shares. Refused, `out`
-/// is as before.
+/// Appends the line of a leaf whose bound is the dual bound of the divisor `d` and these shares,
+/// each of a cut of the pool: each share's multiplier, and its cut's limit and displacement. A log
+/// wants a divisor and multipliers from 1 to 2^44, and at most 64 shares. Refused, `out` is as
+/// before.
 pub fn put_dual(out: &mut Vec<u8>, d: u64, shares: &[Share], pool: &CutPool) -> Result<(), NoMemory>
     requires { All (λ share. share.cut < length pool.now) shares.now }
     ensures put { OnOk result (out.new.items ≡ out.old.items ++ line_text (log_line.Leaf (log_leaf.Dual d (texts_of_shares pool.now shares.now)))) }

@@ -5,8 +5,9 @@ use crate::next_dual::next_share;
 use lent_parts::{TokenWalk, tokens};
 use std::marker::Model;
 
-/// The shares of a dual bound as a line of a log spells them, lent from the line: each a multiplier and
-/// a cut. Contracts see them as a list of these, as they stand in the line, in their ranges or not.
+/// The shares of a dual bound as a line of a log spells them, lent from the line: each a multiplier
+/// and a cut. Contracts see them as a list of these, as they stand in the line, in their ranges or
+/// not.
 #[derive(Debug, Drop)]
 pub struct Shares<'a> {
     count: u64,
@@ -57,8 +58,8 @@ impl<'a> Shares<'a> {
     }
 }
 
-/// The shares of a dual bound that are left. Contracts see it as their list. That they can be read is
-/// its invariant.
+/// The shares of a dual bound that are left. Contracts see it as their list. That they can be read
+/// is its invariant.
 #[derive(Debug, Drop)]
 pub struct ShareTexts<'a> {
     left: u64,

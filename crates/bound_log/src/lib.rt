@@ -2,12 +2,14 @@
 //! this is a lower bound for any text whatever.
 //!
 //! Proved: a line is read exactly where it is in the grammar, as the one line that it spells; what
-//! a put call appends reads back; a text has at most one tree of numbers of at most 19 digits, and
-//! as a log of a network at most one bound; the bound of any text is at most the price of every
-//! plan that meets the limits, whoever wrote it.
+//! a put call appends reads back; cuts and shares of a pool keep their displacements and their
+//! covering inequalities in the text; a text has at most one tree of numbers of at most 19 digits,
+//! and as a log of a network at most one bound; the bound of any text is at most the price of every
+//! plan that meets the limits, whoever wrote it and whatever the prices.
 //!
 //! Said by: `read_line`, `a_text_is_one_line`, `numbers_are_numerals`, `written_lines_are_read`;
-//! `a_text_has_one_tree`, `a_text_is_spelled`, `a_text_has_one_bound`; `checker_is_sound`.
+//! `cuts_keep_their_displacements`, `duals_keep_their_shares`; `a_text_has_one_tree`,
+//! `a_text_is_spelled`, `a_text_has_one_bound`; `checker_is_sound`.
 //!
 //! Caller: `take_at_node` of `log_check/src/taking.rt`.
 #![tactic(auto)]

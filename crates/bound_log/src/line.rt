@@ -67,7 +67,8 @@ pub fn put_split(out: &mut Vec<u8>, c: u32) -> Result<(), NoMemory>
     put_line(out, &LogLine::Split(c as u64))
 }
 
-/// Appends the line of a leaf whose bound is the price of what is chosen. Refused, `out` is as before.
+/// Appends the line of a leaf whose bound is the price of what is chosen. Refused, `out` is as
+/// before.
 pub fn put_cost(out: &mut Vec<u8>) -> Result<(), NoMemory>
     ensures put { OnOk result (out.new.items ≡ out.old.items ++ line_text (log_line.Leaf log_leaf.Cost)) }
     ensures refused { OnErr result (out.new.items ≡ out.old.items) }

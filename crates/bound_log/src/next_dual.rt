@@ -39,8 +39,8 @@ fn take_shares(words: &mut TokenWalk<'_>, count: u64) -> bool
     true
 }
 
-// Takes the words of a dual bound, its divisor and its shares, which are lent from them. On None some
-// may be taken.
+// Takes the words of a dual bound, its divisor and its shares, which are lent from them. On None
+// some may be taken.
 pub fn next_dual<'a>(words: &mut TokenWalk<'a>) -> Option<(u64, Shares<'a>)>
     ensures some { IfSome result (λ dual. DualBegins (words_of words.old) dual.0 dual.1 (words_of words.new)) }
     ensures none { IfNone result ((divisor : ℕ) (shares : List (ℕ × CutTextOf)) (after : List (List ℕ)) → DualBegins (words_of words.old) divisor shares after → ⊥) }

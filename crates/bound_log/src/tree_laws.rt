@@ -46,10 +46,10 @@ pub fn trees_are_allowed_line_by_line()
     ensures lines { (node : Node) (tree : Tree) → map (λ at. at.1) (placed node tree) ≡ tree_lines tree }
 {}
 
-/// What each kind of line wants of its node: a split an open candidate, a leaf of the price nothing,
-/// a leaf that names a limit that this limit refutes the node, a leaf that names a displacement that
-/// it breaks its limit for all plans of the node, and a leaf of a dual bound that the limit of each
-/// share is in force for all plans of the node.
+/// What each kind of line wants of its node: a split an open candidate, a leaf of the price
+/// nothing, a leaf that names a limit that this limit refutes the node, a leaf that names a
+/// displacement that it breaks its limit for all plans of the node, and a leaf of a dual bound that
+/// the limit of each share is in force for all plans of the node.
 pub fn lines_are_allowed_by_their_kinds()
     ensures split { (network : NetworkOf) (node : Node) (candidate : ℕ) → IsAllowedLine network node (log_line.Split candidate) ↔ IsOpenAt network node candidate }
     ensures cost { (network : NetworkOf) (node : Node) → IsAllowedLine network node (log_line.Leaf log_leaf.Cost) }
@@ -64,8 +64,8 @@ pub fn rules_say_what_is_allowed()
 {}
 
 /// A cut as a line spells it has the displacement of the cut; so its line is allowed wherever that
-/// breaks the limit under the upper plan and the limit is in force for the inner one. What `put_cut`
-/// appends is read back as the cut's line.
+/// breaks the limit under the upper plan and the limit is in force for the inner one. What
+/// `put_cut` appends is read back as the cut's line.
 pub fn cuts_keep_their_displacements()
     ensures displacement { (x : List ℤ) (i : ℕ) → displaced_by (moves_from 0 x) i ≡ at x i }
     ensures read { (cut : CutOf) → cut.limit < 2 ^ 32 → length cut.x < 2 ^ 32 → IsNarrow (at cut.x)
@@ -75,10 +75,10 @@ pub fn cuts_keep_their_displacements()
         → IsAllowedLine network node (log_line.Leaf (log_leaf.Cut (text_of_cut cut))) }
 {}
 
-/// A share of a cut of a pool, as a line spells it, has the covering inequality of the cut, where the
-/// cut is that of its limit and displacement. So the bound of a line is the dual bound of the shares
-/// themselves. The line is allowed wherever the shares may be named, and what `put_dual` appends is
-/// read back as the line.
+/// A share of a cut of a pool, as a line spells it, has the covering inequality of the cut, where
+/// the cut is that of its limit and displacement. So the bound of a line is the dual bound of the
+/// shares themselves. The line is allowed wherever the shares may be named, and what `put_dual`
+/// appends is read back as the line.
 pub fn duals_keep_their_shares()
     ensures covers { (network : NetworkOf) (pool : List CutOf) (share : ShareOf) (cut : CutOf) (limit : LimitOf) → slice_get pool share.cut ≡ Some cut
         → slice_get network.limits cut.limit ≡ Some limit → cover cut ≡ cover_of network limit (at cut.x)
