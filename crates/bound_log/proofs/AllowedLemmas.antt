@@ -1,27 +1,30 @@
 -- When a line of each kind is allowed at a node.
-use Rattle.std.proofs.Common.{◌≡◌, ℕ, zero, suc, ◌<◌, ◌≤◌, ltb, not, ◌&&◌, Bool, true, false, List, [], ◌∷◌, length, get_or, Option, Some, None, arith, refl, ap, sym, ◌∙◌, subst}
+use Rattle.std.proofs.Common.{◌≡◌, ℕ, zero, suc, ◌<◌, ◌≤◌, ◌^◌, All, map, ltb, not, ◌&&◌, Bool, true, false, List, [], ◌∷◌, length, get_or, Option, Some, None, arith, refl, ap, sym, ◌∙◌, subst}
 use Rattle.std.specs.Prelude.{slice_get, flat_map, nat_le, unsigned_abs, ℤ, ◌*ℤ◌, ◌<ℤ◌, int_lt}
 use Rattle.std.specs.List.{list_all}
 use Rattle.std.specs.Option.{ForSome}
-use Rattle.std.proofs.lemmas.Bool.{leb-true, ltb-true, lt-ltb}
+use Rattle.std.proofs.lemmas.Bool.{le-leb, leb-true, ltb-true, lt-ltb}
 use Rattle.std.proofs.lemmas.Int.{ints}
+use Rattle.std.proofs.lemmas.List.Elements.{All-nil, All-cons, All-head, All-tail}
 use Rattle.std.proofs.lemmas.Option.{get_or_from_slice_get, slice_get_within}
 use Rattle.geo_model.specs.Energy.{energy}
-use Rattle.geo_model.specs.Limit.{LimitOf, IsInForce, load}
+use Rattle.geo_model.specs.Limit.{LimitOf, load}
 use Rattle.geo_model.specs.Network.{NetworkOf, IsNetwork}
 use Rattle.geo_model.specs.declared.plan.Node.{Node}
 use Rattle.geo_model.specs.declared.verdict.Verdict.{Verdict}
 use Rattle.geo_model.specs.declared.verdict.Verdict.TheVariants.{Met, Refuted, Open}
 use Rattle.pivot_chain.specs.Verdict.{verdict_of}
 use Rattle.bound_log.specs.declared.log_kind.LogKind.TheVariants.{Range, NotOpen, Owner, NotRefuted, CutHolds}
-use Rattle.bound_log.specs.declared.log_leaf.LogLeaf.TheVariants.{Cost, Pivot, Cut}
+use Rattle.bound_log.specs.declared.log_leaf.LogLeaf.TheVariants.{Cost, Pivot, Cut, Dual}
 use Rattle.bound_log.specs.declared.log_line.LogLine.{LogLine}
 use Rattle.bound_log.specs.declared.log_line.LogLine.TheVariants.{Split, Leaf}
 use Rattle.bound_log.specs.CutText.{CutTextOf, cut_numbers, displaced_by, pair_numbers}
+use Rattle.bound_log.specs.DualText.{dual_numbers, share_numbers}
 use Rattle.bound_log.specs.Grammar.{HasNumbersBelow, number_bound}
-use Rattle.bound_log.specs.LogTree.{IsBrokenBy, IsOpenAt, IsRefutedBy}
+use Rattle.bound_log.specs.LogTree.{IsBrokenBy, IsDualAt, IsOpenAt, IsRefutedBy, IsShareAt, IsWeight}
 use Rattle.bound_log.specs.Numbers.{AreShort}
-use Rattle.bound_log.specs.Rules.{LineRule, first_broken, chooses, is_refuted, limit_passes, is_in_range, is_open_for, is_owned, is_refuting, is_breaking, is_broken_at, is_displacement, are_moves, is_move, line_rules, IsAllowedLine}
+use Rattle.bound_log.specs.Rules.{LineRule, first_broken, chooses, is_refuted, limit_passes, is_in_range, is_open_for, is_owned, is_refuting, is_breaking, is_broken_at, is_displacement, are_few, are_moves, is_move, is_weight, line_rules, IsAllowedLine}
+use Rattle.bound_log.proofs.ItemLemmas.{short_both}
 
 -- ---- the rules in their order
 
@@ -244,6 +247,105 @@ cut_broken network node cut allowed =
           (both_true (breaking_test network node cut found.item) true breaking).left;
     }
 
+-- ---- dual bounds
+
+pub weight_passes : (weight : ℕ) → IsWeight weight → is_weight weight ≡ true
+weight_passes weight is = ap (λ b. b && nat_le weight (2 ^ 44)) (le-leb 1 weight is.low) ∙ le-leb weight (2 ^ 44) is.high
+
+pub weight_passed : (weight : ℕ) → is_weight weight ≡ true → IsWeight weight
+weight_passed weight is =
+    let parts = both_true (nat_le 1 weight) (nat_le weight (2 ^ 44)) is in
+    record { low = leb-true 1 weight parts.left; high = leb-true weight (2 ^ 44) parts.right }
+
+abbrev multiplier_of : ℕ × CutTextOf → ℕ
+multiplier_of share = share.0
+
+abbrev limit_of : ℕ × CutTextOf → ℕ
+limit_of share = share.1.limit
+
+abbrev pairs_of : ℕ × CutTextOf → List (ℕ × ℤ)
+pairs_of share = share.1.pairs
+
+abbrev below_limits : NetworkOf → ℕ → Bool
+below_limits network number = ltb number (length network.limits)
+
+abbrev pub owned_at : NetworkOf → Node → ℕ → Bool
+owned_at network node number = limit_passes (owner_test node) (slice_get network.limits number)
+
+-- what the rules ask of shares
+record SharesPass (network : NetworkOf) (node : Node) (shares : List (ℕ × CutTextOf)) : Type 0 where
+  weights : list_all is_weight (map multiplier_of shares) ≡ true
+  limits : list_all (below_limits network) (map limit_of shares) ≡ true
+  displacements : list_all (is_displacement (length network.unknowns)) (map pairs_of shares) ≡ true
+  owned : list_all (owned_at network node) (map limit_of shares) ≡ true
+
+both_pass : (a b : Bool) → a ≡ true → b ≡ true → (a && b) ≡ true
+both_pass a b one two = ap (λ x. x && b) one ∙ two
+
+shares_pass : (network : NetworkOf) (node : Node) (shares : List (ℕ × CutTextOf)) → All (IsShareAt network node) shares → SharesPass network node shares
+shares_pass network node [] each = record { weights = refl; limits = refl; displacements = refl; owned = refl }
+shares_pass network node (share ∷ shares) each =
+    let one = All-head (IsShareAt network node) share shares each in
+    let later = shares_pass network node shares (All-tail (IsShareAt network node) share shares each) in
+    let within : share.1.limit < length network.limits = slice_get_within network.limits share.1.limit one.limit one.named in
+    record {
+      weights = both_pass (is_weight share.0) (list_all is_weight (map multiplier_of shares)) (weight_passes share.0 one.multiplier) later.weights;
+      limits = both_pass (below_limits network share.1.limit) (list_all (below_limits network) (map limit_of shares)) (lt-ltb share.1.limit (length network.limits) within) later.limits;
+      displacements = both_pass (is_displacement (length network.unknowns) share.1.pairs) (list_all (is_displacement (length network.unknowns)) (map pairs_of shares)) one.displacement later.displacements;
+      owned = both_pass (owned_at network node share.1.limit) (list_all (owned_at network node) (map limit_of shares))
+          (ap (limit_passes (owner_test node)) one.named ∙ chooses_owner node.inside one.limit.owner one.owned) later.owned;
+    }
+
+share_at : (network : NetworkOf) (node : Node) (share : ℕ × CutTextOf) → is_weight share.0 ≡ true → below_limits network share.1.limit ≡ true → is_displacement (length network.unknowns) share.1.pairs ≡ true →
+    owned_at network node share.1.limit ≡ true → IsShareAt network node share
+share_at network node share weight limit displacement owned =
+    let found = item_at network.limits share.1.limit (ltb-true share.1.limit (length network.limits) limit) in
+    let owner : chooses node.inside found.item.owner ≡ true = sym (ap (limit_passes (owner_test node)) found.named) ∙ owned in
+    record {
+      multiplier = weight_passed share.0 weight;
+      limit = found.item;
+      named = found.named;
+      displacement = displacement;
+      owned = owner_chosen node.inside found.item.owner owner;
+    }
+
+shares_at : (network : NetworkOf) (node : Node) (shares : List (ℕ × CutTextOf)) → SharesPass network node shares → All (IsShareAt network node) shares
+shares_at network node [] pass = All-nil (IsShareAt network node)
+shares_at network node (share ∷ shares) pass =
+    let weights = both_true (is_weight share.0) (list_all is_weight (map multiplier_of shares)) pass.weights in
+    let limits = both_true (below_limits network share.1.limit) (list_all (below_limits network) (map limit_of shares)) pass.limits in
+    let displacements = both_true (is_displacement (length network.unknowns) share.1.pairs) (list_all (is_displacement (length network.unknowns)) (map pairs_of shares)) pass.displacements in
+    let owned = both_true (owned_at network node share.1.limit) (list_all (owned_at network node) (map limit_of shares)) pass.owned in
+    All-cons (IsShareAt network node) share shares (share_at network node share weights.left limits.left displacements.left owned.left)
+    (shares_at network node shares (record { weights = weights.right; limits = limits.right; displacements = displacements.right; owned = owned.right }))
+
+pub dual_allowed : (network : NetworkOf) (node : Node) (divisor : ℕ) (shares : List (ℕ × CutTextOf)) → IsDualAt network node divisor shares → IsAllowedLine network node (Leaf (Dual divisor shares))
+dual_allowed network node divisor shares here =
+    let pass = shares_pass network node shares here.each in
+    let weights = list_all is_weight (divisor ∷ map multiplier_of shares) in
+    let limits = list_all (below_limits network) (map limit_of shares) in
+    let displacements = list_all (is_displacement (length network.unknowns)) (map pairs_of shares) in
+    allowed_where network node (Leaf (Dual divisor shares))
+    (both_pass weights ((are_few (length shares) && true) && (limits && displacements))
+    (both_pass (is_weight divisor) (list_all is_weight (map multiplier_of shares)) (weight_passes divisor here.divides) pass.weights)
+    (both_pass (are_few (length shares) && true) (limits && displacements) (ap (λ b. b && true) (le-leb (length shares) 64 here.few)) (both_pass limits displacements pass.limits pass.displacements)))
+    refl pass.owned refl refl
+
+pub dual_at : (network : NetworkOf) (node : Node) (divisor : ℕ) (shares : List (ℕ × CutTextOf)) → IsAllowedLine network node (Leaf (Dual divisor shares)) → IsDualAt network node divisor shares
+dual_at network node divisor shares allowed =
+    let kept = keeps network node (Leaf (Dual divisor shares)) allowed in
+    let limits = list_all (below_limits network) (map limit_of shares) in
+    let displacements = list_all (is_displacement (length network.unknowns)) (map pairs_of shares) in
+    let range = both_true (list_all is_weight (divisor ∷ map multiplier_of shares)) ((are_few (length shares) && true) && (limits && displacements)) kept.in_range in
+    let weights = both_true (is_weight divisor) (list_all is_weight (map multiplier_of shares)) range.left in
+    let others = both_true (are_few (length shares) && true) (limits && displacements) range.right in
+    let named = both_true limits displacements others.right in
+    record {
+      divides = weight_passed divisor weights.left;
+      few = leb-true (length shares) 64 (both_true (are_few (length shares)) true others.left).left;
+      each = shares_at network node shares (record { weights = weights.right; limits = named.left; displacements = named.right; owned = kept.is_owned });
+    }
+
 -- ---- numbers
 
 -- the numbers of moves of at most 64 unknowns are short
@@ -258,14 +360,28 @@ moves_short unknowns least (pair ∷ pairs) few is =
     let small : unsigned_abs pair.1 ≤ 32768 = leb-true (unsigned_abs pair.1) 32768 size.right in
     (omega (arith, below, few), (omega (arith, small), moves_short unknowns (suc pair.0) pairs few parts.right))
 
-cut_short : (network : NetworkOf) (node : Node) (cut : CutTextOf) → IsNetwork network → IsBrokenBy network node cut → AreShort (cut_numbers cut)
-cut_short network node cut bounds by =
-    let inside : cut.limit < length network.limits = slice_get_within network.limits cut.limit by.limit by.named in
+cut_short : (network : NetworkOf) (cut : CutTextOf) → IsNetwork network → cut.limit < length network.limits → is_displacement (length network.unknowns) cut.pairs ≡ true → AreShort (cut_numbers cut)
+cut_short network cut bounds inside displacement =
     let few : length network.limits ≤ 20000 = bounds.limits in
-    let parts = both_true (nat_le (length cut.pairs) (length network.unknowns)) (are_moves (length network.unknowns) 0 cut.pairs) by.displacement in
+    let parts = both_true (nat_le (length cut.pairs) (length network.unknowns)) (are_moves (length network.unknowns) 0 cut.pairs) displacement in
     let count : length cut.pairs ≤ length network.unknowns = leb-true (length cut.pairs) (length network.unknowns) parts.left in
     let narrow : length network.unknowns ≤ 64 = bounds.unknowns in
     (omega (arith, inside, few), (omega (arith, count, narrow), moves_short (length network.unknowns) 0 cut.pairs narrow parts.right))
+
+shares_short : (network : NetworkOf) (node : Node) (shares : List (ℕ × CutTextOf)) → IsNetwork network → All (IsShareAt network node) shares → AreShort (flat_map share_numbers shares)
+shares_short network node [] bounds each = tt
+shares_short network node (share ∷ shares) bounds each =
+    let one = All-head (IsShareAt network node) share shares each in
+    let high : share.0 ≤ 2 ^ 44 = one.multiplier.high in
+    short_both (share_numbers share) (flat_map share_numbers shares)
+    (omega (arith, high), cut_short network share.1 bounds (slice_get_within network.limits share.1.limit one.limit one.named) one.displacement)
+    (shares_short network node shares bounds (All-tail (IsShareAt network node) share shares each))
+
+dual_short : (network : NetworkOf) (node : Node) (divisor : ℕ) (shares : List (ℕ × CutTextOf)) → IsNetwork network → IsDualAt network node divisor shares → AreShort (dual_numbers divisor shares)
+dual_short network node divisor shares bounds here =
+    let high : divisor ≤ 2 ^ 44 = here.divides.high in
+    let few : length shares ≤ 64 = here.few in
+    (omega (arith, high), (omega (arith, few), shares_short network node shares bounds here.each))
 
 -- the numbers of an allowed line have at most 19 digits
 pub line_numbers : (network : NetworkOf) (node : Node) (line : LogLine) → IsNetwork network → IsAllowedLine network node line → HasNumbersBelow number_bound line
@@ -280,4 +396,7 @@ line_numbers network node (Leaf (Pivot limit)) bounds allowed =
     let inside : limit < length network.limits = slice_get_within network.limits limit by.limit by.named in
     let few : length network.limits ≤ 20000 = bounds.limits in
     (omega arith, tt)
-line_numbers network node (Leaf (Cut cut)) bounds allowed = cut_short network node cut bounds (cut_broken network node cut allowed)
+line_numbers network node (Leaf (Cut cut)) bounds allowed =
+    let by = cut_broken network node cut allowed in
+    cut_short network cut bounds (slice_get_within network.limits cut.limit by.limit by.named) by.displacement
+line_numbers network node (Leaf (Dual divisor shares)) bounds allowed = dual_short network node divisor shares bounds (dual_at network node divisor shares allowed)

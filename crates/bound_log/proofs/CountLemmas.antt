@@ -6,7 +6,7 @@ use Rattle.std.proofs.lemmas.List.Sums.{sum_by-append}
 use Rattle.geo_model.specs.declared.answer.Counts.{Counts}
 use Rattle.bound_log.specs.declared.line_kind.LineKind.{LineKind}
 use Rattle.bound_log.specs.declared.log_line.LogLine.{LogLine}
-use Rattle.bound_log.specs.Counted.{counted_on, counts_of, counts_with, is_split, is_cost, is_cut, is_pivot, no_counts}
+use Rattle.bound_log.specs.Counted.{counted_on, counts_of, counts_with, is_split, is_cost, is_cut, is_dual, is_pivot, no_counts}
 use Rattle.bound_log.specs.Lines.{kind_of}
 
 counted_on-then : (before : ℕ) (test : LineKind → Bool) (xs ys : List LineKind) → counted_on (counted_on before test xs) test ys ≡ counted_on before test (xs ++ ys)
@@ -18,15 +18,16 @@ counted_on-then before test xs ys =
 abbrev made : ℕ → ℕ → ℕ → ℕ → ℕ → Counts
 made splits costs pivots cuts duals = record { splits = splits; costs = costs; pivots = pivots; cuts = cuts; duals = duals }
 
-same_parts : (a b c d x y z w duals : ℕ) → a ≡ x → b ≡ y → c ≡ z → d ≡ w → made a b c d duals ≡ made x y z w duals
-same_parts a b c d x y z w duals one two three four =
-    ap (λ n. made n b c d duals) one ∙ ap (λ n. made x n c d duals) two ∙ ap (λ n. made x y n d duals) three ∙ ap (λ n. made x y z n duals) four
+same_parts : (a b c d e x y z w v : ℕ) → a ≡ x → b ≡ y → c ≡ z → d ≡ w → e ≡ v → made a b c d e ≡ made x y z w v
+same_parts a b c d e x y z w v one two three four five =
+    ap (λ n. made n b c d e) one ∙ ap (λ n. made x n c d e) two ∙ ap (λ n. made x y n d e) three ∙ ap (λ n. made x y z n e) four ∙ ap (λ n. made x y z w n) five
 
 -- lines are counted one after another
 pub counts_with-then : (before : Counts) (xs ys : List LineKind) → counts_with (counts_with before xs) ys ≡ counts_with before (xs ++ ys)
 counts_with-then before xs ys =
-    same_parts _ _ _ _ _ _ _ _ before.duals
+    same_parts _ _ _ _ _ _ _ _ _ _
     (counted_on-then before.splits is_split xs ys) (counted_on-then before.costs is_cost xs ys) (counted_on-then before.pivots is_pivot xs ys) (counted_on-then before.cuts is_cut xs ys)
+    (counted_on-then before.duals is_dual xs ys)
 
 pub counts_of-then : (xs ys : List LogLine) → counts_with (counts_of xs) (map kind_of ys) ≡ counts_of (xs ++ ys)
 counts_of-then xs ys =

@@ -1,13 +1,14 @@
--- The line of a cut, put together from its parts.
-use Rattle.std.proofs.Common.{◌≡◌, ℕ, suc, ◌+◌, ◌<◌, ◌≤◌, List, [], ◌∷◌, ◌++◌, length, take, arith, refl, ap, ap₂, sym, ◌∙◌, append-nil, append_assoc, length-append, length-take, subst}
+-- The lines of cuts and of dual bounds, put together from their parts.
+use Rattle.std.proofs.Common.{◌≡◌, ℕ, List, [], ◌∷◌, ◌++◌, length, take, refl, ap, ap₂, sym, ◌∙◌, append-nil, append_assoc}
 use Rattle.std.specs.Prelude.{ℤ, flat_map}
 use Rattle.std.specs.Fmt.{decimal, signed_decimal}
 use Rattle.std.specs.List.{join_with_byte}
-use Rattle.std.proofs.lemmas.List.{take-append-le}
-use Rattle.bound_log.specs.CutSpelling.{cut_begin, pair_text, pairs_text, spaced}
+use Rattle.std.proofs.lemmas.Grind.{flat_map-append}
+use Rattle.bound_log.specs.CutSpelling.{cut_text, numbers_text, pairs_text, shares_text, spaced}
 use Rattle.bound_log.specs.CutText.{CutTextOf, cut_words, pairs_words}
-use Rattle.bound_log.specs.LogText.{line_end, line_text}
-use Rattle.bound_log.specs.declared.log_leaf.LogLeaf.TheVariants.{Cut}
+use Rattle.bound_log.specs.DualText.{dual_words, share_words}
+use Rattle.bound_log.specs.LogText.{line_text}
+use Rattle.bound_log.specs.declared.log_leaf.LogLeaf.TheVariants.{Cut, Dual}
 use Rattle.bound_log.specs.declared.log_line.LogLine.TheVariants.{Leaf}
 
 -- words with a space between two are the first word, and each other one behind its space
@@ -21,22 +22,45 @@ spaced_pairs (pair ∷ pairs) =
     ap (λ (t : List ℕ). spaced (decimal pair.0) ++ (spaced (signed_decimal pair.1) ++ t)) (spaced_pairs pairs)
     ∙ sym (append_assoc (spaced (decimal pair.0)) (spaced (signed_decimal pair.1)) (pairs_text pairs))
 
-body_parts : (cut : CutTextOf) → join_with_byte 32 ((120 ∷ []) ∷ cut_words cut) ≡ cut_begin cut.limit (length cut.pairs) ++ pairs_text cut.pairs
-body_parts cut =
-    joined (120 ∷ []) (cut_words cut)
-    ∙ ap (λ (t : List ℕ). 120 ∷ (spaced (decimal cut.limit) ++ (spaced (decimal (length cut.pairs)) ++ t))) (spaced_pairs cut.pairs)
-    ∙ ap (λ (t : List ℕ). 120 ∷ t) (sym (append_assoc (spaced (decimal cut.limit)) (spaced (decimal (length cut.pairs))) (pairs_text cut.pairs)))
+pub spaced_cut : (cut : CutTextOf) → flat_map spaced (cut_words cut) ≡ cut_text cut
+spaced_cut cut =
+    ap (λ (t : List ℕ). spaced (decimal cut.limit) ++ (spaced (decimal (length cut.pairs)) ++ t)) (spaced_pairs cut.pairs)
+    ∙ sym (append_assoc (spaced (decimal cut.limit)) (spaced (decimal (length cut.pairs))) (pairs_text cut.pairs))
 
--- the line of a cut, put behind what is there
-pub cut_put : (old begun paired now : List ℕ) (cut : CutTextOf) (limit count : ℕ) → limit ≡ cut.limit → count ≡ length cut.pairs → begun ≡ old ++ cut_begin limit count →
-    paired ≡ begun ++ pairs_text cut.pairs → now ≡ paired ++ 10 ∷ [] → now ≡ old ++ line_text (Leaf (Cut cut))
-cut_put old begun paired now cut limit count limit_is count_is begin pair end =
-    let front : begun ≡ old ++ cut_begin cut.limit (length cut.pairs) = begin ∙ ap₂ (λ (l n : ℕ). old ++ cut_begin l n) limit_is count_is in
+spaced_shares : (shares : List (ℕ × CutTextOf)) → flat_map spaced (flat_map share_words shares) ≡ shares_text shares
+spaced_shares [] = refl
+spaced_shares (share ∷ shares) =
+    flat_map-append spaced (share_words share) (flat_map share_words shares)
+    ∙ ap₂ (λ (s t : List ℕ). (spaced (decimal share.0) ++ s) ++ t) (spaced_cut share.1) (spaced_shares shares)
+
+pub spaced_dual : (divisor : ℕ) (shares : List (ℕ × CutTextOf)) → flat_map spaced (dual_words divisor shares) ≡ numbers_text divisor (length shares) ++ shares_text shares
+spaced_dual divisor shares =
+    ap (λ (t : List ℕ). spaced (decimal divisor) ++ (spaced (decimal (length shares)) ++ t)) (spaced_shares shares)
+    ∙ sym (append_assoc (spaced (decimal divisor)) (spaced (decimal (length shares))) (shares_text shares))
+
+-- a line, put behind what is there: the byte of its kind, and each word behind its space
+pub line_put : (old begun now ended : List ℕ) (kind : ℕ) (words : List (List ℕ)) → begun ≡ old ++ kind ∷ [] → now ≡ begun ++ flat_map spaced words → ended ≡ now ++ 10 ∷ [] →
+    ended ≡ old ++ (join_with_byte 32 ((kind ∷ []) ∷ words) ++ 10 ∷ [])
+line_put old begun now ended kind words begin put end =
+    let body : now ≡ old ++ join_with_byte 32 ((kind ∷ []) ∷ words) =
+    put ∙ ap (λ (t : List ℕ). t ++ flat_map spaced words) begin ∙ append_assoc old (kind ∷ []) (flat_map spaced words)
+    ∙ ap (λ (t : List ℕ). old ++ t) (sym (joined (kind ∷ []) words)) in
+    end ∙ ap (λ (t : List ℕ). t ++ 10 ∷ []) body ∙ append_assoc old (join_with_byte 32 ((kind ∷ []) ∷ words)) (10 ∷ [])
+
+-- the line of a cut
+pub cut_put : (old begun now ended : List ℕ) (cut : CutTextOf) → begun ≡ old ++ 120 ∷ [] → now ≡ begun ++ cut_text cut → ended ≡ now ++ 10 ∷ [] → ended ≡ old ++ line_text (Leaf (Cut cut))
+cut_put old begun now ended cut begin put end =
+    line_put old begun now ended 120 (cut_words cut) begin (put ∙ ap (λ (t : List ℕ). begun ++ t) (sym (spaced_cut cut))) end
+
+-- the line of a dual bound
+pub dual_put : (old begun headed now ended : List ℕ) (divisor count : ℕ) (shares : List (ℕ × CutTextOf)) → count ≡ length shares → begun ≡ old ++ 100 ∷ [] → headed ≡ begun ++ numbers_text divisor count →
+    now ≡ headed ++ shares_text shares → ended ≡ now ++ 10 ∷ [] → ended ≡ old ++ line_text (Leaf (Dual divisor shares))
+dual_put old begun headed now ended divisor count shares count_is begin head put end =
+    line_put old begun now ended 100 (dual_words divisor shares) begin
+    (put ∙ ap (λ (t : List ℕ). t ++ shares_text shares) (head ∙ ap (λ (n : ℕ). begun ++ numbers_text divisor n) count_is)
+    ∙ append_assoc begun (numbers_text divisor (length shares)) (shares_text shares)
+    ∙ ap (λ (t : List ℕ). begun ++ t) (sym (spaced_dual divisor shares)))
     end
-    ∙ ap (λ (t : List ℕ). t ++ 10 ∷ []) (pair ∙ ap (λ (t : List ℕ). t ++ pairs_text cut.pairs) front
-    ∙ append_assoc old (cut_begin cut.limit (length cut.pairs)) (pairs_text cut.pairs)
-    ∙ ap (λ (t : List ℕ). old ++ t) (sym (body_parts cut)))
-    ∙ append_assoc old (join_with_byte 32 ((120 ∷ []) ∷ cut_words cut)) (10 ∷ [])
 
 -- ---- what stood before stays at the front
 

@@ -1,23 +1,14 @@
 -- What can be decided of a text: whether it is a line of the grammar.
-use Rattle.std.proofs.Common.{◌≡◌, ◌==◌, if◌then◌else◌, ◌⊎◌, ℕ, zero, suc, ◌<◌, ◌≤◌, ltb, List, [], ◌∷◌, length, arith, refl, ap, ap₂, subst, sym, ◌∙◌, append-nil, inl, inr}
-use Rattle.std.specs.Prelude.{ℤ}
-use Rattle.std.specs.Fmt.{decimal}
-use Rattle.std.specs.Str.Parse.{digits_value}
+use Rattle.std.proofs.Common.{◌≡◌, ◌⊎◌, ℕ, zero, suc, ◌<◌, ◌≤◌, ltb, List, [], ◌∷◌, arith, refl, ap, ap₂, subst, sym, ◌∙◌, append-nil, inl, inr}
 use Rattle.std.proofs.lemmas.Bool.{cases_Bool, false≢true, lt-ltb, ltb-true}
 use Rattle.lent_parts.specs.Pieces.{tokens_of}
-use Rattle.bound_log.specs.CutReading.{PairsBegin, pairs_in}
-use Rattle.bound_log.specs.CutText.{CutTextOf, cut_numbers, cut_words, pairs_words}
 use Rattle.bound_log.specs.Grammar.{number_bound, HasNumbersBelow, IsLine}
 use Rattle.bound_log.specs.Lines.{numbers_of}
 use Rattle.bound_log.specs.LogLines.{words_of}
 use Rattle.bound_log.specs.LogText.{line_words}
 use Rattle.bound_log.specs.Numbers.{AreShort}
-use Rattle.bound_log.specs.declared.log_leaf.LogLeaf.TheVariants.{Cost, Pivot, Cut}
 use Rattle.bound_log.specs.declared.log_line.LogLine.{LogLine}
-use Rattle.bound_log.specs.declared.log_line.LogLine.TheVariants.{Split, Leaf}
-use Rattle.bound_log.proofs.CutLemmas.{reads_pairs}
-use Rattle.bound_log.proofs.GrammarLemmas.{words_of_line, line_of_words}
-use Rattle.bound_log.proofs.NumberLemmas.{decimal-value}
+use Rattle.bound_log.proofs.GrammarLemmas.{line_in, line_of_words, reads_line, words_of_line}
 
 -- something holds, or it doesn't
 abbrev pub Decided : Type 0 → Type 0
@@ -86,43 +77,8 @@ are_short (n ∷ numbers) =
 
 -- ---- the one line that words may be of
 
--- the cut that words may be of
-abbrev cut_read : List (List ℕ) → CutTextOf
-cut_read [] = record { limit = 0; pairs = [] }
-cut_read (limit ∷ []) = record { limit = 0; pairs = [] }
-cut_read (limit ∷ count ∷ words) = record { limit = digits_value 10 limit; pairs = pairs_in (digits_value 10 count) words }
-
-cut_read-words : (cut : CutTextOf) → AreShort (cut_numbers cut) → cut_read (cut_words cut) ≡ cut
-cut_read-words cut short =
-    let limit : digits_value 10 (decimal cut.limit) ≡ cut.limit = decimal-value cut.limit short.0 in
-    let count : digits_value 10 (decimal (length cut.pairs)) ≡ length cut.pairs = decimal-value (length cut.pairs) short.1.0 in
-    let begins : PairsBegin (length cut.pairs) (pairs_words cut.pairs) cut.pairs [] = record { counted = refl; spelled = sym (append-nil (pairs_words cut.pairs)); short = short.1.1 } in
-    let reads = reads_pairs (length cut.pairs) (pairs_words cut.pairs) cut.pairs [] begins in
-    ap₂ (λ (l : ℕ) (ps : List (ℕ × ℤ)). let made : CutTextOf = record { limit = l; pairs = ps } in made) limit
-    (ap (λ (n : ℕ). pairs_in n (pairs_words cut.pairs)) count ∙ sym reads.pairs_are)
-
-abbrev first_word : List (List ℕ) → List ℕ
-first_word [] = []
-first_word (word ∷ words) = word
-
--- the line that words may be of which this byte's word stands before
-abbrev line_as : ℕ → List (List ℕ) → LogLine
-line_as kind words =
-    if kind == 115 then Split (digits_value 10 (first_word words))
-    else (if kind == 112 then Leaf (Pivot (digits_value 10 (first_word words)))
-    else (if kind == 120 then Leaf (Cut (cut_read words)) else Leaf Cost))
-
--- the line that words may be of
-abbrev line_read : List (List ℕ) → LogLine
-line_read [] = Leaf Cost
-line_read ([] ∷ words) = Leaf Cost
-line_read ((kind ∷ more) ∷ words) = line_as kind words
-
-line_read-words : (line : LogLine) → HasNumbersBelow number_bound line → line_read (line_words line) ≡ line
-line_read-words (Split candidate) short = ap Split (decimal-value candidate short.0)
-line_read-words (Leaf Cost) short = refl
-line_read-words (Leaf (Pivot limit)) short = ap (λ l. Leaf (Pivot l)) (decimal-value limit short.0)
-line_read-words (Leaf (Cut cut)) short = ap (λ (text : CutTextOf). Leaf (Cut text)) (cut_read-words cut short)
+line_in-words : (line : LogLine) → HasNumbersBelow number_bound line → line ≡ line_in (line_words line)
+line_in-words line short = (reads_line line [] short).line_is ∙ ap line_in (append-nil (line_words line))
 
 -- a line with these words
 record HasLine (words : List (List ℕ)) : Type 0 where
@@ -131,14 +87,14 @@ record HasLine (words : List (List ℕ)) : Type 0 where
   spelled : words ≡ line_words line
 
 -- where words are of a line, they are of that one
-only_line : (words : List (List ℕ)) → HasLine words → (words ≡ line_words (line_read words)) × HasNumbersBelow number_bound (line_read words)
+only_line : (words : List (List ℕ)) → HasLine words → (words ≡ line_words (line_in words)) × HasNumbersBelow number_bound (line_in words)
 only_line words has =
-    let read : has.line ≡ line_read words = sym (line_read-words has.line has.numbers) ∙ ap line_read (sym has.spelled) in
+    let read : has.line ≡ line_in words = line_in-words has.line has.numbers ∙ ap line_in (sym has.spelled) in
     (has.spelled ∙ ap line_words read, subst (HasNumbersBelow number_bound) read has.numbers)
 
 spelled : (words : List (List ℕ)) → Decided (HasLine words)
-spelled words = elim (both (words ≡ line_words (line_read words)) (HasNumbersBelow number_bound (line_read words)) (same_words words (line_words (line_read words))) (are_short (numbers_of (line_read words)))) [
-  | inl is ↦ inl (record { line = line_read words; numbers = is.1; spelled = is.0 })
+spelled words = elim (both (words ≡ line_words (line_in words)) (HasNumbersBelow number_bound (line_in words)) (same_words words (line_words (line_in words))) (are_short (numbers_of (line_in words)))) [
+  | inl is ↦ inl (record { line = line_in words; numbers = is.1; spelled = is.0 })
   | inr other ↦ inr (λ has. other (only_line words has))
 ]
 

@@ -1,24 +1,28 @@
 -- Lines, their texts and their words.
-use Rattle.std.proofs.Common.{◌≡◌, ℕ, ◌<◌, ◌^◌, true, false, List, [], ◌∷◌, ◌++◌, map, All, arith, refl, ap, sym, ◌∙◌, append-nil, append_assoc}
+use Rattle.std.proofs.Common.{◌≡◌, ◌==◌, if◌then◌else◌, ℕ, ◌<◌, true, false, List, [], ◌∷◌, ◌++◌, map, All, arith, refl, ap, ap₂, sym, ◌∙◌, append-nil, append_assoc}
 use Rattle.std.specs.Fmt.{decimal}
 use Rattle.std.specs.Int.{IsInRange}
-use Rattle.std.specs.List.{AllByRecursion, join_with_byte}
+use Rattle.std.specs.List.{join_with_byte}
+use Rattle.std.specs.Str.Parse.{digits_value}
 use Rattle.std.proofs.lemmas.Bool.{ne_eqb}
 use Rattle.std.proofs.lemmas.List.{same_from_push}
 use Rattle.std.proofs.lemmas.List.Elements.{All-append, All-nil, All-cons, All-head, All-tail, All-weaker}
 use Rattle.lent_parts.specs.Pieces.{is_space, space, is_line_feed, tokens_of, lines_of}
 use Rattle.lent_parts.proofs.PieceLemmas.{tokens_of-joined, tokens_of-only, lines_of-more}
 use Rattle.bound_log.specs.Grammar.{number_bound, HasNumbersBelow, IsLine, text_line}
-use Rattle.bound_log.specs.Lines.{numbers_of}
 use Rattle.bound_log.specs.LogLines.{words_of, WordsBeginWith}
 use Rattle.bound_log.specs.LogText.{line_words, line_body, line_text, line_end, lines_text}
-use Rattle.bound_log.specs.declared.log_leaf.LogLeaf.TheVariants.{Cost, Pivot, Cut}
+use Rattle.bound_log.specs.declared.log_leaf.LogLeaf.TheVariants.{Cost, Pivot, Cut, Dual}
 use Rattle.bound_log.specs.declared.log_line.LogLine.{LogLine}
 use Rattle.bound_log.specs.declared.log_line.LogLine.TheVariants.{Split, Leaf}
+use Rattle.bound_log.specs.CutReading.{after_cut, cut_in}
 use Rattle.bound_log.specs.CutText.{CutTextOf, cut_numbers, cut_words}
+use Rattle.bound_log.specs.DualText.{dual_numbers, dual_words}
 use Rattle.bound_log.specs.Numbers.{AreShort}
-use Rattle.bound_log.proofs.CutLemmas.{cut_bytes, same_cut}
-use Rattle.bound_log.proofs.NumberLemmas.{decimal-bytes, decimal-apart}
+use Rattle.bound_log.proofs.CutLemmas.{cut_bytes, cut_reads}
+use Rattle.bound_log.proofs.DualLemmas.{after_dual, divisor_in, dual_bytes, dual_reads, dual_shares_in}
+use Rattle.bound_log.proofs.ItemLemmas.{some_words}
+use Rattle.bound_log.proofs.NumberLemmas.{decimal-bytes, decimal-value}
 
 -- ---- bytes that no word has
 
@@ -62,12 +66,21 @@ cut_no_space cut short = cut_bytes NoSpace (λ c digit. ne_eqb c 32 (λ same. om
 cut_no_feed : (cut : CutTextOf) → AreShort (cut_numbers cut) → All (All NoFeed) (cut_words cut)
 cut_no_feed cut short = cut_bytes NoFeed (λ c digit. ne_eqb c 10 (λ same. omega (arith, digit.0))) refl cut short
 
+dual_no_space : (divisor : ℕ) (shares : List (ℕ × CutTextOf)) → AreShort (dual_numbers divisor shares) → All (All NoSpace) (dual_words divisor shares)
+dual_no_space divisor shares short = dual_bytes NoSpace (λ c digit. ne_eqb c 32 (λ same. omega (arith, digit.0))) refl divisor shares short
+
+dual_no_feed : (divisor : ℕ) (shares : List (ℕ × CutTextOf)) → AreShort (dual_numbers divisor shares) → All (All NoFeed) (dual_words divisor shares)
+dual_no_feed divisor shares short = dual_bytes NoFeed (λ c digit. ne_eqb c 10 (λ same. omega (arith, digit.0))) refl divisor shares short
+
 pub line_body-no_feed : (line : LogLine) → HasNumbersBelow number_bound line → All NoFeed (line_body line)
 line_body-no_feed (Split candidate) small = pair_no_feed 115 candidate refl small.0
 line_body-no_feed (Leaf Cost) small = one_byte NoFeed 99 refl
 line_body-no_feed (Leaf (Pivot limit)) small = pair_no_feed 112 limit refl small.0
 line_body-no_feed (Leaf (Cut cut)) small =
     joined_words NoFeed 32 ((120 ∷ []) ∷ cut_words cut) refl (All-cons (All NoFeed) (120 ∷ []) (cut_words cut) (one_byte NoFeed 120 refl) (cut_no_feed cut small))
+line_body-no_feed (Leaf (Dual divisor shares)) small =
+    joined_words NoFeed 32 ((100 ∷ []) ∷ dual_words divisor shares) refl
+    (All-cons (All NoFeed) (100 ∷ []) (dual_words divisor shares) (one_byte NoFeed 100 refl) (dual_no_feed divisor shares small))
 
 -- ---- texts of lines
 
@@ -91,6 +104,9 @@ words_of_line text (Leaf (Pivot limit)) is =
 words_of_line text (Leaf (Cut cut)) is =
     tokens_of-only text (120 ∷ []) (cut_words cut)
     (All-cons (All NoSpace) (120 ∷ []) (cut_words cut) (one_byte NoSpace 120 refl) (cut_no_space cut is.numbers)) (body_of text (Leaf (Cut cut)) is)
+words_of_line text (Leaf (Dual divisor shares)) is =
+    tokens_of-only text (100 ∷ []) (dual_words divisor shares)
+    (All-cons (All NoSpace) (100 ∷ []) (dual_words divisor shares) (one_byte NoSpace 100 refl) (dual_no_space divisor shares is.numbers)) (body_of text (Leaf (Dual divisor shares)) is)
 
 pub begins_of_line : (text : List ℕ) (line : LogLine) → IsLine text line → WordsBeginWith (words_of (tokens_of text)) line []
 begins_of_line text line is = record { spelled = words_of_line text line is ∙ sym (append-nil (line_words line)); numbers = is.numbers }
@@ -106,63 +122,74 @@ line_of_words text line after begins none =
 
 -- ---- lines are told by their words
 
--- the kind of a line is its first byte
-abbrev kind_of : List (List ℕ) → ℕ
-kind_of [] = 0
-kind_of ([] ∷ words) = 0
-kind_of ((kind ∷ more) ∷ words) = kind
+abbrev first_word : List (List ℕ) → List ℕ
+first_word [] = []
+first_word (word ∷ words) = word
 
-other_kind : (a b : ℕ) (xs ys : List (List ℕ)) → (a ≡ b → ⊥) → (a ∷ []) ∷ xs ≡ (b ∷ []) ∷ ys → ⊥
-other_kind a b xs ys apart same = apart (ap kind_of same)
+abbrev later_words : List (List ℕ) → List (List ℕ)
+later_words [] = []
+later_words (word ∷ words) = words
 
-later_words : (a b : ℕ) (xs ys : List (List ℕ)) → (a ∷ []) ∷ xs ≡ (b ∷ []) ∷ ys → xs ≡ ys
-later_words a b xs ys same = cc
+-- the line of this kind that words may be of, where a kind is the byte of the word before them, and the words after it
+abbrev line_as : ℕ → List (List ℕ) → LogLine
+line_as kind words =
+    if kind == 115 then Split (digits_value 10 (first_word words))
+    else (if kind == 112 then Leaf (Pivot (digits_value 10 (first_word words)))
+    else (if kind == 120 then Leaf (Cut (cut_in words))
+    else (if kind == 100 then Leaf (Dual (divisor_in words) (dual_shares_in words)) else Leaf Cost)))
 
-no_more : (word : List ℕ) (more : List (List ℕ)) → word ∷ more ≡ [] → ⊥
-no_more word more none = absurd (cc)
+abbrev after_as : ℕ → List (List ℕ) → List (List ℕ)
+after_as kind words =
+    if kind == 115 then later_words words
+    else (if kind == 112 then later_words words
+    else (if kind == 120 then after_cut words
+    else (if kind == 100 then after_dual words else words)))
+
+-- the line that words may begin with, and the words after it
+abbrev pub line_in : List (List ℕ) → LogLine
+line_in [] = Leaf Cost
+line_in ([] ∷ words) = Leaf Cost
+line_in ((kind ∷ more) ∷ words) = line_as kind words
+
+abbrev after_line : List (List ℕ) → List (List ℕ)
+after_line [] = []
+after_line ([] ∷ words) = words
+after_line ((kind ∷ more) ∷ words) = after_as kind words
+
+-- words that begin with a line begin with no other
+pub record ReadsLine (line : LogLine) (rest : List (List ℕ)) : Type 0 where
+  pub line_is : line ≡ line_in (line_words line ++ rest)
+  pub after_is : rest ≡ after_line (line_words line ++ rest)
+
+pub reads_line : (line : LogLine) (rest : List (List ℕ)) → HasNumbersBelow number_bound line → ReadsLine line rest
+reads_line (Split candidate) rest small = record { line_is = ap Split (sym (decimal-value candidate small.0)); after_is = refl }
+reads_line (Leaf Cost) rest small = record { line_is = refl; after_is = refl }
+reads_line (Leaf (Pivot limit)) rest small = record { line_is = ap (λ l. Leaf (Pivot l)) (sym (decimal-value limit small.0)); after_is = refl }
+reads_line (Leaf (Cut cut)) rest small =
+    let reads = cut_reads (cut_words cut ++ rest) cut rest (record { spelled = refl; short = small }) in
+    record { line_is = ap (λ (c : CutTextOf). Leaf (Cut c)) reads.0; after_is = reads.1 }
+reads_line (Leaf (Dual divisor shares)) rest small =
+    let reads = dual_reads divisor shares rest small in
+    record { line_is = ap₂ (λ (d : ℕ) (s : List (ℕ × CutTextOf)). Leaf (Dual d s)) reads.divisor_is reads.shares_are; after_is = reads.after_is }
+
+record SameLine (a b : LogLine) (x y : List (List ℕ)) : Type 0 where
+  line : a ≡ b
+  rest : x ≡ y
+
+same_line : (a b : LogLine) (x y : List (List ℕ)) → HasNumbersBelow number_bound a → HasNumbersBelow number_bound b → line_words a ++ x ≡ line_words b ++ y → SameLine a b x y
+same_line a b x y small also same =
+    let one = reads_line a x small in
+    let two = reads_line b y also in
+    record { line = one.line_is ∙ ap line_in same ∙ sym two.line_is; rest = one.after_is ∙ ap after_line same ∙ sym two.after_is }
 
 -- the words of a line and more are those of no line
 pub more_words : (read other : LogLine) (word : List ℕ) (more : List (List ℕ)) → HasNumbersBelow number_bound read → HasNumbersBelow number_bound other →
     line_words read ++ word ∷ more ≡ line_words other → ⊥
-more_words (Split a) (Split b) word more small also same = absurd (cc)
-more_words (Split a) (Leaf Cost) word more small also same = absurd (other_kind 115 99 _ _ (λ equal. omega arith) same)
-more_words (Split a) (Leaf (Pivot b)) word more small also same = absurd (other_kind 115 112 _ _ (λ equal. omega arith) same)
-more_words (Split a) (Leaf (Cut b)) word more small also same = absurd (other_kind 115 120 _ _ (λ equal. omega arith) same)
-more_words (Leaf Cost) (Split b) word more small also same = absurd (other_kind 99 115 _ _ (λ equal. omega arith) same)
-more_words (Leaf Cost) (Leaf Cost) word more small also same = absurd (cc)
-more_words (Leaf Cost) (Leaf (Pivot b)) word more small also same = absurd (other_kind 99 112 _ _ (λ equal. omega arith) same)
-more_words (Leaf Cost) (Leaf (Cut b)) word more small also same = absurd (other_kind 99 120 _ _ (λ equal. omega arith) same)
-more_words (Leaf (Pivot a)) (Split b) word more small also same = absurd (other_kind 112 115 _ _ (λ equal. omega arith) same)
-more_words (Leaf (Pivot a)) (Leaf Cost) word more small also same = absurd (other_kind 112 99 _ _ (λ equal. omega arith) same)
-more_words (Leaf (Pivot a)) (Leaf (Pivot b)) word more small also same = absurd (cc)
-more_words (Leaf (Pivot a)) (Leaf (Cut b)) word more small also same = absurd (other_kind 112 120 _ _ (λ equal. omega arith) same)
-more_words (Leaf (Cut a)) (Split b) word more small also same = absurd (other_kind 120 115 _ _ (λ equal. omega arith) same)
-more_words (Leaf (Cut a)) (Leaf Cost) word more small also same = absurd (other_kind 120 99 _ _ (λ equal. omega arith) same)
-more_words (Leaf (Cut a)) (Leaf (Pivot b)) word more small also same = absurd (other_kind 120 112 _ _ (λ equal. omega arith) same)
-more_words (Leaf (Cut a)) (Leaf (Cut b)) word more small also same =
-    let words : cut_words a ++ word ∷ more ≡ cut_words b ++ [] = later_words 120 120 (cut_words a ++ word ∷ more) (cut_words b) same ∙ sym (append-nil (cut_words b)) in
-    absurd (no_more word more (same_cut a b (word ∷ more) [] small also words).rest)
+more_words read other word more small also same = some_words word more (same_line read other (word ∷ more) [] small also (same ∙ sym (append-nil (line_words other)))).rest
 
 -- a line is told by its words
 pub one_line : (a b : LogLine) → HasNumbersBelow number_bound a → HasNumbersBelow number_bound b → line_words a ≡ line_words b → a ≡ b
-one_line (Split a) (Split b) small also same = ap Split (decimal-apart a b small.0 also.0 (cc))
-one_line (Split a) (Leaf Cost) small also same = absurd (other_kind 115 99 _ _ (λ equal. omega arith) same)
-one_line (Split a) (Leaf (Pivot b)) small also same = absurd (other_kind 115 112 _ _ (λ equal. omega arith) same)
-one_line (Split a) (Leaf (Cut b)) small also same = absurd (other_kind 115 120 _ _ (λ equal. omega arith) same)
-one_line (Leaf Cost) (Split b) small also same = absurd (other_kind 99 115 _ _ (λ equal. omega arith) same)
-one_line (Leaf Cost) (Leaf Cost) small also same = refl
-one_line (Leaf Cost) (Leaf (Pivot b)) small also same = absurd (other_kind 99 112 _ _ (λ equal. omega arith) same)
-one_line (Leaf Cost) (Leaf (Cut b)) small also same = absurd (other_kind 99 120 _ _ (λ equal. omega arith) same)
-one_line (Leaf (Pivot a)) (Split b) small also same = absurd (other_kind 112 115 _ _ (λ equal. omega arith) same)
-one_line (Leaf (Pivot a)) (Leaf Cost) small also same = absurd (other_kind 112 99 _ _ (λ equal. omega arith) same)
-one_line (Leaf (Pivot a)) (Leaf (Pivot b)) small also same = ap (λ limit. Leaf (Pivot limit)) (decimal-apart a b small.0 also.0 (cc))
-one_line (Leaf (Pivot a)) (Leaf (Cut b)) small also same = absurd (other_kind 112 120 _ _ (λ equal. omega arith) same)
-one_line (Leaf (Cut a)) (Split b) small also same = absurd (other_kind 120 115 _ _ (λ equal. omega arith) same)
-one_line (Leaf (Cut a)) (Leaf Cost) small also same = absurd (other_kind 120 99 _ _ (λ equal. omega arith) same)
-one_line (Leaf (Cut a)) (Leaf (Pivot b)) small also same = absurd (other_kind 120 112 _ _ (λ equal. omega arith) same)
-one_line (Leaf (Cut a)) (Leaf (Cut b)) small also same =
-    let words : cut_words a ++ [] ≡ cut_words b ++ [] = append-nil (cut_words a) ∙ later_words 120 120 (cut_words a) (cut_words b) same ∙ sym (append-nil (cut_words b)) in
-    ap (λ (cut : CutTextOf). Leaf (Cut cut)) (same_cut a b [] [] small also words).cut
+one_line a b small also same = (same_line a b [] [] small also (ap (λ (w : List (List ℕ)). w ++ []) same)).line
 
 pub a_text_is_one : (text : List ℕ) (a b : LogLine) → IsLine text a → IsLine text b → a ≡ b
 a_text_is_one text a b is also = one_line a b is.numbers also.numbers (sym (words_of_line text a is) ∙ words_of_line text b also)
@@ -179,11 +206,3 @@ lines_of-lines_text [] small = refl
 lines_of-lines_text (line ∷ lines) small =
     lines_of-line_text line (lines_text lines) (All-head (HasNumbersBelow number_bound) line lines small)
     ∙ ap (λ rest. text_line line ∷ rest) (lines_of-lines_text lines (All-tail (HasNumbersBelow number_bound) line lines small))
-
--- a bound on numbers may be raised
-shorter : (numbers : List ℕ) → AllByRecursion (λ number. number < 2 ^ 32) numbers → AreShort numbers
-shorter [] small = tt
-shorter (number ∷ numbers) small = (omega (arith, small.0), shorter numbers small.1)
-
-pub HasNumbersBelow-32 : (line : LogLine) → HasNumbersBelow (2 ^ 32) line → HasNumbersBelow number_bound line
-HasNumbersBelow-32 line small = shorter (numbers_of line) small

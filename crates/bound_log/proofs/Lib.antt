@@ -4,10 +4,13 @@ pub mod CountLemmas
 pub mod CutLemmas
 pub mod CutSpellLemmas
 pub mod Decisions
+pub mod DualLemmas
 pub mod GrammarLemmas
+pub mod ItemLemmas
 pub mod MoveLemmas
 pub mod NumberLemmas
 pub mod OpenLemmas
+pub mod PoolLemmas
 pub mod SoundLemmas
 pub mod SpellLemmas
 pub mod TreeLemmas

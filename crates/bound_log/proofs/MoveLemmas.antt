@@ -1,5 +1,5 @@
 -- The moves of a displacement, as a line names them.
-use Rattle.std.proofs.Common.{◌≡◌, ◌==◌, if◌then◌else◌, ℕ, zero, suc, ◌+◌, ◌<◌, ◌≤◌, ◌^◌, ◌&&◌, ltb, Bool, true, false, List, [], ◌∷◌, length, get_or, drop, arith, refl, ap, subst, sym, ◌∙◌, Some, inl, inr}
+use Rattle.std.proofs.Common.{◌≡◌, if◌then◌else◌, ℕ, zero, suc, ◌+◌, ◌<◌, ◌≤◌, ◌^◌, ◌&&◌, ltb, Bool, true, false, List, [], ◌∷◌, length, get_or, drop, arith, refl, ap, subst, sym, ◌∙◌, Some, inl, inr}
 use Rattle.std.specs.Prelude.{ℤ, pos, negsuc, flat_map, nat_le, slice_get, unsigned_abs}
 use Rattle.std.proofs.lemmas.Bool.{cases_Bool, false≢true, le-leb, lt-ltb, ne_eqb}
 use Rattle.std.proofs.Common.{eq-eqb}
@@ -11,11 +11,11 @@ use Rattle.geo_model.specs.Network.{NetworkOf}
 use Rattle.geo_model.specs.Row.{Displaced, IsNarrow}
 use Rattle.geo_model.specs.declared.plan.Node.{Node}
 use Rattle.cut_pool.specs.Cut.{CutOf}
-use Rattle.bound_log.specs.CutText.{displaced_by, moves_from, pair_numbers, text_of_cut}
+use Rattle.bound_log.specs.CutText.{cut_numbers, displaced_by, moves_from, pair_numbers, text_of_cut}
 use Rattle.bound_log.specs.Grammar.{IsLine, number_bound}
 use Rattle.bound_log.specs.LogText.{line_body}
 use Rattle.bound_log.specs.Numbers.{AreShort}
-use Rattle.bound_log.specs.Rules.{IsAllowedLine, are_moves, is_displacement, is_move}
+use Rattle.bound_log.specs.Rules.{IsAllowedLine, are_moves, is_displacement}
 use Rattle.bound_log.specs.declared.log_leaf.LogLeaf.TheVariants.{Cut}
 use Rattle.bound_log.specs.declared.log_line.LogLine.TheVariants.{Leaf}
 use Rattle.bound_log.proofs.AllowedLemmas.{cut_allowed}
@@ -73,6 +73,10 @@ moved k (suc j) (v ∷ rest) =
 pub displaced-moves : (x : List ℤ) (i : ℕ) → displaced_by (moves_from 0 x) i ≡ at x i
 displaced-moves x i = let place : 0 + i ≡ i = omega arith in ap (displaced_by (moves_from 0 x)) (sym place) ∙ moved 0 i x
 
+-- so they are one displacement
+pub moved_alike : (x : List ℤ) → at x ≡ displaced_by (moves_from 0 x)
+moved_alike x = λ i. λ unknown. sym (displaced-moves x unknown) i
+
 -- ---- moves keep the ranges of a line
 
 pub moves_few : (k : ℕ) (x : List ℤ) → length (moves_from k x) ≤ length x
@@ -117,15 +121,18 @@ moves_short k (v ∷ rest) high narrow =
       | inr not ↦ subst (λ b. AreShort (flat_map pair_numbers (taken b k v (moves_from (suc k) rest)))) (sym not) others
     ]
 
-pub cut_line_read : (cut : CutOf) → cut.limit < 2 ^ 32 → length cut.x < 2 ^ 32 → IsNarrow (at cut.x) → IsLine (line_body (Leaf (Cut (text_of_cut cut)))) (Leaf (Cut (text_of_cut cut)))
-cut_line_read cut limit long narrow =
+pub cut_text_short : (cut : CutOf) → cut.limit < 2 ^ 32 → length cut.x < 2 ^ 32 → IsNarrow (at cut.x) → AreShort (cut_numbers (text_of_cut cut))
+cut_text_short cut limit long narrow =
     let few : length (moves_from 0 cut.x) ≤ length cut.x = moves_few 0 cut.x in
-    IsLine-body (Leaf (Cut (text_of_cut cut))) (omega (arith, limit), (omega (arith, few, long), moves_short 0 cut.x (omega (arith, long)) narrow))
+    (omega (arith, limit), (omega (arith, few, long), moves_short 0 cut.x (omega (arith, long)) narrow))
+
+pub cut_line_read : (cut : CutOf) → cut.limit < 2 ^ 32 → length cut.x < 2 ^ 32 → IsNarrow (at cut.x) → IsLine (line_body (Leaf (Cut (text_of_cut cut)))) (Leaf (Cut (text_of_cut cut)))
+cut_line_read cut limit long narrow = IsLine-body (Leaf (Cut (text_of_cut cut))) (cut_text_short cut limit long narrow)
 
 both_kept : (a b : Bool) → a ≡ true → b ≡ true → (a && b) ≡ true
 both_kept a b one two = ap (λ x. x && b) one ∙ two
 
-moves_displace : (unknowns : ℕ) (x : List ℤ) → length x ≡ unknowns → IsNarrow (at x) → is_displacement unknowns (moves_from 0 x) ≡ true
+pub moves_displace : (unknowns : ℕ) (x : List ℤ) → length x ≡ unknowns → IsNarrow (at x) → is_displacement unknowns (moves_from 0 x) ≡ true
 moves_displace unknowns x long narrow =
     both_kept (nat_le (length (moves_from 0 x)) unknowns) (are_moves unknowns 0 (moves_from 0 x))
     (le-leb (length (moves_from 0 x)) unknowns (omega (arith, moves_few 0 x, long)))
@@ -137,13 +144,12 @@ pub cut_line_allowed : (network : NetworkOf) (node : Node) (cut : CutOf) (limit 
     slice_get network.limits cut.limit ≡ Some limit → IsInForce limit node.inside → Breaks network node.upper limit (at cut.x) →
     IsAllowedLine network node (Leaf (Cut (text_of_cut cut)))
 cut_line_allowed network node cut limit long narrow named owned breaks =
-    let moved_alike : at cut.x ≡ displaced_by (moves_from 0 cut.x) = λ i. λ unknown. sym (displaced-moves cut.x unknown) i in
     cut_allowed network node (text_of_cut cut) (record {
       limit = limit;
       named = named;
       displacement = moves_displace (length network.unknowns) cut.x long narrow;
       owned = owned;
-      breaks = subst (λ (x : Displaced). Breaks network node.upper limit x) moved_alike breaks;
+      breaks = subst (λ (x : Displaced). Breaks network node.upper limit x) (moved_alike cut.x) breaks;
     })
 
 -- ---- the moves of a list, one by one

@@ -12,7 +12,7 @@ use Rattle.bound_log.specs.Rules.{IsAllowedLine}
 use Rattle.bound_log.specs.Spells.{Spells}
 use Rattle.bound_log.specs.LogTree.{root_of, with_chosen, without_chosen, IsAllowed, bound_at, HasBound}
 use Rattle.bound_log.specs.Placed.{placed}
-use Rattle.bound_log.specs.declared.log_leaf.LogLeaf.TheVariants.{Cost, Pivot, Cut}
+use Rattle.bound_log.specs.declared.log_leaf.LogLeaf.TheVariants.{Cost, Pivot, Cut, Dual}
 use Rattle.bound_log.specs.declared.log_line.LogLine.{LogLine}
 use Rattle.bound_log.specs.declared.log_line.LogLine.TheVariants.{Split, Leaf}
 use Rattle.bound_log.specs.Tree.{Tree, fork, tip, tree_lines}
@@ -43,6 +43,7 @@ some_text (Split candidate) rest same = absurd (cc)
 some_text (Leaf Cost) rest same = absurd (cc)
 some_text (Leaf (Pivot limit)) rest same = absurd (cc)
 some_text (Leaf (Cut cut)) rest same = absurd (cc)
+some_text (Leaf (Dual divisor shares)) rest same = absurd (cc)
 
 pub lines_text-apart : (xs ys : List LogLine) → All (HasNumbersBelow number_bound) xs → All (HasNumbersBelow number_bound) ys → lines_text xs ≡ lines_text ys → xs ≡ ys
 lines_text-apart [] [] small also same = refl

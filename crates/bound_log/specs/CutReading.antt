@@ -1,26 +1,18 @@
 -- How the pairs of a cut are read word by word. What stands here serves private functions and proofs. This project's own.
-use Rattle.std.specs.Prelude.{◌≡◌, ℕ, zero, suc, ◌==◌, List, [], ◌∷◌, ◌++◌, length, flat_map, ℤ, pos, neg_ℤ, if◌then◌else◌}
-use Rattle.std.specs.List.{slice_split}
+use Rattle.std.specs.Prelude.{ℕ, ◌==◌, List, [], ◌∷◌, ℤ, pos, neg_ℤ, if◌then◌else◌}
 use Rattle.std.specs.Str.Parse.{digits_value}
-use Rattle.lent_parts.specs.Pieces.{is_space}
-use Rattle.bound_log.specs.CutText.{CutTextOf, cut_numbers, cut_words, pair_numbers, pair_words, pairs_words}
-use Rattle.bound_log.specs.Numbers.{AreShort}
+use Rattle.bound_log.specs.CutText.{CutTextOf, cut_numbers, cut_words, pair_numbers, pair_words}
+use Rattle.bound_log.specs.Reading.{Begins, ManyBegin, after_items, items_in}
 
--- the words begin with those of a pair, and these are the words after it
-pub record PairBegins (words : List (List ℕ)) (pair : ℕ × ℤ) (after : List (List ℕ)) : Type 0 where
-  pub spelled : words ≡ pair_words pair ++ after
-  pub short : AreShort (pair_numbers pair)
+-- the words begin with those of a pair, of so many pairs, of a cut; and these are the words after them
+abbrev pub PairBegins : List (List ℕ) → ℕ × ℤ → List (List ℕ) → Type 0
+PairBegins words pair after = Begins pair_words pair_numbers words pair after
 
--- the words begin with those of so many pairs, and these are the words after them
-pub record PairsBegin (count : ℕ) (words : List (List ℕ)) (pairs : List (ℕ × ℤ)) (after : List (List ℕ)) : Type 0 where
-  pub counted : length pairs ≡ count
-  pub spelled : words ≡ pairs_words pairs ++ after
-  pub short : AreShort (flat_map pair_numbers pairs)
+abbrev pub PairsBegin : ℕ → List (List ℕ) → List (ℕ × ℤ) → List (List ℕ) → Type 0
+PairsBegin count words pairs after = ManyBegin pair_words pair_numbers count words pairs after
 
--- the words begin with those of a cut, and these are the words after it
-pub record CutBegins (words : List (List ℕ)) (cut : CutTextOf) (after : List (List ℕ)) : Type 0 where
-  pub spelled : words ≡ cut_words cut ++ after
-  pub short : AreShort (cut_numbers cut)
+abbrev pub CutBegins : List (List ℕ) → CutTextOf → List (List ℕ) → Type 0
+CutBegins words cut after = Begins cut_words cut_numbers words cut after
 
 -- ---- the pairs as a function of the words
 
@@ -29,24 +21,35 @@ abbrev pub signed_value : List ℕ → ℤ
 signed_value [] = pos 0
 signed_value (c ∷ digits) = if c == 45 then neg_ℤ (pos (digits_value 10 digits)) else pos (digits_value 10 (c ∷ digits))
 
--- so many pairs, read from the front of words
-abbrev pub pairs_in : ℕ → List (List ℕ) → List (ℕ × ℤ)
-pairs_in zero words = []
-pairs_in (suc more) [] = []
-pairs_in (suc more) (unknown ∷ []) = []
-pairs_in (suc more) (unknown ∷ move ∷ words) = (digits_value 10 unknown, signed_value move) ∷ pairs_in more words
+-- the pair at the front of words, and the words after it
+abbrev pub pair_in : List (List ℕ) → ℕ × ℤ
+pair_in [] = (0, pos 0)
+pair_in (unknown ∷ []) = (0, pos 0)
+pair_in (unknown ∷ move ∷ words) = (digits_value 10 unknown, signed_value move)
 
--- the words after so many pairs
+abbrev pub after_pair : List (List ℕ) → List (List ℕ)
+after_pair [] = []
+after_pair (unknown ∷ []) = []
+after_pair (unknown ∷ move ∷ words) = words
+
+-- so many pairs, and the words after them
+abbrev pub pairs_in : ℕ → List (List ℕ) → List (ℕ × ℤ)
+pairs_in count words = items_in pair_in after_pair count words
+
 abbrev pub after_pairs : ℕ → List (List ℕ) → List (List ℕ)
-after_pairs zero words = words
-after_pairs (suc more) [] = []
-after_pairs (suc more) (unknown ∷ []) = []
-after_pairs (suc more) (unknown ∷ move ∷ words) = after_pairs more words
+after_pairs count words = after_items after_pair count words
 
 -- so many pairs can be read from the front of words
 abbrev pub CanRead : ℕ → List (List ℕ) → Type 0
 CanRead count words = PairsBegin count words (pairs_in count words) (after_pairs count words)
 
--- the words of a text
-abbrev pub words_in : List ℕ → List (List ℕ)
-words_in text = slice_split is_space text
+-- the cut at the front of words, and the words after it
+abbrev pub cut_in : List (List ℕ) → CutTextOf
+cut_in [] = record { limit = 0; pairs = [] }
+cut_in (limit ∷ []) = record { limit = 0; pairs = [] }
+cut_in (limit ∷ count ∷ words) = record { limit = digits_value 10 limit; pairs = pairs_in (digits_value 10 count) words }
+
+abbrev pub after_cut : List (List ℕ) → List (List ℕ)
+after_cut [] = []
+after_cut (limit ∷ []) = []
+after_cut (limit ∷ count ∷ words) = after_pairs (digits_value 10 count) words

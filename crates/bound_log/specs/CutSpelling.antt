@@ -1,11 +1,16 @@
--- How a cut's pairs are written one after another. What stands here serves private functions and proofs. This project's own.
-use Rattle.std.specs.Prelude.{ℕ, ℤ, List, ◌∷◌, ◌++◌, codes, flat_map, length}
+-- How cuts and shares are written one after another. What stands here serves private functions and proofs. This project's own.
+use Rattle.std.specs.Prelude.{ℕ, ℤ, List, ◌∷◌, ◌++◌, flat_map, length}
 use Rattle.std.specs.Fmt.{decimal, signed_decimal}
 use Rattle.lent_parts.specs.Pieces.{space}
+use Rattle.bound_log.specs.CutText.{CutTextOf}
 
--- a space and a number
+-- a space and a word
 abbrev pub spaced : List ℕ → List ℕ
 spaced word = space ∷ word
+
+-- two numbers, with a space before each
+abbrev pub numbers_text : ℕ → ℕ → List ℕ
+numbers_text first second = spaced (decimal first) ++ spaced (decimal second)
 
 -- a pair, with a space before each word
 abbrev pub pair_text : ℕ × ℤ → List ℕ
@@ -14,6 +19,13 @@ pair_text pair = spaced (decimal pair.0) ++ spaced (signed_decimal pair.1)
 abbrev pub pairs_text : List (ℕ × ℤ) → List ℕ
 pairs_text pairs = flat_map pair_text pairs
 
--- the beginning of a cut's line: its kind, its limit and how many pairs follow
-abbrev pub cut_begin : ℕ → ℕ → List ℕ
-cut_begin limit count = codes "x" ++ (spaced (decimal limit) ++ spaced (decimal count))
+-- a cut, likewise: its limit, how many pairs follow, and these
+abbrev pub cut_text : CutTextOf → List ℕ
+cut_text cut = numbers_text cut.limit (length cut.pairs) ++ pairs_text cut.pairs
+
+-- a share, likewise: its multiplier and its cut
+abbrev pub share_text : ℕ × CutTextOf → List ℕ
+share_text share = spaced (decimal share.0) ++ cut_text share.1
+
+abbrev pub shares_text : List (ℕ × CutTextOf) → List ℕ
+shares_text shares = flat_map share_text shares

@@ -3,6 +3,8 @@ pub mod Counted
 pub mod CutReading
 pub mod CutSpelling
 pub mod CutText
+pub mod DualReading
+pub mod DualText
 pub mod Grammar
 pub mod Lines
 pub mod LogLines
@@ -12,6 +14,8 @@ pub mod LogWords
 pub mod Numbers
 pub mod OpenCount
 pub mod Placed
+pub mod PoolShares
+pub mod Reading
 pub mod Rules
 pub mod Sound
 pub mod Spells

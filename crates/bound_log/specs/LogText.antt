@@ -3,7 +3,8 @@ use Rattle.std.specs.Fmt.{decimal}
 use Rattle.std.specs.List.{join_with_byte}
 use Rattle.lent_parts.specs.Pieces.{space}
 use Rattle.bound_log.specs.CutText.{cut_words}
-use Rattle.bound_log.specs.declared.log_leaf.LogLeaf.TheVariants.{Cost, Pivot, Cut}
+use Rattle.bound_log.specs.DualText.{dual_words}
+use Rattle.bound_log.specs.declared.log_leaf.LogLeaf.TheVariants.{Cost, Pivot, Cut, Dual}
 use Rattle.bound_log.specs.declared.log_line.LogLine.{LogLine}
 use Rattle.bound_log.specs.declared.log_line.LogLine.TheVariants.{Split, Leaf}
 use Rattle.bound_log.specs.Tree.{Tree, tree_lines}
@@ -22,12 +23,13 @@ head_body = codes "geoplan-log 1"
 abbrev pub head_text : List ℕ
 head_text = head_body ++ line_end
 
--- the words of a line: `s C`, `c`, `p L`, or `x L M` and M pairs `I V`
+-- the words of a line: `s C`, `c`, `p L`, `x L M` and M pairs `I V`, or `d D R` and R shares `Y L M` with M pairs
 abbrev pub line_words : LogLine → List (List ℕ)
 line_words (Split candidate) = codes "s" ∷ decimal candidate ∷ []
 line_words (Leaf Cost) = codes "c" ∷ []
 line_words (Leaf (Pivot limit)) = codes "p" ∷ decimal limit ∷ []
 line_words (Leaf (Cut cut)) = codes "x" ∷ cut_words cut
+line_words (Leaf (Dual divisor shares)) = codes "d" ∷ dual_words divisor shares
 
 -- a line without its LF: its words, with one space between two
 abbrev pub line_body : LogLine → List ℕ

@@ -1,4 +1,5 @@
-use Rattle.std.specs.Prelude.{◌≡◌, ℕ, ◌<◌, true, false, List, length, Some, slice_get, slice_set}
+use Rattle.std.specs.Prelude.{◌≡◌, ℕ, ◌<◌, ◌≤◌, ◌^◌, true, false, List, All, length, map, Some, slice_get, slice_set}
+use Rattle.geo_model.specs.Dual.{dual_bound}
 use Rattle.geo_model.specs.Limit.{LimitOf, IsInForce}
 use Rattle.geo_model.specs.Meeting.{Breaks}
 use Rattle.geo_model.specs.Network.{NetworkOf}
@@ -11,8 +12,9 @@ use Rattle.bound_log.specs.declared.bound.Bound.{Bound}
 use Rattle.bound_log.specs.declared.bound.Bound.TheVariants.{NoPlan, AtLeast}
 use Rattle.bound_log.specs.Bound.{lesser}
 use Rattle.bound_log.specs.CutText.{CutTextOf, displaced_by}
+use Rattle.bound_log.specs.DualText.{weighed_text}
 use Rattle.bound_log.specs.declared.log_leaf.LogLeaf.{LogLeaf}
-use Rattle.bound_log.specs.declared.log_leaf.LogLeaf.TheVariants.{Cost, Pivot, Cut}
+use Rattle.bound_log.specs.declared.log_leaf.LogLeaf.TheVariants.{Cost, Pivot, Cut, Dual}
 use Rattle.bound_log.specs.declared.log_line.LogLine.TheVariants.{Split, Leaf}
 use Rattle.bound_log.specs.Rules.{IsAllowedLine, is_displacement}
 use Rattle.bound_log.specs.Spells.{Spells}
@@ -56,6 +58,25 @@ pub record IsBrokenBy (network : NetworkOf) (node : Node) (cut : CutTextOf) : Ty
   pub owned : IsInForce limit node.inside
   pub breaks : Breaks network node.upper limit (displaced_by cut.pairs)
 
+-- a divisor or a multiplier is from 1 to 2^44
+pub record IsWeight (weight : ℕ) : Type 0 where
+  pub low : 1 ≤ weight
+  pub high : weight ≤ 2 ^ 44
+
+-- what a dual line wants of a share, in one record: its limit is in force for all plans of the node
+pub record IsShareAt (network : NetworkOf) (node : Node) (share : ℕ × CutTextOf) : Type 0 where
+  pub multiplier : IsWeight share.0
+  pub limit : LimitOf
+  pub named : slice_get network.limits share.1.limit ≡ Some limit
+  pub displacement : is_displacement (length network.unknowns) share.1.pairs ≡ true
+  pub owned : IsInForce limit node.inside
+
+-- what a dual line wants of its divisor and its shares, in one record
+pub record IsDualAt (network : NetworkOf) (node : Node) (divisor : ℕ) (shares : List (ℕ × CutTextOf)) : Type 0 where
+  pub divides : IsWeight divisor
+  pub few : length shares ≤ 64
+  pub each : All (IsShareAt network node) shares
+
 -- ---- trees
 
 -- a tree is allowed at a node: each of its lines is allowed at its own node
@@ -66,11 +87,12 @@ IsAllowed network node (fork candidate with_it without_it) =
     IsAllowed network (with_chosen node candidate) with_it ×
     IsAllowed network (without_chosen node candidate) without_it
 
--- the bound of a leaf at a node under these prices: the price of the inner plan, or that no plan is left
+-- the bound of a leaf at a node under these prices: the price of the inner plan, a dual bound, or that no plan is left
 unfoldable pub leaf_bound_for : PricesOf → NetworkOf → Node → LogLeaf → Bound
 leaf_bound_for prices network node Cost = AtLeast (plan_price prices node.inside)
 leaf_bound_for prices network node (Pivot limit) = NoPlan
 leaf_bound_for prices network node (Cut cut) = NoPlan
+leaf_bound_for prices network node (Dual divisor shares) = AtLeast (dual_bound prices divisor (map (weighed_text network) shares) node)
 
 -- the bound of a tree at a node under these prices: the least bound of its leaves
 abbrev pub bound_for : PricesOf → NetworkOf → Node → Tree → Bound

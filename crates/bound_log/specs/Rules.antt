@@ -1,5 +1,5 @@
 -- The rules of a line of a log at its node, in the order in which they are looked at. This project's own.
-use Rattle.std.specs.Prelude.{ℕ, suc, ◌≡◌, ltb, nat_le, not, ◌&&◌, List, [], ◌∷◌, Bool, true, false, length, get_or, Option, Some, None, slice_get, if◌then◌else◌, ℤ, ◌*ℤ◌, int_lt, unsigned_abs}
+use Rattle.std.specs.Prelude.{ℕ, suc, ◌^◌, ◌≡◌, ltb, nat_le, not, ◌&&◌, List, [], ◌∷◌, Bool, true, false, length, get_or, Option, Some, None, slice_get, if◌then◌else◌, ℤ, ◌*ℤ◌, int_lt, unsigned_abs}
 use Rattle.std.specs.List.{list_all}
 use Rattle.geo_model.specs.Energy.{energy}
 use Rattle.geo_model.specs.Limit.{LimitOf, load}
@@ -13,7 +13,7 @@ use Rattle.bound_log.specs.declared.log_kind.LogKind.{LogKind}
 use Rattle.bound_log.specs.declared.log_kind.LogKind.TheVariants.{Range, NotOpen, Owner, NotRefuted, CutHolds}
 use Rattle.bound_log.specs.declared.log_line.LogLine.{LogLine}
 use Rattle.bound_log.specs.CutText.{displaced_by}
-use Rattle.bound_log.specs.Lines.{candidates_split, cuts_broken, displacements_of, limits_named, limits_refuting}
+use Rattle.bound_log.specs.Lines.{candidates_split, cuts_broken, displacements_of, limits_named, limits_refuting, share_counts, weights_of}
 
 -- ---- rules
 
@@ -61,6 +61,14 @@ are_moves unknowns least (pair ∷ rest) = is_move unknowns least pair && are_mo
 abbrev pub is_displacement : ℕ → List (ℕ × ℤ) → Bool
 is_displacement unknowns pairs = nat_le (length pairs) unknowns && are_moves unknowns 0 pairs
 
+-- a divisor or a multiplier is from 1 to 2^44
+abbrev pub is_weight : ℕ → Bool
+is_weight weight = nat_le 1 weight && nat_le weight (2 ^ 44)
+
+-- shares are at most 64
+abbrev pub are_few : ℕ → Bool
+are_few count = nat_le count 64
+
 -- a displacement breaks a limit under a plan: the factor times the energy is less than the load
 abbrev pub is_broken_at : NetworkOf → List Bool → Displaced → LimitOf → Bool
 is_broken_at network plan x limit = int_lt (limit.alpha *ℤ energy network.candidates plan x) (load limit.squares x)
@@ -70,9 +78,11 @@ is_broken_at network plan x limit = int_lt (limit.alpha *ℤ energy network.cand
 -- each number of the line is in its range
 abbrev pub is_in_range : NetworkOf → LogLine → Bool
 is_in_range network line =
-    list_all (λ candidate. ltb candidate (length network.candidates)) (candidates_split line) &&
+    list_all is_weight (weights_of line) &&
+    (list_all are_few (share_counts line) &&
+    (list_all (λ candidate. ltb candidate (length network.candidates)) (candidates_split line) &&
     (list_all (λ number. ltb number (length network.limits)) (limits_named line) &&
-    list_all (is_displacement (length network.unknowns)) (displacements_of line))
+    list_all (is_displacement (length network.unknowns)) (displacements_of line))))
 
 -- a split is on a candidate that the node leaves open
 abbrev pub is_open_for : Node → LogLine → Bool

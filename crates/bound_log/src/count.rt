@@ -11,16 +11,18 @@ use geo_model::Counts;
 pub fn count_line(counts: &mut Counts, kind: LineKind)
     ensures { counts.new ≡ counts_with counts.old (kind ∷ []) }
 {
-    let (splits, costs, pivots, cuts) = match kind {
-        LineKind::Split => (1, 0, 0, 0),
-        LineKind::Cost => (0, 1, 0, 0),
-        LineKind::Pivot => (0, 0, 1, 0),
-        LineKind::Cut => (0, 0, 0, 1),
+    let (splits, costs, pivots, cuts, duals) = match kind {
+        LineKind::Split => (1, 0, 0, 0, 0),
+        LineKind::Cost => (0, 1, 0, 0, 0),
+        LineKind::Pivot => (0, 0, 1, 0, 0),
+        LineKind::Cut => (0, 0, 0, 1, 0),
+        LineKind::Dual => (0, 0, 0, 0, 1),
     };
     counts.splits = counts.splits.saturating_add(splits);
     counts.costs = counts.costs.saturating_add(costs);
     counts.pivots = counts.pivots.saturating_add(pivots);
     counts.cuts = counts.cuts.saturating_add(cuts);
+    counts.duals = counts.duals.saturating_add(duals);
 }
 
 /// The counts of lines with more lines besides are those of all of them.

@@ -1,7 +1,7 @@
 //! The line of a cut, as the search writes it.
-ghost use Rattle.std.specs.Prelude.{◌≡◌, ◌++◌, ◌∷◌, [], length, take, OnOk, OnErr};
-ghost use Rattle.std.specs.Fmt.{decimal, signed_decimal};
-ghost use Rattle.bound_log.specs.CutSpelling.{cut_begin, pair_text, pairs_text, spaced};
+ghost use Rattle.std.specs.Prelude.{◌≡◌, ◌++◌, length, take, OnOk, OnErr};
+ghost use Rattle.std.specs.Fmt.{decimal};
+ghost use Rattle.bound_log.specs.CutSpelling.{cut_text, numbers_text, pair_text, pairs_text, spaced};
 ghost use Rattle.bound_log.specs.CutText.{moves_from, text_of_cut};
 ghost use Rattle.bound_log.specs.LogText.{line_text};
 ghost use Rattle.bound_log.specs.declared.log_leaf.LogLeaf.TheVariants as log_leaf;
@@ -45,8 +45,8 @@ fn put_cut_parts(out: &mut Vec<u8>, cut: &Cut) -> Result<(), NoMemory>
     ensures put { OnOk result (out.new.items ≡ out.old.items ++ line_text (log_line.Leaf (log_leaf.Cut (text_of_cut cut.now)))) }
     ensures part { OnErr result (take (length out.old.items) out.new.items ≡ out.old.items) }
 {
-    put_begin(out, cut.limit as u64, count_moves(&cut.x))?;
-    put_moves(out, &cut.x)?;
+    out.push(b'x')?;
+    put_pool_cut(out, cut)?;
     out.push(b'\n')?;
     Ok(())
 }
@@ -56,20 +56,31 @@ fn put_text_parts(out: &mut Vec<u8>, cut: &CutText<'_>) -> Result<(), NoMemory>
     ensures put { OnOk result (out.new.items ≡ out.old.items ++ line_text (log_line.Leaf (log_leaf.Cut cut.now))) }
     ensures part { OnErr result (take (length out.old.items) out.new.items ≡ out.old.items) }
 {
-    put_begin(out, cut.limit(), cut.count())?;
-    put_pairs(out, cut.pairs())?;
+    out.push(b'x')?;
+    put_lent_cut(out, cut)?;
     out.push(b'\n')?;
     Ok(())
 }
 
-// Appends a cut's kind, its limit and how many pairs follow. On an error a part may stand in `out`.
-fn put_begin(out: &mut Vec<u8>, limit: u64, count: u64) -> Result<(), NoMemory>
-    ensures put { OnOk result (out.new.items ≡ out.old.items ++ cut_begin limit count) }
+// Appends a cut of a pool, with a space before each word. On an error a part may stand in `out`.
+pub fn put_pool_cut(out: &mut Vec<u8>, cut: &Cut) -> Result<(), NoMemory>
+    ensures put { OnOk result (out.new.items ≡ out.old.items ++ cut_text (text_of_cut cut.now)) }
     ensures part { OnErr result (take (length out.old.items) out.new.items ≡ out.old.items) }
 {
-    out.push(b'x')?;
-    put_number(out, limit)?;
-    put_number(out, count)
+    put_numbers(out, cut.limit as u64, count_moves(&cut.x))?;
+    put_moves(out, &cut.x)?;
+    Ok(())
+}
+
+// Appends a cut that a line spells, with a space before each word. On an error a part may stand in
+// `out`.
+pub fn put_lent_cut(out: &mut Vec<u8>, cut: &CutText<'_>) -> Result<(), NoMemory>
+    ensures put { OnOk result (out.new.items ≡ out.old.items ++ cut_text cut.now) }
+    ensures part { OnErr result (take (length out.old.items) out.new.items ≡ out.old.items) }
+{
+    put_numbers(out, cut.limit(), cut.count())?;
+    put_pairs(out, cut.pairs())?;
+    Ok(())
 }
 
 // Appends the pairs, with a space before each word. On an error some may stand in `out`.
@@ -126,8 +137,18 @@ fn put_pair(out: &mut Vec<u8>, unknown: u64, by: i128) -> Result<(), NoMemory>
     Ok(())
 }
 
+// Appends two numbers, with a space before each. On an error a part may stand in `out`.
+pub fn put_numbers(out: &mut Vec<u8>, first: u64, second: u64) -> Result<(), NoMemory>
+    ensures put { OnOk result (out.new.items ≡ out.old.items ++ numbers_text first second) }
+    ensures part { OnErr result (take (length out.old.items) out.new.items ≡ out.old.items) }
+{
+    put_number(out, first)?;
+    put_number(out, second)?;
+    Ok(())
+}
+
 // Appends a space and a number. On an error the space may stand in `out`.
-fn put_number(out: &mut Vec<u8>, number: u64) -> Result<(), NoMemory>
+pub fn put_number(out: &mut Vec<u8>, number: u64) -> Result<(), NoMemory>
     ensures put { OnOk result (out.new.items ≡ out.old.items ++ spaced (decimal number)) }
     ensures part { OnErr result (take (length out.old.items) out.new.items ≡ out.old.items) }
 {

@@ -4,9 +4,9 @@ use crate::cut_words::next_pair;
 use lent_parts::{TokenWalk, tokens};
 use std::marker::Model;
 
-/// A cut as a line of a log spells it, lent from the line: the number of a limit, and each unknown that
-/// a displacement moves, by its number, with how far. Contracts see it as a record of these, as they
-/// stand in the line, in their ranges or not.
+/// A cut as a line of a log spells it, lent from the line: the number of a limit, and each unknown
+/// that a displacement moves, by its number, with how far. Contracts see it as a record of these,
+/// as they stand in the line, in their ranges or not.
 #[derive(Debug, Drop)]
 pub struct CutText<'a> {
     limit: u64,
@@ -16,7 +16,8 @@ pub struct CutText<'a> {
 
 impl<'a> Model for CutText<'a> {
     ghost use Rattle.bound_log.specs.CutText.{CutTextOf};
-    ghost use Rattle.bound_log.specs.CutReading.{CanRead, pairs_in, words_in};
+    ghost use Rattle.bound_log.specs.CutReading.{CanRead, pairs_in};
+    ghost use Rattle.bound_log.specs.Reading.{words_in};
 
     ghost Value = { CutTextOf };
 
@@ -27,7 +28,8 @@ impl<'a> Model for CutText<'a> {
 
 impl<'a> CutText<'a> {
     ghost use Rattle.std.specs.Prelude.{◌≡◌, length};
-    ghost use Rattle.bound_log.specs.CutReading.{CanRead, pairs_in, words_in};
+    ghost use Rattle.bound_log.specs.CutReading.{CanRead, pairs_in};
+    ghost use Rattle.bound_log.specs.Reading.{words_in};
 
     /// The cut of a limit with so many pairs, of which this is the text.
     pub(crate) fn of(limit: u64, count: u64, spelled: &'a [u8]) -> CutText<'a>
@@ -55,8 +57,8 @@ impl<'a> CutText<'a> {
         self.count
     }
 
-    /// The unknowns that the displacement moves, by their numbers from 0, with how far, in the order of
-    /// the line. It takes no memory.
+    /// The unknowns that the displacement moves, by their numbers from 0, with how far, in the
+    /// order of the line. It takes no memory.
     pub fn pairs(&self) -> Pairs<'a>
         ensures { result ≡ self.now.pairs }
     {

@@ -5,6 +5,7 @@ ghost use Rattle.bound_log.specs.declared.log_leaf.LogLeaf.TheVariants as log_le
 ghost use Rattle.bound_log.specs.declared.log_line.LogLine.TheVariants as log_line;
 
 use crate::cut_line::put_cut_text;
+use crate::dual_line::put_dual_text;
 use crate::log_leaf::LogLeaf;
 use crate::log_line::LogLine;
 use geo_base::NoMemory;
@@ -46,6 +47,7 @@ pub fn put_line(out: &mut Vec<u8>, line: &LogLine<'_>) -> Result<(), NoMemory>
             put_words(out, b"p ", buffer.format(*limit).as_bytes())
         }
         LogLine::Leaf(LogLeaf::Cut(cut)) => put_cut_text(out, cut),
+        LogLine::Leaf(LogLeaf::Dual(divisor, shares)) => put_dual_text(out, *divisor, shares),
     }
 }
 
@@ -65,7 +67,8 @@ pub fn put_split(out: &mut Vec<u8>, c: u32) -> Result<(), NoMemory>
     put_line(out, &LogLine::Split(c as u64))
 }
 
-/// Appends the line of a leaf whose bound is the price of what is chosen. Refused, `out` is as before.
+/// Appends the line of a leaf whose bound is the price of what is chosen. Refused, `out` is as
+/// before.
 pub fn put_cost(out: &mut Vec<u8>) -> Result<(), NoMemory>
     ensures put { OnOk result (out.new.items ≡ out.old.items ++ line_text (log_line.Leaf log_leaf.Cost)) }
     ensures refused { OnErr result (out.new.items ≡ out.old.items) }

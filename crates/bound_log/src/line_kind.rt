@@ -9,4 +9,6 @@ pub enum LineKind {
     Pivot,
     /// `x`: a leaf whose cut is broken.
     Cut,
+    /// `d`: a leaf of a dual bound.
+    Dual,
 }

@@ -1,5 +1,5 @@
-/// What the first fault of a text is. The kinds of a line's fault stand in the order in which they are
-/// looked for.
+/// What the first fault of a text is. The kinds of a line's fault stand in the order in which they
+/// are looked for.
 #[derive(Clone, Copy, Debug, PartialEq, Eq)]
 pub enum LogKind {
     /// A line after the whole tree.

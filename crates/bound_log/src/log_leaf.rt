@@ -1,4 +1,5 @@
 use crate::cut_text::CutText;
+use crate::dual_text::Shares;
 
 /// A leaf of a log: why its node needs no further lines.
 #[derive(Debug, Drop)]
@@ -9,4 +10,6 @@ pub enum LogLeaf<'a> {
     Pivot(u64),
     /// It has no plan, since this displacement breaks its limit under the node's upper plan.
     Cut(CutText<'a>),
+    /// Its bound is the dual bound of this divisor and these shares of cuts.
+    Dual(u64, Shares<'a>),
 }

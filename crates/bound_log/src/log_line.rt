@@ -25,6 +25,7 @@ impl<'a> LogLine<'a> {
             LogLine::Leaf(LogLeaf::Cost) => LineKind::Cost,
             LogLine::Leaf(LogLeaf::Pivot(_)) => LineKind::Pivot,
             LogLine::Leaf(LogLeaf::Cut(_)) => LineKind::Cut,
+            LogLine::Leaf(LogLeaf::Dual(_, _)) => LineKind::Dual,
         }
     }
 }

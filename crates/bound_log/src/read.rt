@@ -8,12 +8,13 @@ use crate::cut_words::next_number;
 use crate::log_leaf::LogLeaf;
 use crate::log_line::LogLine;
 use crate::next_cut::next_cut;
+use crate::next_dual::next_dual;
 use lent_parts::{TokenWalk, tokens};
 
-/// Reads a line of a log, which is given without its LF. None exactly outside the grammar: `s C`, `c`,
-/// `p L`, or `x L M` and M pairs `I V`, with one space between two words, where a number is `0`, or a
-/// digit from 1 to 9 followed by at most 18 digits, and V is one with `-` before it or not, but not
-/// `-0`. It takes no memory.
+/// Reads a line of a log, which is given without its LF. None exactly outside the grammar: `s C`,
+/// `c`, `p L`, `x L M` and M pairs `I V`, or `d D R` and R shares `Y L M` with M pairs each; with
+/// one space between two words, where a number is `0`, or a digit from 1 to 9 followed by at most
+/// 18 digits, and V is one with `-` before it or not, but not `-0`. It takes no memory.
 pub fn read_line(line: &[u8]) -> Option<LogLine<'_>>
     ensures some { IfSome result (λ read. IsLine line.now read) }
     ensures none { IfNone result ((other : LineOf) → IsLine line.now other → ⊥) }
@@ -51,6 +52,11 @@ fn read_words<'a>(words: &mut TokenWalk<'a>) -> Option<LogLine<'a>>
     } else if kind.text == b"x".as_slice() {
         match next_cut(words) {
             Some(cut) => Some(LogLine::Leaf(LogLeaf::Cut(cut))),
+            None => None,
+        }
+    } else if kind.text == b"d".as_slice() {
+        match next_dual(words) {
+            Some((divisor, shares)) => Some(LogLine::Leaf(LogLeaf::Dual(divisor, shares))),
             None => None,
         }
     } else {

@@ -1,6 +1,5 @@
-use Rattle.std.proofs.Common.{rules, ◌≡◌, ◌↔◌, ◌<◌, ℕ, Bool, true, IsTrue, List, [], ◌∷◌, ◌++◌, All, length, refl, ap, sym, ◌∙◌, subst, Some}
+use Rattle.std.proofs.Common.{◌≡◌, ◌↔◌, ◌<◌, ℕ, Bool, true, IsTrue, List, length, refl, ap, sym, ◌∙◌, subst, Some}
 use Rattle.std.specs.Prelude.{slice_get, ℤ}
-use Rattle.std.proofs.lemmas.List.Elements.{All-append}
 use Rattle.whole_algebra.specs.Matrices.{at}
 use Rattle.geo_model.specs.Limit.{LimitOf, IsInForce}
 use Rattle.geo_model.specs.Meeting.{Breaks}
@@ -14,22 +13,24 @@ use Rattle.bound_log.specs.LogTree.{IsBrokenBy}
 use Rattle.bound_log.specs.declared.log_line.LogLine.TheVariants as line
 use Rattle.bound_log.proofs.AllowedLemmas.{cut_broken}
 use Rattle.bound_log.proofs.MoveLemmas.{cut_line_allowed}
-use Rattle.branch_bound.specs.Cuts.{IsCutFor, AreCutsFor, IsBrokenCut, text_or_none, line_of}
+use Rattle.bound_log.specs.DualText.{text_or_none}
+use Rattle.branch_bound.specs.Cuts.{SearchCuts, IsCutFor, AreCutsFor, IsBrokenCut, line_of}
 use Rattle.branch_bound.specs.declared.node_line.NodeLine.{NodeLine}
-use Rattle.branch_bound.specs.declared.node_line.NodeLine.TheVariants.{Split, Cost, Pivot, Cut}
+use Rattle.branch_bound.specs.declared.node_line.NodeLine.TheVariants.{Split, Cost, Pivot, Cut, UnitDual}
 
 -- Laws of the cuts of a search and of the lines that it writes.
 
 -- the line of a split is a split
-pub split_line : (pool : List CutOf) (found : NodeLine) (candidate : ℕ) → found ≡ Split candidate → line_of pool found ≡ line.Split candidate
-split_line pool found candidate is = ap (λ (l : NodeLine). line_of pool l) is
+pub split_line : (cuts : SearchCuts) (found : NodeLine) (candidate : ℕ) → found ≡ Split candidate → line_of cuts found ≡ line.Split candidate
+split_line cuts found candidate is = ap (λ (l : NodeLine). line_of cuts l) is
 
 -- and no other line is
-pub unsplit_line : (pool : List CutOf) (found : NodeLine) → ((candidate : ℕ) → found ≡ Split candidate → ⊥) → (candidate : ℕ) → line_of pool found ≡ line.Split candidate → ⊥
-unsplit_line pool (Split k) none candidate is = none k refl
-unsplit_line pool Cost none candidate is = absurd (cc)
-unsplit_line pool (Pivot k) none candidate is = absurd (cc)
-unsplit_line pool (Cut k) none candidate is = absurd (cc)
+pub unsplit_line : (cuts : SearchCuts) (found : NodeLine) → ((candidate : ℕ) → found ≡ Split candidate → ⊥) → (candidate : ℕ) → line_of cuts found ≡ line.Split candidate → ⊥
+unsplit_line cuts (Split k) none candidate is = none k refl
+unsplit_line cuts Cost none candidate is = absurd (cc)
+unsplit_line cuts (Pivot k) none candidate is = absurd (cc)
+unsplit_line cuts (Cut k) none candidate is = absurd (cc)
+unsplit_line cuts (UnitDual share) none candidate is = absurd (cc)
 
 -- a cut is broken where its limit is in force for the inner plan and its displacement breaks it under the upper plan
 pub cut_breaks : (network : NetworkOf) (node : Node) (cut : CutOf) (in_force broken : Bool) → IsCutFor network cut → IsNarrow (at cut.x) →
@@ -42,9 +43,9 @@ cut_breaks network node cut in_force broken is narrow forced held tests breaks =
     (cut_line_allowed network node cut named.0 is.places narrow named.1 ((forced named.0 named.1).0 held) ((tests named.0 named.1).0 breaks))
 
 -- a cut of a pool by its number
-pub broken_number : (network : NetworkOf) (node : Node) (pool : List CutOf) (number : ℕ) (cut : CutOf) → number < length pool → slice_get pool number ≡ Some cut →
-    IsBrokenBy network node (text_of_cut cut) → IsBrokenCut network node pool number
-broken_number network node pool number cut inside named broken = record {
+pub broken_number : (network : NetworkOf) (node : Node) (cuts : SearchCuts) (number : ℕ) (cut : CutOf) → number < length cuts.pool → slice_get cuts.pool number ≡ Some cut →
+    IsBrokenBy network node (text_of_cut cut) → IsBrokenCut network node cuts number
+broken_number network node cuts number cut inside named broken = record {
   in_range = inside;
   broken = subst (λ o. IsBrokenBy network node (text_or_none o)) (sym named) broken;
 }
@@ -58,13 +59,6 @@ is_cut_for network limit x cut inside places is = record {
   exact = subst (λ (n : ℕ). IsCutOf network n cut.x cut) (sym is.named) (subst (λ (y : List ℤ). IsCutOf network limit y cut) (sym is.moved) is);
 }
 
--- a pool with one more cut, or none more
-pub cuts_added : (network : NetworkOf) (before now : List CutOf) (cut : CutOf) → AreCutsFor network before → IsCutFor network cut →
-    now ≡ before ++ cut ∷ [] → AreCutsFor network now
-cuts_added network before now cut all is added = subst (λ (cs : List CutOf). AreCutsFor network cs) (sym added) (All-append (IsCutFor network) before (cut ∷ []) all (one is))
-  where
-    one : IsCutFor network cut → All (IsCutFor network) (cut ∷ [])
-    one is = search rules
-
-pub cuts_kept : (network : NetworkOf) (before now : List CutOf) → AreCutsFor network before → now ≡ before → AreCutsFor network now
-cuts_kept network before now all kept = subst (λ (cs : List CutOf). AreCutsFor network cs) (sym kept) all
+-- the cuts of a search that are as before
+pub cuts_kept : (network : NetworkOf) (before now : SearchCuts) → AreCutsFor network before → now ≡ before → AreCutsFor network now
+cuts_kept network before now all kept = subst (λ (cs : SearchCuts). AreCutsFor network cs) (sym kept) all

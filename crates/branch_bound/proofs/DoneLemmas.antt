@@ -8,21 +8,26 @@ use Rattle.geo_model.specs.Limit.{IsInForce}
 use Rattle.geo_model.specs.Network.{NetworkOf, IsNetwork, IsLimit}
 use Rattle.geo_model.specs.declared.plan.Node.{Node}
 use Rattle.geo_model.specs.declared.verdict.Verdict.TheVariants.{Met}
-use Rattle.geo_model.proofs.PriceLemmas.{plan_price-grows}
+use Rattle.geo_model.proofs.PriceLemmas.{plan_price-grows, network_stations}
 use Rattle.geo_model.proofs.PlanLemmas.{IsWithin-with, IsWithin-without, IsWithin-length}
 use Rattle.pivot_chain.specs.Verdict.{verdict_of}
-use Rattle.pivot_chain.proofs.Verdicts.{met_sound, refuted_fails}
+use Rattle.pivot_chain.proofs.Verdicts.{certified_meets, met_sound, refuted_fails}
 use Rattle.bound_log.specs.declared.bound.Bound.{Bound}
 use Rattle.bound_log.specs.declared.bound.Bound.TheVariants.{NoPlan, AtLeast}
-use Rattle.bound_log.specs.Bound.{lesser}
+use Rattle.bound_log.specs.Bound.{IsAtMost, lesser}
 use Rattle.bound_log.specs.CutText.{CutTextOf, displaced_by}
-use Rattle.bound_log.specs.LogTree.{IsBrokenBy, IsOpenAt, IsRefutedBy, with_chosen, without_chosen}
-use Rattle.bound_log.proofs.BoundLemmas.{lesser_none, lesser_assoc}
-use Rattle.bound_log.proofs.SoundLemmas.{IsInForce-grows, at_place, broken_fails}
+use Rattle.bound_log.specs.LogTree.{IsBrokenBy, IsOpenAt, IsRefutedBy, leaf_bound, with_chosen, without_chosen}
+use Rattle.bound_log.specs.Rules.{IsAllowedLine}
+use Rattle.bound_log.specs.Tree.{tip}
+use Rattle.bound_log.specs.declared.log_leaf.LogLeaf.{LogLeaf}
+use Rattle.bound_log.specs.declared.log_line.LogLine.TheVariants.{Leaf}
+use Rattle.bound_log.proofs.SoundLemmas.{IsInForce-grows, at_place, bound_for-below, broken_fails}
+use Rattle.idle_splits.specs.Idle.{IsNoMore}
 use Rattle.branch_bound.specs.declared.best.Best.{Best}
 use Rattle.branch_bound.specs.declared.best.Best.TheVariants as best
-use Rattle.branch_bound.specs.Found.{best_bound, IsKept, IsCovered, IsBelow, IsDone}
+use Rattle.branch_bound.specs.Found.{best_bound, IsKept, IsCovered, IsBelow, IsPast, IsDone}
 use Rattle.branch_bound.specs.Searched.{IsCertified, IsUnsettled}
+use Rattle.branch_bound.proofs.BoundOrder.{no_more_same, no_more_then, no_more_both, lesser_left, lesser_right}
 
 -- How the best plan is brought up to the plans of a node.
 
@@ -31,12 +36,6 @@ not_le a b not = elim (cases_lt b a) [ inl less ↦ less | inr more ↦ absurd (
 
 not_lt : (a b : ℕ) → (a < b → ⊥) → b ≤ a
 not_lt a b not = elim (cases_lt a b) [ inl less ↦ absurd (not less) | inr more ↦ more ]
-
-first_least : (a b : ℕ) → a ≤ b → AtLeast a ≡ lesser (AtLeast a) (AtLeast b)
-first_least a b le = ap AtLeast (omega arith)
-
-second_least : (a b : ℕ) → b ≤ a → AtLeast b ≡ lesser (AtLeast a) (AtLeast b)
-second_least a b le = ap AtLeast (omega arith)
 
 less_than_bound : (a b : ℕ) → a < b → a ≤ b
 less_than_bound a b less = omega arith
@@ -49,20 +48,17 @@ IsCovered-dearer network (best.Certified kept) plan other le covered = omega ari
 IsCovered-dearer network (best.Unsettled kept) plan other le covered = omega arith
 
 covered_price : (network : NetworkOf) (found : Best) (plan : List Bool) → IsCovered network found plan →
-    best_bound network found ≡ lesser (best_bound network found) (AtLeast (price_of network plan))
+    IsNoMore (best_bound network found) (AtLeast (price_of network plan))
 covered_price network best.NoPlan plan covered = absurd covered
-covered_price network (best.Certified kept) plan covered = first_least (price_of network kept) (price_of network plan) covered
-covered_price network (best.Unsettled kept) plan covered =
-    first_least (price_of network kept) (price_of network plan) (less_than_bound (price_of network kept) (price_of network plan) covered)
+covered_price network (best.Certified kept) plan covered = covered
+covered_price network (best.Unsettled kept) plan covered = less_than_bound (price_of network kept) (price_of network plan) covered
 
 uncovered_price : (network : NetworkOf) (found : Best) (plan : List Bool) → (IsCovered network found plan → ⊥) →
-    AtLeast (price_of network plan) ≡ lesser (best_bound network found) (AtLeast (price_of network plan))
-uncovered_price network best.NoPlan plan uncovered = refl
+    IsNoMore (AtLeast (price_of network plan)) (best_bound network found)
+uncovered_price network best.NoPlan plan uncovered = tt
 uncovered_price network (best.Certified kept) plan uncovered =
-    let less = not_le (price_of network kept) (price_of network plan) uncovered in
-    second_least (price_of network kept) (price_of network plan) (less_than_bound (price_of network plan) (price_of network kept) less)
-uncovered_price network (best.Unsettled kept) plan uncovered =
-    second_least (price_of network kept) (price_of network plan) (not_lt (price_of network kept) (price_of network plan) uncovered)
+    less_than_bound (price_of network plan) (price_of network kept) (not_le (price_of network kept) (price_of network plan) uncovered)
+uncovered_price network (best.Unsettled kept) plan uncovered = not_lt (price_of network kept) (price_of network plan) uncovered
 
 -- a plan that isn't covered costs less than each one that is
 uncovered_less : (network : NetworkOf) (found : Best) (plan other : List Bool) → (IsCovered network found plan → ⊥) → IsCovered network found other →
@@ -74,22 +70,52 @@ uncovered_less network (best.Unsettled kept) plan other uncovered covered =
     let less = not_lt (price_of network kept) (price_of network plan) uncovered in omega arith
 
 above_price : (network : NetworkOf) (found : Best) (plan : List Bool) → (IsBelow (price_of network plan) (best_bound network found) → ⊥) →
-    best_bound network found ≡ lesser (best_bound network found) (AtLeast (price_of network plan))
+    IsNoMore (best_bound network found) (AtLeast (price_of network plan))
 above_price network best.NoPlan plan above = absurd (above tt)
-above_price network (best.Certified kept) plan above =
-    first_least (price_of network kept) (price_of network plan) (not_lt (price_of network plan) (price_of network kept) above)
-above_price network (best.Unsettled kept) plan above =
-    first_least (price_of network kept) (price_of network plan) (not_lt (price_of network plan) (price_of network kept) above)
+above_price network (best.Certified kept) plan above = not_lt (price_of network plan) (price_of network kept) above
+above_price network (best.Unsettled kept) plan above = not_lt (price_of network plan) (price_of network kept) above
+
+-- the best plan stays, whose price is no more than the bound
+IsDone-stays : (network : NetworkOf) (node : Node) (bound : Bound) (found : Best) → IsKept network found → IsNoMore (best_bound network found) bound →
+    ((other : List Bool) → IsCertified network other → IsWithin node.inside other → IsWithin other node.upper → IsCovered network found other) →
+    IsDone network node bound found found
+IsDone-stays network node bound found kept price covered = record {
+  price = price;
+  falls = no_more_same (best_bound network found);
+  reached = inl refl;
+  kept = kept;
+  covered = covered;
+  still = λ other was. was;
+}
+
+-- what is no less than a price past the best plan is past it
+past_more : (network : NetworkOf) (found : Best) (price more : ℕ) → price ≤ more → IsPast network found price → IsPast network found more
+past_more network best.NoPlan price more le past = past
+past_more network (best.Certified plan) price more le past = omega (arith, le, past)
+past_more network (best.Unsettled plan) price more le past = omega (arith, le, past)
+
+past_price : (network : NetworkOf) (found : Best) (price : ℕ) → IsPast network found price → IsNoMore (best_bound network found) (AtLeast price)
+past_price network best.NoPlan price past = absurd past
+past_price network (best.Certified plan) price past = past
+past_price network (best.Unsettled plan) price past = less_than_bound (price_of network plan) price past
+
+-- a node is cut off by the bound of a leaf
+pub IsDone-past : (network : NetworkOf) (node : Node) (end : LogLeaf) (price : ℕ) (found : Best) → IsNetwork network → IsKept network found →
+    IsAllowedLine network node (Leaf end) → leaf_bound network node end ≡ AtLeast price → IsPast network found price →
+    IsDone network node (leaf_bound network node end) found found
+IsDone-past network node end price found bounds kept allowed is past =
+    IsDone-stays network node (leaf_bound network node end) found kept (subst (λ b. IsNoMore (best_bound network found) b) (sym is) (past_price network found price past))
+    (λ other certified above below.
+    let least : IsAtMost (leaf_bound network node end) (price_of network other) =
+    bound_for-below (prices_of network) network node (tip end) (network_stations network bounds) bounds allowed other above below (certified_meets network other bounds certified.certified) in
+    past_more network found price (price_of network other) (subst (λ b. IsAtMost b (price_of network other)) is least) past)
 
 -- a node is cut off by its price
 pub IsDone-cut_off : (network : NetworkOf) (node : Node) (found : Best) → IsKept network found → IsCovered network found node.inside →
     IsDone network node (AtLeast (price_of network node.inside)) found found
-IsDone-cut_off network node found kept cut = record {
-  price = covered_price network found node.inside cut;
-  kept = kept;
-  covered = λ other certified above below. IsCovered-dearer network found node.inside other (plan_price-grows (prices_of network) node.inside other above) cut;
-  still = λ other covered. covered;
-}
+IsDone-cut_off network node found kept cut =
+    IsDone-stays network node (AtLeast (price_of network node.inside)) found kept (covered_price network found node.inside cut)
+    (λ other certified above below. IsCovered-dearer network found node.inside other (plan_price-grows (prices_of network) node.inside other above) cut)
 
 -- no plan of a node that a limit refutes is certified
 refuted_empty : (network : NetworkOf) (node : Node) (number : ℕ) (other : List Bool) → IsNetwork network → IsRefutedBy network node number →
@@ -112,12 +138,8 @@ broken_empty network node cut other bounds broken certified above below =
 -- a node has no certified plan
 IsDone-empty : (network : NetworkOf) (node : Node) (found : Best) → IsKept network found →
     ((other : List Bool) → IsCertified network other → IsWithin node.inside other → IsWithin other node.upper → ⊥) → IsDone network node NoPlan found found
-IsDone-empty network node found kept empty = record {
-  price = sym (lesser_none (best_bound network found));
-  kept = kept;
-  covered = λ other certified above below. absurd (empty other certified above below);
-  still = λ other covered. covered;
-}
+IsDone-empty network node found kept empty =
+    IsDone-stays network node NoPlan found kept tt (λ other certified above below. absurd (empty other certified above below))
 
 -- a limit refutes a node
 pub IsDone-refuted : (network : NetworkOf) (node : Node) (number : ℕ) (found : Best) → IsNetwork network → IsKept network found →
@@ -131,17 +153,29 @@ pub IsDone-broken : (network : NetworkOf) (node : Node) (cut : CutTextOf) (found
 IsDone-broken network node cut found bounds kept broken =
     IsDone-empty network node found kept (λ other. broken_empty network node cut other bounds broken)
 
+-- another plan becomes the best one, whose price is the bound
+IsDone-offered : (network : NetworkOf) (node : Node) (found offered : Best) (bound : Bound) → best_bound network offered ≡ bound → IsKept network offered →
+    IsNoMore bound (best_bound network found) →
+    ((other : List Bool) → IsCertified network other → IsWithin node.inside other → IsWithin other node.upper → IsCovered network offered other) →
+    ((other : List Bool) → IsCovered network found other → IsCovered network offered other) → IsDone network node bound found offered
+IsDone-offered network node found offered bound is kept falls covered still = record {
+  price = subst (λ b. IsNoMore (best_bound network offered) b) is (no_more_same (best_bound network offered));
+  falls = subst (λ b. IsNoMore b (best_bound network found)) (sym is) falls;
+  reached = inr (subst (λ b. IsNoMore b (best_bound network offered)) is (no_more_same (best_bound network offered)));
+  kept = kept;
+  covered = covered;
+  still = still;
+}
+
 -- the inner plan is certified, and becomes the best one
 pub IsDone-certified : (network : NetworkOf) (node : Node) (found : Best) (plan : List Bool) → plan ≡ node.inside → IsCertified network node.inside →
     (IsCovered network found node.inside → ⊥) → IsDone network node (AtLeast (price_of network node.inside)) found (best.Certified plan)
 IsDone-certified network node found plan same certified uncovered =
     subst (λ (p : List Bool). IsDone network node (AtLeast (price_of network node.inside)) found (best.Certified p)) (sym same)
-    (record {
-      price = uncovered_price network found node.inside uncovered;
-      kept = certified;
-      covered = λ other _ above below. plan_price-grows (prices_of network) node.inside other above;
-      still = λ other covered. less_than_bound (price_of network node.inside) (price_of network other) (uncovered_less network found node.inside other uncovered covered);
-    })
+    (IsDone-offered network node found (best.Certified node.inside) (AtLeast (price_of network node.inside)) refl certified
+    (uncovered_price network found node.inside uncovered)
+    (λ other _ above below. plan_price-grows (prices_of network) node.inside other above)
+    (λ other covered. less_than_bound (price_of network node.inside) (price_of network other) (uncovered_less network found node.inside other uncovered covered)))
 
 -- plans within one another are the same
 within_both : (a b : List Bool) → IsWithin a b → IsWithin b a → a ≡ b
@@ -166,23 +200,18 @@ pub IsDone-unsettled : (network : NetworkOf) (node : Node) (found : Best) (plan 
     IsDone network node (AtLeast (price_of network node.inside)) found (best.Unsettled plan)
 IsDone-unsettled network node found plan copied same unsettled uncovered =
     subst (λ (p : List Bool). IsDone network node (AtLeast (price_of network node.inside)) found (best.Unsettled p)) (sym copied)
-    (record {
-      price = uncovered_price network found node.inside uncovered;
-      kept = unsettled;
-      covered = λ other certified above below. absurd (unsettled_empty network node other same unsettled certified above below);
-      still = λ other covered. uncovered_less network found node.inside other uncovered covered;
-    })
+    (IsDone-offered network node found (best.Unsettled node.inside) (AtLeast (price_of network node.inside)) refl unsettled
+    (uncovered_price network found node.inside uncovered)
+    (λ other certified above below. absurd (unsettled_empty network node other same unsettled certified above below))
+    (λ other covered. uncovered_less network found node.inside other uncovered covered))
 
 -- .. or stays behind one that is as cheap
 pub IsDone-undercut : (network : NetworkOf) (node : Node) (found : Best) → IsKept network found → node.inside ≡ node.upper →
     IsUnsettled network node.inside → (IsBelow (price_of network node.inside) (best_bound network found) → ⊥) →
     IsDone network node (AtLeast (price_of network node.inside)) found found
-IsDone-undercut network node found kept same unsettled above_it = record {
-  price = above_price network found node.inside above_it;
-  kept = kept;
-  covered = λ other certified above below. absurd (unsettled_empty network node other same unsettled certified above below);
-  still = λ other covered. covered;
-}
+IsDone-undercut network node found kept same unsettled above_it =
+    IsDone-stays network node (AtLeast (price_of network node.inside)) found kept (above_price network found node.inside above_it)
+    (λ other certified above below. absurd (unsettled_empty network node other same unsettled certified above below))
 
 -- a plan has a candidate or lacks it
 has_or_lacks : (plan : List Bool) (i : ℕ) → i < length plan → (slice_get plan i ≡ Some true) ⊎ (slice_get plan i ≡ Some false)
@@ -191,12 +220,21 @@ has_or_lacks plan i inside = elim (cases_Bool (get_or plan i false)) [
   | inr lacks ↦ inr (slice_get-get_or plan i false inside ∙ ap Some lacks)
 ]
 
--- both children are done
+-- both children are done: where another plan was found, a child's bound is no more than its price
+reached_split : (network : NetworkOf) (first second : Bound) (before middle now : Best) → (middle ≡ before) ⊎ IsNoMore first (best_bound network middle) →
+    (now ≡ middle) ⊎ IsNoMore second (best_bound network now) → (now ≡ before) ⊎ IsNoMore (lesser first second) (best_bound network now)
+reached_split network first second before middle now one (inr reached) = inr (lesser_right first second (best_bound network now) reached)
+reached_split network first second before middle now (inl same) (inl stays) = inl (stays ∙ same)
+reached_split network first second before middle now (inr reached) (inl stays) =
+    inr (lesser_left first second (best_bound network now) (subst (λ (b : Best). IsNoMore first (best_bound network b)) (sym stays) reached))
+
 pub IsDone-split : (network : NetworkOf) (node : Node) (candidate : ℕ) (first second : Bound) (before middle now : Best) →
     IsOpenAt network node candidate → IsDone network (with_chosen node candidate) first before middle →
     IsDone network (without_chosen node candidate) second middle now → IsDone network node (lesser first second) before now
 IsDone-split network node candidate first second before middle now is_open one two = record {
-  price = two.price ∙ ap (λ b. lesser b second) one.price ∙ lesser_assoc (best_bound network before) first second;
+  price = no_more_both (best_bound network now) first second (no_more_then (best_bound network now) (best_bound network middle) first two.falls one.price) two.price;
+  falls = no_more_then (best_bound network now) (best_bound network middle) (best_bound network before) two.falls one.falls;
+  reached = reached_split network first second before middle now one.reached two.reached;
   kept = two.kept;
   covered = λ other certified above below.
       let inside : candidate < length other =

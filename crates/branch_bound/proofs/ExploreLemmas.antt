@@ -21,12 +21,16 @@ use Rattle.bound_log.specs.declared.log_line.LogLine.{LogLine}
 use Rattle.bound_log.specs.declared.log_line.LogLine.TheVariants.{Split, Leaf}
 use Rattle.bound_log.specs.Lines.{kind_of}
 use Rattle.bound_log.specs.Tree.{Tree, fork, tip, tree_lines}
+use Rattle.bound_log.specs.Bound.{lesser}
+use Rattle.idle_splits.specs.Idle.{IsIdle, IsNoMore}
+use Rattle.idle_splits.proofs.Falls.{IsIdle-falls}
 use Rattle.branch_bound.specs.declared.best.Best.{Best}
 use Rattle.branch_bound.specs.declared.search_fault.SearchFault.{SearchFault}
 use Rattle.branch_bound.specs.declared.search_fault.SearchFault.TheVariants as fault
 use Rattle.shelf_io.specs.States.{ShelfState}
 use Rattle.branch_bound.specs.Explored.{Adds, Breaks, IsNode, IsLineAt, Explores, BreaksOff}
-use Rattle.branch_bound.specs.Found.{IsKept}
+use Rattle.branch_bound.specs.Found.{IsKept, best_bound}
+use Rattle.branch_bound.proofs.BoundOrder.{no_more_both, no_more_then}
 use Rattle.branch_bound.proofs.DoneLemmas.{IsDone-split}
 use Rattle.branch_bound.proofs.PieceLemmas.{Breaks-nothing, Adds-then, Breaks-after, Breaks-longer}
 
@@ -57,6 +61,7 @@ Explores-leaf network node name best best_now counts counts_now before now (Leaf
   added = subst (λ text. Adds name text before now) (tip_text end) added;
   counted = counted;
   done = here.done;
+  no_idle = λ earlier below. tt;
 }
 
 -- the lines of a split
@@ -114,11 +119,11 @@ kinds tree = map kind_of (tree_lines tree)
 
 -- both children were explored
 pub Explores-split : (network : NetworkOf) (node : Node) (name : List ℕ) (candidate : ℕ) (best middle_best best_now : Best) (counts counts_split counts_first counts_now : Counts) (before middle later now : ShelfState) →
-    IsOpenAt network node candidate → Adds name (line_text (Split candidate)) before middle → counts_split ≡ counts_with counts (kind_of (Split candidate) ∷ []) →
+    IsOpenAt network node candidate → (IsIdle network node (best_bound network best) → ⊥) → Adds name (line_text (Split candidate)) before middle → counts_split ≡ counts_with counts (kind_of (Split candidate) ∷ []) →
     Explores network (with_chosen node candidate) name best middle_best counts_split counts_first middle later →
     Explores network (without_chosen node candidate) name middle_best best_now counts_first counts_now later now →
     Explores network node name best best_now counts counts_now before now
-Explores-split network node name candidate best middle_best best_now counts counts_split counts_first counts_now before middle later now is_open added counted first second = record {
+Explores-split network node name candidate best middle_best best_now counts counts_split counts_first counts_now before middle later now is_open not_idle added counted first second = record {
   tree = fork candidate first.tree second.tree;
   allowed = (split_allowed network node candidate is_open, first.allowed, second.allowed);
   added = subst (λ text. Adds name text before now) (sym (split_text candidate first.tree second.tree))
@@ -130,6 +135,15 @@ Explores-split network node name candidate best middle_best best_now counts coun
       ∙ counts_with-then counts (kind_of (Split candidate) ∷ []) (kinds first.tree ++ kinds second.tree)
       ∙ ap (λ more. counts_with counts (kind_of (Split candidate) ∷ more)) (sym (map-append kind_of (tree_lines first.tree) (tree_lines second.tree)));
   done = IsDone-split network node candidate (bound_at network (with_chosen node candidate) first.tree) (bound_at network (without_chosen node candidate) second.tree) best middle_best best_now is_open first.done second.done;
+  no_idle = λ earlier below.
+      let falls : IsNoMore (best_bound network middle_best) earlier =
+      no_more_then (best_bound network middle_best) (best_bound network best) earlier first.done.falls below in
+      let both : IsNoMore (best_bound network middle_best) (lesser earlier (bound_at network (with_chosen node candidate) first.tree)) =
+      no_more_both (best_bound network middle_best) earlier (bound_at network (with_chosen node candidate) first.tree) falls first.done.price in (
+        λ idle. not_idle (IsIdle-falls network node (best_bound network best) earlier below idle),
+        first.no_idle earlier below,
+        second.no_idle (lesser earlier (bound_at network (with_chosen node candidate) first.tree)) both,
+      );
 }
 
 -- the children of a node are nodes
@@ -183,6 +197,10 @@ IsKept-line network node best best_now found candidate is here = (subst (λ (l :
 pub unrefuted-line : (network : NetworkOf) (node : Node) (best best_now : Best) (found : LogLine) (candidate : ℕ) → found ≡ Split candidate →
     IsLineAt network node best best_now found → (k : ℕ) → IsRefutedBy network node k → ⊥
 unrefuted-line network node best best_now found candidate is here = (subst (λ (l : LogLine). IsLineAt network node best best_now l) is here).2
+
+pub idle-line : (network : NetworkOf) (node : Node) (best best_now : Best) (found : LogLine) (candidate : ℕ) → found ≡ Split candidate →
+    IsLineAt network node best best_now found → IsIdle network node (best_bound network best) → ⊥
+idle-line network node best best_now found candidate is here = (subst (λ (l : LogLine). IsLineAt network node best best_now l) is here).3
 
 pub Adds-line : (name : List ℕ) (found : LogLine) (candidate : ℕ) (before now : ShelfState) → found ≡ Split candidate →
     Adds name (line_text found) before now → Adds name (line_text (Split candidate)) before now

@@ -1,8 +1,10 @@
 pub mod PieceLemmas
 pub mod NodeLemmas
 pub mod VerdictLemmas
+pub mod BoundOrder
 pub mod DoneLemmas
 pub mod CutLemmas
+pub mod DearLemmas
 pub mod InheritedLemmas
 pub mod ExploreLemmas
 pub mod SearchLemmas

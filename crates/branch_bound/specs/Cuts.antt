@@ -1,16 +1,25 @@
-use Rattle.std.specs.Prelude.{◌≡◌, ℕ, ◌<◌, [], All, List, length, Option, Some, None, slice_get}
+use Rattle.std.specs.Prelude.{◌≡◌, ℕ, ◌<◌, pos, [], ◌∷◌, All, List, length, slice_get}
 use Rattle.geo_model.specs.Network.{NetworkOf}
 use Rattle.geo_model.specs.declared.plan.Node.{Node}
 use Rattle.cut_pool.specs.Cut.{CutOf, IsCutOf}
-use Rattle.bound_log.specs.CutText.{CutTextOf, text_of_cut}
+use Rattle.bound_log.specs.CutText.{CutTextOf}
+use Rattle.bound_log.specs.DualText.{text_or_none}
 use Rattle.bound_log.specs.LogTree.{IsBrokenBy}
 use Rattle.bound_log.specs.declared.log_leaf.LogLeaf.TheVariants as leaf
 use Rattle.bound_log.specs.declared.log_line.LogLine.{LogLine}
 use Rattle.bound_log.specs.declared.log_line.LogLine.TheVariants as line
+use Rattle.idle_splits.specs.UnitCuts.{AreUnitCuts}
+use Rattle.idle_splits.specs.declared.unit_cuts.UnitCuts.{UnitCuts}
+use Rattle.idle_splits.specs.declared.unit_share.UnitShare.{UnitShare}
 use Rattle.branch_bound.specs.declared.node_line.NodeLine.{NodeLine}
-use Rattle.branch_bound.specs.declared.node_line.NodeLine.TheVariants.{Split, Cost, Pivot, Cut}
+use Rattle.branch_bound.specs.declared.node_line.NodeLine.TheVariants.{Split, Cost, Pivot, Cut, UnitDual}
 
 -- The cuts of a search, and the lines that it writes. This project's own.
+
+-- the cuts that a search tries, and those by which it looks for idle splits
+pub record SearchCuts : Type 0 where
+  pub pool : List CutOf
+  pub units : UnitCuts
 
 -- a cut is the one of its limit and of its displacement, which has an entry for each unknown of the network
 pub record IsCutFor (network : NetworkOf) (cut : CutOf) : Type 0 where
@@ -18,26 +27,36 @@ pub record IsCutFor (network : NetworkOf) (cut : CutOf) : Type 0 where
   pub places : length cut.x ≡ length network.unknowns
   pub exact : IsCutOf network cut.limit cut.x cut
 
-abbrev pub AreCutsFor : NetworkOf → List CutOf → Type 0
-AreCutsFor network cuts = All (IsCutFor network) cuts
+-- each of a pool's cuts is
+abbrev pub ArePoolFor : NetworkOf → List CutOf → Type 0
+ArePoolFor network pool = All (IsCutFor network) pool
 
--- a cut as a line spells it, or none
-abbrev pub text_or_none : Option CutOf → CutTextOf
-text_or_none None = record { limit = 0; pairs = [] }
-text_or_none (Some cut) = text_of_cut cut
+-- the cuts of a search are those of a network
+pub record AreCutsFor (network : NetworkOf) (cuts : SearchCuts) : Type 0 where
+  pub pool : ArePoolFor network cuts.pool
+  pub units : AreUnitCuts network cuts.units
+
+-- a share of a unit cut as a line spells it
+abbrev pub unit_text : UnitShare → ℕ × CutTextOf
+unit_text share = (share.y, record { limit = share.limit; pairs = (share.unknown, pos 1) ∷ [] })
 
 -- what the line of a node says in a log, where its cut is one of the pool
-abbrev pub line_of : List CutOf → NodeLine → LogLine
-line_of pool (Split candidate) = line.Split candidate
-line_of pool Cost = line.Leaf leaf.Cost
-line_of pool (Pivot limit) = line.Leaf (leaf.Pivot limit)
-line_of pool (Cut number) = line.Leaf (leaf.Cut (text_or_none (slice_get pool number)))
+abbrev pub line_of : SearchCuts → NodeLine → LogLine
+line_of cuts (Split candidate) = line.Split candidate
+line_of cuts Cost = line.Leaf leaf.Cost
+line_of cuts (Pivot limit) = line.Leaf (leaf.Pivot limit)
+line_of cuts (Cut number) = line.Leaf (leaf.Cut (text_or_none (slice_get cuts.pool number)))
+line_of cuts (UnitDual share) = line.Leaf (leaf.Dual share.d (unit_text share ∷ []))
 
--- a line names no cut but those of the pool
-abbrev pub NamesCutsOf : List CutOf → NodeLine → Type 0
-NamesCutsOf pool found = (number : ℕ) → found ≡ Cut number → number < length pool
+-- the line of a node can be written: it names no cut but those of the pool, and no unknown past those of any network
+abbrev pub IsWritable : SearchCuts → NodeLine → Type 0
+IsWritable cuts (Split candidate) = Unit {0}
+IsWritable cuts Cost = Unit {0}
+IsWritable cuts (Pivot limit) = Unit {0}
+IsWritable cuts (Cut number) = number < length cuts.pool
+IsWritable cuts (UnitDual share) = share.unknown < 64
 
 -- all plans of a node break the cut of this number
-pub record IsBrokenCut (network : NetworkOf) (node : Node) (pool : List CutOf) (number : ℕ) : Type 0 where
-  pub in_range : number < length pool
-  pub broken : IsBrokenBy network node (text_or_none (slice_get pool number))
+pub record IsBrokenCut (network : NetworkOf) (node : Node) (cuts : SearchCuts) (number : ℕ) : Type 0 where
+  pub in_range : number < length cuts.pool
+  pub broken : IsBrokenBy network node (text_or_none (slice_get cuts.pool number))

@@ -15,10 +15,13 @@ use Rattle.bound_log.specs.Lines.{kind_of}
 use Rattle.bound_log.specs.LogTree.{IsOpenAt, IsRefutedBy, IsAllowed, leaf_bound, bound_at}
 use Rattle.bound_log.specs.Rules.{IsAllowedLine}
 use Rattle.bound_log.specs.Tree.{Tree, tree_lines}
+use Rattle.bound_log.specs.declared.bound.Bound.{Bound}
+use Rattle.idle_splits.specs.Idle.{IsIdle, IsNoMore}
+use Rattle.idle_splits.specs.NoIdle.{HasNoIdle}
 use Rattle.branch_bound.specs.declared.best.Best.{Best}
 use Rattle.branch_bound.specs.declared.search_fault.SearchFault.{SearchFault}
 use Rattle.branch_bound.specs.declared.search_fault.SearchFault.TheVariants as fault
-use Rattle.branch_bound.specs.Found.{IsDone}
+use Rattle.branch_bound.specs.Found.{best_bound, IsDone}
 
 -- What the parts of a search do. This project's own.
 
@@ -49,21 +52,24 @@ pub record IsLeafAt (network : NetworkOf) (node : Node) (end : LogLeaf) (before 
   pub allowed : IsAllowedLine network node (Leaf end)
   pub done : IsDone network node (leaf_bound network node end) before now
 
--- a line fits a node: a split on an open candidate where no limit refutes the node, which leaves the best plan as it was,
--- or a leaf
+-- a line fits a node: a split on an open candidate where no limit refutes the node, which isn't idle beside the price of
+-- the best plan and leaves that plan as it was, or a leaf
 abbrev pub IsLineAt : NetworkOf → Node → Best → Best → LogLine → Type 0
 IsLineAt network node before now (Split candidate) =
-    IsOpenAt network node candidate × (now ≡ before) × ((k : ℕ) → IsRefutedBy network node k → ⊥)
+    IsOpenAt network node candidate × (now ≡ before) × ((k : ℕ) → IsRefutedBy network node k → ⊥) ×
+    (IsIdle network node (best_bound network before) → ⊥)
 IsLineAt network node before now (Leaf end) = IsLeafAt network node end before now
 
 -- the plans of a node were explored: the lines of a tree of it were added and counted, and the best plan is brought up
--- to the plans of the node, with the tree's bound
+-- to the plans of the node, with the tree's bound; no split of the tree is idle, where the price of the best plan before
+-- is no more than the bound of what stands before the tree
 pub record Explores (network : NetworkOf) (node : Node) (name : List ℕ) (best_before best_now : Best) (counts counts_now : Counts) (before now : ShelfState) : Type 0 where
   pub tree : Tree
   pub allowed : IsAllowed network node tree
   pub added : Adds name (lines_text (tree_lines tree)) before now
   pub counted : counts_now ≡ counts_with counts (map kind_of (tree_lines tree))
   pub done : IsDone network node (bound_at network node tree) best_before best_now
+  pub no_idle : (earlier : Bound) → IsNoMore (best_bound network best_before) earlier → HasNoIdle network node earlier tree
 
 -- the lines of some tree of the node were begun, and then a fault came
 pub record BreaksOff (network : NetworkOf) (node : Node) (name : List ℕ) (why : SearchFault) (before now : ShelfState) : Type 0 where

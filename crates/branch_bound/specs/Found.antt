@@ -1,4 +1,4 @@
-use Rattle.std.specs.Prelude.{◌≡◌, ℕ, ◌<◌, ◌≤◌, ℤ, Bool, List}
+use Rattle.std.specs.Prelude.{◌≡◌, ℕ, ◌<◌, ◌≤◌, ◌⊎◌, ℤ, Bool, List}
 use Rattle.geo_model.specs.Energy.{IsWithin}
 use Rattle.geo_model.specs.Prices.{price_of}
 use Rattle.geo_model.specs.Network.{NetworkOf}
@@ -7,7 +7,7 @@ use Rattle.geo_model.specs.declared.answer.Answer.TheVariants as answer
 use Rattle.geo_model.specs.declared.plan.Node.{Node}
 use Rattle.bound_log.specs.declared.bound.Bound.{Bound}
 use Rattle.bound_log.specs.declared.bound.Bound.TheVariants.{NoPlan, AtLeast}
-use Rattle.bound_log.specs.Bound.{lesser}
+use Rattle.idle_splits.specs.Idle.{IsNoMore}
 use Rattle.branch_bound.specs.declared.best.Best.{Best}
 use Rattle.branch_bound.specs.declared.best.Best.TheVariants as best
 use Rattle.branch_bound.specs.Searched.{IsCertified, IsUnsettled, IsFirstOpen}
@@ -26,24 +26,37 @@ IsKept network best.NoPlan = Unit {0}
 IsKept network (best.Certified plan) = IsCertified network plan
 IsKept network (best.Unsettled plan) = IsUnsettled network plan
 
--- a plan is covered by the best one: it costs no less, and where the best one is unsettled it costs more
+-- a price is past the best plan: it is no less than the best one's, and more where that is unsettled
+abbrev pub IsPast : NetworkOf → Best → ℕ → Type 0
+IsPast network best.NoPlan price = ⊥
+IsPast network (best.Certified plan) price = price_of network plan ≤ price
+IsPast network (best.Unsettled plan) price = price_of network plan < price
+
+-- a plan is covered by the best one: its price is past it
 abbrev pub IsCovered : NetworkOf → Best → List Bool → Type 0
-IsCovered network best.NoPlan other = ⊥
-IsCovered network (best.Certified plan) other = price_of network plan ≤ price_of network other
-IsCovered network (best.Unsettled plan) other = price_of network plan < price_of network other
+IsCovered network found other = IsPast network found (price_of network other)
 
 -- a price is below a bound
 abbrev pub IsBelow : ℕ → Bound → Type 0
 IsBelow price NoPlan = Unit {0}
 IsBelow price (AtLeast least) = price < least
 
--- The best plan is brought up to the plans of a node, for which a log proves this bound: its price is the bound, or that
--- of the best plan before where that is less; every certified plan of the node is covered, and so is each plan that was.
+-- The best plan is brought up to the plans of a node, for which a log proves this bound: its price is no more than the
+-- bound, nor than that of the best plan before, and where it isn't the best plan before the bound is no more than its
+-- price; every certified plan of the node is covered, and so is each plan that was.
 pub record IsDone (network : NetworkOf) (node : Node) (bound : Bound) (before now : Best) : Type 0 where
-  pub price : best_bound network now ≡ lesser (best_bound network before) bound
+  pub price : IsNoMore (best_bound network now) bound
+  pub falls : IsNoMore (best_bound network now) (best_bound network before)
+  pub reached : (now ≡ before) ⊎ IsNoMore bound (best_bound network now)
   pub kept : IsKept network now
   pub covered : (other : List Bool) → IsCertified network other → IsWithin node.inside other → IsWithin other node.upper → IsCovered network now other
   pub still : (other : List Bool) → IsCovered network before other → IsCovered network now other
+
+-- a best plan to start with: none, or one that is certified
+abbrev pub IsStart : NetworkOf → Best → Type 0
+IsStart network best.NoPlan = Unit {0}
+IsStart network (best.Certified plan) = IsCertified network plan
+IsStart network (best.Unsettled plan) = ⊥
 
 -- an unsettled plan is answered with the first limit in force that is open
 pub record IsLeftOpen (network : NetworkOf) (plan : List Bool) (made : Answer) : Type 0 where

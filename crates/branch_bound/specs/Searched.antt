@@ -13,7 +13,9 @@ use Rattle.bound_log.specs.declared.bound.Bound.{Bound}
 use Rattle.bound_log.specs.declared.bound.Bound.TheVariants.{NoPlan, AtLeast}
 use Rattle.bound_log.specs.Counted.{counts_of}
 use Rattle.bound_log.specs.LogTree.{root_of, IsAllowed, bound_at}
+use Rattle.bound_log.specs.Placed.{placed}
 use Rattle.bound_log.specs.Tree.{Tree, tree_lines}
+use Rattle.idle_splits.specs.NoIdle.{NoSplitIsIdle}
 
 -- What a search answers, and what its log says. This project's own.
 
@@ -54,8 +56,10 @@ IsAnswer network bound (answer.Best plan) = IsBest network bound plan
 IsAnswer network bound answer.NoPlan = bound ≡ NoPlan
 IsAnswer network bound (answer.Undecided plan limit step lo hi) = IsUndecided network bound plan limit step lo hi
 
--- a search is done: its log is a tree that the network allows, with its lines counted, and its answer fits the bound
+-- a search is done: its log is a tree that the network allows, with its lines counted and no idle split among them, and
+-- its answer fits the bound
 pub record IsSearched (network : NetworkOf) (tree : Tree) (done : SearchDone) : Type 0 where
   pub allowed : IsAllowed network (root_of network) tree
   pub counted : done.counts ≡ counts_of (tree_lines tree)
+  pub no_idle : NoSplitIsIdle network (placed (root_of network) tree)
   pub answered : IsAnswer network (bound_at network (root_of network) tree) done.answer

@@ -1,18 +1,23 @@
 //! The cuts that a search tries at its nodes.
-ghost use Rattle.std.specs.Prelude.{◌≡◌, ◌<◌, true, length, slice_get, Some, IfOk, IfSome, OnOk};
+ghost use Rattle.std.specs.Prelude.{◌≡◌, ◌<◌, ℕ, true, length, slice_get, Some, IfOk, IfSome, IfNone, OnOk};
 ghost use Rattle.geo_model.specs.Network.{IsNetwork};
 ghost use Rattle.bound_log.specs.CutText.{text_of_cut};
 ghost use Rattle.bound_log.specs.LogTree.{IsBrokenBy};
-ghost use Rattle.branch_bound.specs.Cuts.{IsCutFor, AreCutsFor, IsBrokenCut};
+ghost use Rattle.idle_splits.specs.Idle.{IsDearByUnit};
+ghost use Rattle.idle_splits.specs.UnitShares.{ShowsDear};
+ghost use Rattle.branch_bound.specs.Cuts.{IsCutFor, ArePoolFor, AreCutsFor, IsBrokenCut};
 ghost use Rattle.branch_bound.specs.Explored.{IsNode};
+ghost use Rattle.branch_bound.specs.Found.{IsKept, best_bound};
 
+use crate::best::Best;
 use crate::cut_sums::CutSums;
 use crate::inherited::Inherited;
 use crate::limit_verdicts::is_owned_by;
 use crate::missing::unit_load;
 use cut_pool::{Cut, CutPool, cut_of};
 use geo_base::NoMemory;
-use geo_model::{Displacement, Network, Node, breaks};
+use geo_model::{Displacement, Network, Node, breaks, cost};
+use idle_splits::{UnitCuts, UnitShare, dear_share};
 use pivot_chain::is_in_force;
 use std::alloc::Global;
 use std::marker::Model;
@@ -20,21 +25,21 @@ use std::marker::Model;
 /// So many cuts at most: past them a displacement gives none, and the verdicts decide alone.
 const MOST_CUTS: u32 = 4096;
 
-/// The cuts that a search tries, with what they reach under the upper plan that was tried last.
-/// Contracts see them as the list of the cuts.
+/// The cuts that a search tries, with what they reach under the upper plan that was tried last, and
+/// those by which it looks for idle splits. Contracts don't see the sums.
 #[derive(Drop)]
 pub struct Cuts {
     pool: CutPool,
     sums: CutSums,
+    units: UnitCuts,
 }
 
 impl Model for Cuts {
-    ghost use Rattle.std.specs.Prelude.{List};
-    ghost use Rattle.cut_pool.specs.Cut.{CutOf};
+    ghost use Rattle.branch_bound.specs.Cuts.{SearchCuts};
 
-    ghost Value = { List CutOf };
+    ghost Value = { SearchCuts };
 
-    ghost view = { λ cuts. cuts.pool };
+    ghost view = { λ cuts. record { pool = cuts.pool; units = cuts.units } };
 }
 
 impl Cuts {
@@ -45,13 +50,14 @@ impl Cuts {
     {
         let pool = unit_cuts(alloc, network)?;
         let sums = CutSums::new(alloc, network, &pool)?;
-        Ok(Cuts { pool, sums })
+        let units = UnitCuts::new(alloc, network)?;
+        Ok(Cuts { pool, sums, units })
     }
 
     /// The cut of a number.
     pub fn get(&self, number: u32) -> &Cut
-        requires { number < length self.now }
-        ensures { slice_get self.now number ≡ Some result.now }
+        requires { number < length self.now.pool }
+        ensures { slice_get self.now.pool number ≡ Some result.now }
     {
         self.pool.get(number)
     }
@@ -84,11 +90,40 @@ impl Cuts {
         None
     }
 
+    /// A share of a unit cut that shows that a node costs more than the best plan, if one does. It takes
+    /// no memory.
+    pub fn dear_share(&self, network: &Network, node: &Node, best: &Best) -> Option<UnitShare>
+        requires cuts { AreCutsFor network.now self.now }
+        requires node { IsNode network.now node.now }
+        requires kept { IsKept network.now best.now }
+        ensures found { IfSome result (ShowsDear network.now node.now (best_bound network.now best.now)) }
+        ensures none { IfNone result ((number unknown candidate : ℕ) → IsDearByUnit network.now node.now (best_bound network.now best.now) number unknown candidate → ⊥) }
+        ensures bounds { IsNetwork network.now }
+    {
+        // The network's bounds, for the proof.
+        let _bounds = network.candidates();
+        match best {
+            Best::NoPlan => None,
+            Best::Certified(plan) => dear_share(
+                network,
+                node,
+                &self.units,
+                cost(network, plan) as u128,
+            ),
+            Best::Unsettled(plan) => dear_share(
+                network,
+                node,
+                &self.units,
+                cost(network, plan) as u128,
+            ),
+        }
+    }
+
     // Whether all plans of a node break the cut of a number.
     fn breaks(&self, network: &Network, node: &Node, inherited: &Inherited, number: u32) -> bool
         requires cuts { AreCutsFor network.now self.now }
         requires node { IsNode network.now node.now }
-        requires number { number < length self.now }
+        requires number { number < length self.now.pool }
         ensures { result ≡ true → IsBrokenCut network.now node.now self.now number }
     {
         if !self.sums.may_break(number) {
@@ -120,7 +155,7 @@ fn breaks_node(network: &Network, node: &Node, inherited: &Inherited, cut: &Cut)
 
 // The cuts of all limits and of the displacements by 1 in one unknown whose load isn't 0.
 fn unit_cuts(alloc: Global, network: &Network) -> Result<CutPool, NoMemory>
-    ensures { IfOk result (AreCutsFor network.now) }
+    ensures { IfOk result (ArePoolFor network.now) }
 {
     let mut pool = CutPool::new(alloc);
     for limit in 0..network.limits().len() as u32 {
@@ -137,8 +172,8 @@ fn add_unit_cuts(
     pool: &mut CutPool,
 ) -> Result<(), NoMemory>
     requires limit { limit < length network.now.limits }
-    requires cuts { AreCutsFor network.now pool.old }
-    ensures { OnOk result (AreCutsFor network.now pool.new) }
+    requires cuts { ArePoolFor network.now pool.old }
+    ensures { OnOk result (ArePoolFor network.now pool.new) }
 {
     for unknown in 0..network.unknowns().len() as u32 {
         if unit_load(&network.limits()[limit as usize], unknown) > 0 {
@@ -158,8 +193,8 @@ fn add_unit_cut(
 ) -> Result<(), NoMemory>
     requires limit { limit < length network.now.limits }
     requires unknown { unknown < length network.now.unknowns }
-    requires cuts { AreCutsFor network.now pool.old }
-    ensures { OnOk result (AreCutsFor network.now pool.new) }
+    requires cuts { ArePoolFor network.now pool.old }
+    ensures { OnOk result (ArePoolFor network.now pool.new) }
 {
     if pool.len() >= MOST_CUTS {
         return Ok(());

@@ -4,7 +4,7 @@ ghost use Rattle.geo_model.specs.Prices.{price_of};
 ghost use Rattle.geo_model.specs.Network.{IsNetwork};
 ghost use Rattle.pivot_chain.specs.Room.{IsRoomOf};
 ghost use Rattle.bound_log.specs.LogTree.{IsRefutedBy};
-ghost use Rattle.branch_bound.specs.Cuts.{AreCutsFor, NamesCutsOf, line_of};
+ghost use Rattle.branch_bound.specs.Cuts.{AreCutsFor, IsWritable, line_of};
 ghost use Rattle.branch_bound.specs.Explored.{IsNode, IsLineAt};
 ghost use Rattle.branch_bound.specs.Found.{IsKept, IsCovered, IsBelow, best_bound};
 ghost use Rattle.branch_bound.specs.Searched.{IsCertified};
@@ -141,7 +141,7 @@ pub fn line_at(
     requires kept { IsKept network.now best.old }
     requires cuts { AreCutsFor network.now cuts.old }
     ensures line { IfOk result (λ line. IsLineAt network.now node.now best.old best.new (line_of cuts.new line)) }
-    ensures names { IfOk result (NamesCutsOf cuts.new) }
+    ensures writable { IfOk result (IsWritable cuts.new) }
     ensures inherited { ForSome inherited.new.unmet (λ limit. IsUnmetAt network.now node.now.inside limit) }
     ensures room { IsRoomOf network.now room.new }
     ensures cuts { cuts.new ≡ cuts.old }
@@ -154,6 +154,11 @@ pub fn line_at(
     // A cut is asked before the verdicts, since it takes less to test.
     if let Some(number) = cuts.first_broken(network, node, inherited) {
         return Ok(NodeLine::Cut(number));
+    }
+    // So no split is idle: where a unit cut shows that the node costs more than the best plan, the node
+    // ends here.
+    if let Some(share) = cuts.dear_share(network, node, best) {
+        return Ok(NodeLine::UnitDual(share));
     }
     if let Some(limit) = refuting_limit(room, network, node, inherited) {
         return Ok(NodeLine::Pivot(limit));

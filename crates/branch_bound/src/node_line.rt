@@ -1,10 +1,10 @@
-ghost use Rattle.std.specs.Prelude.{◌≡◌, List, ℕ, IfSome, IfNone};
+ghost use Rattle.std.specs.Prelude.{◌≡◌, ℕ, IfSome, IfNone};
 ghost use Rattle.bound_log.specs.Lines.{kind_of};
-ghost use Rattle.cut_pool.specs.Cut.{CutOf};
-ghost use Rattle.branch_bound.specs.Cuts.{line_of};
+ghost use Rattle.branch_bound.specs.Cuts.{SearchCuts, line_of};
 ghost use Rattle.branch_bound.specs.declared.node_line.NodeLine.TheVariants as node_line;
 
 use bound_log::LineKind;
+use idle_splits::UnitShare;
 
 /// The line that the search writes at a node. A cut is told by its number in the search's pool.
 #[derive(Clone, Copy, Debug, PartialEq, Eq)]
@@ -13,18 +13,21 @@ pub enum NodeLine {
     Cost,
     Pivot(u32),
     Cut(u32),
+    /// The dual bound of one share of a unit cut.
+    UnitDual(UnitShare),
 }
 
 impl NodeLine {
     /// The kind of the line.
     pub fn kind(self) -> LineKind
-        ensures { (pool : List CutOf) → result ≡ kind_of (line_of pool self) }
+        ensures { (cuts : SearchCuts) → result ≡ kind_of (line_of cuts self) }
     {
         match self {
             NodeLine::Split(_) => LineKind::Split,
             NodeLine::Cost => LineKind::Cost,
             NodeLine::Pivot(_) => LineKind::Pivot,
             NodeLine::Cut(_) => LineKind::Cut,
+            NodeLine::UnitDual(_) => LineKind::Dual,
         }
     }
 
@@ -38,6 +41,7 @@ impl NodeLine {
             NodeLine::Cost => None,
             NodeLine::Pivot(_) => None,
             NodeLine::Cut(_) => None,
+            NodeLine::UnitDual(_) => None,
         }
     }
 }

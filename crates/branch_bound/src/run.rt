@@ -1,12 +1,12 @@
 //! The search over the tree of nodes.
 ghost use Rattle.std.specs.Prelude.{◌≡◌, Some, OnOk, IfErr, IfOk};
+ghost use Rattle.geo_model.specs.Network.{IsNetwork};
 ghost use Rattle.pivot_chain.specs.Room.{IsRoomOf};
 ghost use Rattle.bound_log.specs.Counted.{no_counts};
 ghost use Rattle.bound_log.specs.LogText.{head_text};
-ghost use Rattle.branch_bound.specs.declared.best.Best.TheVariants as found;
 ghost use Rattle.branch_bound.specs.Cuts.{AreCutsFor};
 ghost use Rattle.branch_bound.specs.Explored.{IsNode, Adds, Breaks, Explores, BreaksOff};
-ghost use Rattle.branch_bound.specs.Found.{IsKept, IsAnswerOf};
+ghost use Rattle.branch_bound.specs.Found.{IsKept, IsStart, IsAnswerOf};
 ghost use Rattle.branch_bound.specs.Logged.{Searches, BreaksLog};
 ghost use Rattle.branch_bound.specs.Inherited.{IsInherited};
 
@@ -18,7 +18,9 @@ use crate::line::{write_line, write_piece};
 use crate::node_judgements::line_at;
 use crate::search_fault::SearchFault;
 use bound_log::put_head;
+use geo_base::NoMemory;
 use geo_model::{Counts, Network, Node, SearchDone};
+use greedy_start::start;
 use pivot_chain::ChainRoom;
 use shelf_io::Shelf;
 use std::alloc::Global;
@@ -35,15 +37,15 @@ struct Findings {
 }
 
 impl Findings {
-    /// Nothing has been found yet.
-    fn new(alloc: Global, room: ChainRoom, cuts: Cuts) -> Findings
-        ensures best { result.best ≡ found.NoPlan }
+    /// What a search begins with: a best plan, and no line.
+    fn new(alloc: Global, room: ChainRoom, cuts: Cuts, best: Best) -> Findings
+        ensures best { result.best ≡ best }
         ensures counts { result.counts ≡ no_counts }
         ensures room { result.room ≡ room }
         ensures cuts { result.cuts ≡ cuts }
     {
         Findings {
-            best: Best::NoPlan,
+            best,
             counts: Counts::none(),
             buffer: Vec::new(alloc),
             room,
@@ -105,6 +107,7 @@ fn explore<H: Shelf>(
         &mut findings.cuts,
     )?;
     write_line(
+        alloc,
         shelf,
         name,
         &mut findings.buffer,
@@ -135,6 +138,19 @@ fn explore<H: Shelf>(
     explore(alloc, network, shelf, name, findings, node, without_it)?;
     node.upper.set(candidate, true);
     Ok(())
+}
+
+/// The plan that a search begins with, where there is a certified one.
+fn first_plan(alloc: Global, network: &Network) -> Result<Best, NoMemory>
+    ensures first { IfOk result (IsStart network.now) }
+    ensures bounds { IfOk result (λ best. IsNetwork network.now) }
+{
+    // The network's bounds, for the proof.
+    let _bounds = network.candidates();
+    match start(alloc, network)? {
+        Some(plan) => Ok(Best::Certified(plan)),
+        None => Ok(Best::NoPlan),
+    }
 }
 
 /// Writes the first line of a log. `buffer` is room for its bytes.
@@ -176,7 +192,8 @@ pub fn search<H: Shelf>(
     let mut node = Node::whole(alloc, network.candidates().len() as u32)?;
     let room = ChainRoom::new(alloc, network)?;
     let cuts = Cuts::of_units(alloc, network)?;
-    let mut findings = Findings::new(alloc, room, cuts);
+    let first = first_plan(alloc, network)?;
+    let mut findings = Findings::new(alloc, room, cuts, first);
     begin_log(shelf, name, &mut findings.buffer)?;
     let inherited = Inherited {
         chosen: None,

@@ -1,12 +1,17 @@
+pub mod DualSizes
+pub mod DualTerms
 pub mod EveryText
 pub mod FedLemmas
 pub mod LongerLemmas
 pub mod MoveLemmas
 pub mod PlaceLemmas
 pub mod ReachLemmas
+pub mod ReducedLemmas
 pub mod RuleLemmas
 pub mod RunLemmas
+pub mod ShareLemmas
 pub mod TakeLemmas
 pub mod TextLemmas
 pub mod VerdictLemmas
 pub mod WalkLemmas
+pub mod WeighLemmas

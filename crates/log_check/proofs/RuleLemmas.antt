@@ -13,11 +13,11 @@ use Rattle.geo_model.specs.declared.verdict.Verdict.TheVariants.{Refuted}
 use Rattle.pivot_chain.specs.Verdict.{verdict_of}
 use Rattle.bound_log.specs.declared.log_kind.LogKind.{LogKind}
 use Rattle.bound_log.specs.declared.log_kind.LogKind.TheVariants.{Range, NotOpen, Owner, NotRefuted, CutHolds}
-use Rattle.bound_log.specs.declared.log_leaf.LogLeaf.TheVariants.{Pivot, Cut}
+use Rattle.bound_log.specs.declared.log_leaf.LogLeaf.TheVariants.{Pivot, Cut, Dual}
 use Rattle.bound_log.specs.declared.log_line.LogLine.{LogLine}
 use Rattle.bound_log.specs.declared.log_line.LogLine.TheVariants.{Split, Leaf}
 use Rattle.bound_log.specs.CutText.{CutTextOf, displaced_by}
-use Rattle.bound_log.specs.Rules.{LineRule, first_broken, chooses, is_refuted, limit_passes, is_owned, is_refuting, is_breaking, is_displacement, is_open_for, line_rules, IsAllowedLine, IsFirstBroken}
+use Rattle.bound_log.specs.Rules.{LineRule, first_broken, chooses, is_refuted, limit_passes, is_owned, is_refuting, is_breaking, is_displacement, is_in_range, is_open_for, line_rules, IsAllowedLine, IsFirstBroken}
 use Rattle.bound_log.proofs.AllowedLemmas.{ordered, chooses_owner, owner_chosen, owner_test, verdict_refuted, verdict_test, breaking_test, where_less}
 
 -- ---- one first rule
@@ -143,3 +143,22 @@ cut_holds network node cut limit named moving chosen other =
 -- what breaks a limit as a list breaks it as pairs
 pub breaks_as : (network : NetworkOf) (plan : List Bool) (limit : LimitOf) (x y : Displaced) → ((i : ℕ) → x i ≡ y i) → Breaks network plan limit x → Breaks network plan limit y
 breaks_as network plan limit x y same breaks = subst (Breaks network plan limit) (λ i k. same k i) breaks
+
+-- ---- leaves of a dual bound
+
+pub dual_out_of_range : (network : NetworkOf) (node : Node) (divisor : ℕ) (shares : List (ℕ × CutTextOf)) → is_in_range network (Leaf (Dual divisor shares)) ≡ false → IsFirstBroken network node (Leaf (Dual divisor shares)) Range
+unfolding line_rules
+dual_out_of_range network node divisor shares other =
+    ap (λ b. first_broken (ordered b true (is_owned network node (Leaf (Dual divisor shares))) true true)) other
+
+pub dual_owner_broken : (network : NetworkOf) (node : Node) (divisor : ℕ) (shares : List (ℕ × CutTextOf)) → is_in_range network (Leaf (Dual divisor shares)) ≡ true → is_owned network node (Leaf (Dual divisor shares)) ≡ false → IsFirstBroken network node (Leaf (Dual divisor shares)) Owner
+unfolding line_rules
+dual_owner_broken network node divisor shares ranged other =
+    ap (λ b. first_broken (ordered b true (is_owned network node (Leaf (Dual divisor shares))) true true)) ranged
+    ∙ ap (λ b. first_broken (ordered true true b true true)) other
+
+pub dual_kept : (network : NetworkOf) (node : Node) (divisor : ℕ) (shares : List (ℕ × CutTextOf)) → is_in_range network (Leaf (Dual divisor shares)) ≡ true → is_owned network node (Leaf (Dual divisor shares)) ≡ true → IsAllowedLine network node (Leaf (Dual divisor shares))
+unfolding line_rules
+dual_kept network node divisor shares ranged owned =
+    ap (λ b. first_broken (ordered b true (is_owned network node (Leaf (Dual divisor shares))) true true)) ranged
+    ∙ ap (λ b. first_broken (ordered true true b true true)) owned

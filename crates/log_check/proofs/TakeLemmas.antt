@@ -1,15 +1,17 @@
 -- What a line of each kind does at the next node.
-use Rattle.std.proofs.Common.{◌≡◌, ℕ, List, [], ◌∷◌, sym, ap, ◌∙◌, subst}
-use Rattle.geo_model.specs.Prices.{price_of}
+use Rattle.std.proofs.Common.{◌≡◌, ℕ, List, [], ◌∷◌, map, sym, ap, ◌∙◌, subst}
+use Rattle.geo_model.specs.Dual.{dual_bound}
+use Rattle.geo_model.specs.Prices.{price_of, prices_of}
 use Rattle.geo_model.specs.Network.{NetworkOf}
 use Rattle.geo_model.specs.declared.plan.Node.{Node}
 use Rattle.bound_log.specs.declared.bound.Bound.TheVariants.{AtLeast}
 use Rattle.bound_log.specs.declared.log_line.LogLine.{LogLine}
 use Rattle.bound_log.specs.declared.log_line.LogLine.TheVariants.{Split, Leaf}
 use Rattle.bound_log.specs.declared.log_leaf.LogLeaf.{LogLeaf}
-use Rattle.bound_log.specs.declared.log_leaf.LogLeaf.TheVariants.{Cost, Pivot, Cut}
+use Rattle.bound_log.specs.declared.log_leaf.LogLeaf.TheVariants.{Cost, Pivot, Cut, Dual}
 use Rattle.bound_log.specs.Bound.{lesser}
 use Rattle.bound_log.specs.CutText.{CutTextOf}
+use Rattle.bound_log.specs.DualText.{weighed_text}
 use Rattle.bound_log.specs.Counted.{counts_with}
 use Rattle.bound_log.specs.Lines.{kind_of}
 use Rattle.bound_log.specs.LogTree.{with_chosen, without_chosen, leaf_bound, leaf_bound_for}
@@ -61,3 +63,7 @@ unfolding leaf_bound_for
 closed_by_cut network node rest end cut before now is stack bound counts numbered =
     subst (λ (e : LogLeaf). EndsAt rest (leaf_bound network node e) before now) (sym is)
     (record { stack = stack; least = bound ∙ sym (lesser_none before.bound); counted = counts; numbered = numbered })
+
+pub closed_by_dual : (network : NetworkOf) (node : Node) (rest : List Node) (end : LogLeaf) (divisor : ℕ) (shares : List (ℕ × CutTextOf)) (before now : Progress) → end ≡ Dual divisor shares → EndsAt rest (AtLeast (dual_bound (prices_of network) divisor (map (weighed_text network) shares) node)) before now → EndsAt rest (leaf_bound network node end) before now
+unfolding leaf_bound_for
+closed_by_dual network node rest end divisor shares before now is ends = subst (λ (e : LogLeaf). EndsAt rest (leaf_bound network node e) before now) (sym is) ends

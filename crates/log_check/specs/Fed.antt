@@ -18,7 +18,8 @@ use Rattle.log_check.specs.Taking.{StopsLine, TakesLine, next_count}
 
 -- ---- what callers see
 
--- what contracts see of a replay: the network, what the lines came to that were judged, and the bytes after the last LF
+-- what contracts see of a replay: the network, what the lines came to that were judged, and the
+-- bytes after the last LF
 pub record ReplayerOf : Type 0 where
   pub network : NetworkOf
   pub judged : Judged
@@ -36,7 +37,8 @@ pub record IsRight (text : List ℕ) (replayer : ReplayerOf) : Type 0 where
   pub lacks : All (λ c. is_line_feed c ≡ false) replayer.unfinished
   pub taken : HasTaken replayer.network front replayer.judged.progress
 
--- this text was handed in, and each line of it that was judged has its LF: the lines are right, or hold the first fault
+-- this text was handed in, and each line of it that was judged has its LF: the lines are right, or
+-- hold the first fault
 abbrev pub HasFed : List ℕ → ReplayerOf → Type 0
 HasFed text replayer = MatchOption replayer.judged.fault (IsRight text replayer) (HoldsFault replayer.network text)
 
@@ -56,20 +58,21 @@ pub record IsLineNext (text : List ℕ) (line : TextLineOf) (before : ReplayerOf
   pub lacks : All (λ c. is_line_feed c ≡ false) line.text
   pub some : line.ended ≡ false → line.text ≡ [] → ⊥
 
--- an answer on one line, at the end of this text: the first fault of the text, which a line with its LF holds; none only
--- where the line has its LF and no line that has ended holds a fault
+-- an answer on one line, at the end of this text: the first fault of the text, which a line with
+-- its LF holds; none only where the line has its LF and no line that has ended holds a fault
 abbrev pub SaysOfLine : NetworkOf → List ℕ → Bool → Result Unit LogFault → Type 0
 SaysOfLine network text ended (Ok done) = (ended ≡ true) × ((fault : LogFault) → HoldsFault network text fault → ⊥)
 SaysOfLine network text ended (Err fault) = IsFirstFault network text fault × (ended ≡ true → HoldsFault network text fault)
 
--- what judging one line answers and leaves: it may be the last one, without its LF, and only where it has it others follow
+-- what judging one line answers and leaves: it may be the last one, without its LF, and only where
+-- it has it others follow
 pub record AnswersLine (text : List ℕ) (line : TextLineOf) (answer : Result Unit LogFault) (now : ReplayerOf) : Type 0 where
   pub read : HasRead (text ++ line_bytes line) now
   pub fed : line.ended ≡ true → HasFed (text ++ line_bytes line) now
   pub says : SaysOfLine now.network (text ++ line_bytes line) line.ended answer
 
--- what a piece answers and leaves: the lines that have ended hold the answered fault, or no fault; want of memory leaves all
--- as it was
+-- what a piece answers and leaves: the lines that have ended hold the answered fault, or no fault;
+-- want of memory leaves all as it was
 abbrev pub AnswersFed : List ℕ → List ℕ → Result Unit ReplayAnswer → ReplayerOf → ReplayerOf → Type 0
 AnswersFed text piece (Ok done) before now =
     HasFed (text ++ piece) now × ((fault : LogFault) → HoldsFault before.network (text ++ piece) fault → ⊥)
@@ -90,13 +93,15 @@ pub record IsSound (network : NetworkOf) (judged : Judged) : Type 0 where
   pub room : IsLineRoom network judged.room
   pub ready : IsReady network judged.progress.stack
 
--- a line was judged: after a wrong one nothing changes; else it was taken, or is the first wrong one
+-- a line was judged: after a wrong one nothing changes; else it was taken, or is the first wrong
+-- one
 pub data Judges (network : NetworkOf) (line : TextLineOf) (before now : Judged) : Type 0 where
   after_fault : (fault : LogFault) → before.fault ≡ Some fault → now ≡ before → Judges network line before now
   right : before.fault ≡ None → now.fault ≡ None → TakesLine network line.text line.ended before.progress now.progress → Judges network line before now
   wrong : (kind : LogKind) → before.fault ≡ None → now.fault ≡ Some (record { line = next_count before.progress.lines; kind = kind }) → StopsLine network before.progress line.text line.ended kind → Judges network line before now
 
--- what no further line leaves: the first wrong line, or a text that isn't begun, or one that ends too early, or a log
+-- what no further line leaves: the first wrong line, or a text that isn't begun, or one that ends
+-- too early, or a log
 pub data Ends (judged : Judged) (answer : Result Replayed LogFault) : Type 0 where
   at_fault : (fault : LogFault) → judged.fault ≡ Some fault → answer ≡ Err fault → Ends judged answer
   at_start : judged.fault ≡ None → judged.progress.lines ≡ 0 → answer ≡ Err (record { line = 1; kind = Form }) → Ends judged answer

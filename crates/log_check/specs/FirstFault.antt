@@ -1,4 +1,5 @@
--- The first fault of a text that is no log. This project's own: it speaks of trees, and of no list of open nodes.
+-- The first fault of a text that is no log. This project's own: it speaks of trees, and of no list
+-- of open nodes.
 use Rattle.std.specs.Prelude.{◌≡◌, ℕ, ◌+◌, List, [], ◌∷◌, ◌++◌, length, map}
 use Rattle.geo_model.specs.Network.{NetworkOf}
 use Rattle.geo_model.specs.declared.plan.Node.{Node}
@@ -39,8 +40,9 @@ pub record StandsNext (network : NetworkOf) (lines : List LogLine) (node : Node)
 
 -- ---- the text after them
 
--- What is wrong where these right lines are followed by this text: the tree is whole and text is left; or it isn't
--- whole, and no text is left, or no line of the grammar comes next, or one comes that breaks a rule at its node.
+-- What is wrong where these right lines are followed by this text: the tree is whole and text is
+-- left; or it isn't whole, and no text is left, or no line of the grammar comes next, or one comes
+-- that breaks a rule at its node.
 pub data IsFaultAfter (network : NetworkOf) (lines : List LogLine) (text : List ℕ) (kind : LogKind) : Type 0 where
   extra : kind ≡ Extra → IsWhole network lines → (text ≡ [] → ⊥) → IsFaultAfter network lines text kind
   short : kind ≡ Short → (IsWhole network lines → ⊥) → text ≡ [] → IsFaultAfter network lines text kind
@@ -49,8 +51,8 @@ pub data IsFaultAfter (network : NetworkOf) (lines : List LogLine) (text : List 
 
 -- ---- the first fault
 
--- Lines are counted from 1. Either the text doesn't begin with the first line of a log. Or some right lines follow that
--- one, and what comes after them is wrong.
+-- Lines are counted from 1. Either the text doesn't begin with the first line of a log. Or some
+-- right lines follow that one, and what comes after them is wrong.
 pub data IsFirstFault (network : NetworkOf) (text : List ℕ) (fault : LogFault) : Type 0 where
   headless : fault.line ≡ 1 → fault.kind ≡ Form → ((left : List ℕ) → BeginsWith text [] left → ⊥) → IsFirstFault network text fault
   later : (lines : List LogLine) (left : List ℕ) → BeginsWith text lines left → LogBegins network lines → fault.line ≡ length lines + 2 → IsFaultAfter network lines left fault.kind → IsFirstFault network text fault

@@ -1,5 +1,6 @@
 pub mod Fed
 pub mod FirstFault
+pub mod Groups
 pub mod LineRoom
 pub mod Places
 pub mod Reaching
@@ -7,4 +8,5 @@ pub mod Replayed
 pub mod Running
 pub mod Taking
 pub mod Walking
+pub mod Weighing
 pub mod Writing

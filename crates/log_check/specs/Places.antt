@@ -1,10 +1,12 @@
--- The places of open nodes. This project's own; it serves the proof of the replay, and no public clause cites it.
+-- The places of open nodes. This project's own; it serves the proof of the replay, and no public
+-- clause cites it.
 use Rattle.std.specs.Prelude.{◌≡◌, ℕ, ◌+◌, ◌≤◌, List, [], ◌∷◌, length, All}
 use Rattle.geo_model.specs.Network.{NetworkOf}
 use Rattle.geo_model.specs.declared.plan.Node.{Node}
 use Rattle.bound_log.specs.OpenCount.{open_count}
 
--- what contracts see of the open nodes: for how many candidates they are, and the nodes, the next one first
+-- what contracts see of the open nodes: for how many candidates they are, and the nodes, the next
+-- one first
 pub record OpenOf : Type 0 where
   pub candidates : ℕ
   pub nodes : List Node
@@ -21,8 +23,8 @@ pub record ArePlaces (count : ℕ) (places : List Node) (spare : Node) (free : �
   pub long : All (HasEntries count) places
   pub spare_long : HasEntries count spare
 
--- Each node has an entry for each candidate. With those after it there are at most as many nodes as candidates that it
--- doesn't leave open, and one more.
+-- Each node has an entry for each candidate. With those after it there are at most as many nodes as
+-- candidates that it doesn't leave open, and one more.
 abbrev pub HasRoom : ℕ → List Node → Type 0
 HasRoom count [] = Unit {0}
 HasRoom count (node ∷ nodes) = HasEntries count node × (open_count node.inside node.upper + length nodes ≤ count) × HasRoom count nodes

@@ -1,5 +1,5 @@
--- How far the text of a log has been taken. It speaks of the text taken so far, and not of the text to come. This
--- project's own; it serves the proof of the replay, and no public clause cites it.
+-- How far the text of a log has been taken. It speaks of the text taken so far, and not of the text
+-- to come. This project's own; it serves the proof of the replay, and no public clause cites it.
 use Rattle.std.specs.Prelude.{◌≡◌, ℕ, ◌+◌, true, List, [], ◌++◌, length}
 use Rattle.lent_parts.specs.Pieces.{TextLineOf, lines_of}
 use Rattle.geo_model.specs.Network.{NetworkOf}

@@ -1,5 +1,6 @@
--- What the replay keeps: the open nodes after lines, the next one first, and the bound of the leaves so far. This
--- project's own; it serves the proof of the replay, and no public clause cites it. The first fault is defined without it.
+-- What the replay keeps: the open nodes after lines, the next one first, and the bound of the
+-- leaves so far. This project's own; it serves the proof of the replay, and no public clause cites
+-- it. The first fault is defined without it.
 use Rattle.std.specs.Prelude.{◌≡◌, List, [], ◌∷◌, ◌++◌}
 use Rattle.geo_model.specs.Network.{NetworkOf}
 use Rattle.geo_model.specs.declared.answer.Counts.{Counts}
@@ -23,7 +24,8 @@ abbrev pub line_bound : NetworkOf → Node → LogLine → Bound
 line_bound network node (Split candidate) = NoPlan
 line_bound network node (Leaf end) = leaf_bound network node end
 
--- from these open nodes the lines lead to those: each line is allowed at the first open node, and takes its place
+-- from these open nodes the lines lead to those: each line is allowed at the first open node, and
+-- takes its place
 abbrev pub LeadsTo : NetworkOf → List Node → List LogLine → List Node → Type 0
 LeadsTo network nodes [] final = nodes ≡ final
 LeadsTo network [] (line ∷ lines) final = ⊥
@@ -37,7 +39,8 @@ bound_along network [] (line ∷ lines) = NoPlan
 bound_along network (node ∷ nodes) (line ∷ lines) =
     lesser (line_bound network node line) (bound_along network (opened node line ++ nodes) lines)
 
--- after these lines of a log these nodes are open, and this is the least bound so far, with the lines counted
+-- after these lines of a log these nodes are open, and this is the least bound so far, with the
+-- lines counted
 pub record StandsAt (network : NetworkOf) (lines : List LogLine) (nodes : List Node) (bound : Bound) (counts : Counts) : Type 0 where
   pub leads : LeadsTo network (root_of network ∷ []) lines nodes
   pub least : bound ≡ bound_along network (root_of network ∷ []) lines

@@ -1,5 +1,5 @@
--- What a line does to what the replay keeps, and how it can stop it. This project's own; it serves the proof of the
--- replay, and no public clause cites it.
+-- What a line does to what the replay keeps, and how it can stop it. This project's own; it serves
+-- the proof of the replay, and no public clause cites it.
 use Rattle.std.specs.Prelude.{◌≡◌, ℕ, ◌+◌, ◌-◌, ◌^◌, ◌<◌, min, Bool, true, List, [], ◌∷◌, ◌++◌}
 use Rattle.geo_model.specs.Network.{NetworkOf}
 use Rattle.geo_model.specs.declared.plan.Node.{Node}
@@ -32,7 +32,8 @@ pub record EndsAt (rest : List Node) (bound : Bound) (before now : Progress) : T
   pub counted : now.counts ≡ before.counts
   pub numbered : now.lines ≡ before.lines
 
--- the text is that of a line of the grammar with its LF, which is allowed at the next node and was taken there
+-- the text is that of a line of the grammar with its LF, which is allowed at the next node and was
+-- taken there
 pub record TakesText (network : NetworkOf) (text : List ℕ) (ended : Bool) (before now : Progress) : Type 0 where
   pub node : Node
   pub rest : List Node

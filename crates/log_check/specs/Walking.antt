@@ -1,5 +1,5 @@
--- How far a text has been walked line by line. This project's own; it serves the proof of the replay, and no public clause
--- cites it.
+-- How far a text has been walked line by line. This project's own; it serves the proof of the
+-- replay, and no public clause cites it.
 use Rattle.std.specs.Prelude.{◌≡◌, ℕ, ◌+◌, ◌≤◌, List, [], ◌++◌, length}
 use Rattle.lent_parts.specs.Pieces.{TextLineOf, lines_of}
 use Rattle.geo_model.specs.Network.{NetworkOf}

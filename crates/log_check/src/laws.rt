@@ -15,8 +15,8 @@ pub fn each_text_has_one_verdict()
     ensures one_fault { (network : NetworkOf) (text : List ℕ) (a b : FaultOf) → IsNetwork network → IsFirstFault network text a → IsFirstFault network text b → a ≡ b }
 {}
 
-/// A fault of a line that has ended stays the fault of each longer text. A text has as many lines that
-/// have ended as it has LFs.
+/// A fault of a line that has ended stays the fault of each longer text. A text has as many lines
+/// that have ended as it has LFs.
 pub fn a_fault_stays()
     ensures { (network : NetworkOf) (text more : List ℕ) (fault : FaultOf) → IsNetwork network → IsFirstFault network text fault → fault.line ≤ count_by is_line_feed text → IsFirstFault network (text ++ more) fault }
 {}

@@ -1,19 +1,21 @@
 //! The replay of a log over a network: its bound and the counts of its lines, or its first fault. A
-//! log is handed in whole, line by line or in pieces that are cut anywhere; of a line nothing is kept
-//! but where a piece ends in it. It stands on no crate of the search; all its memory is taken at its
-//! start, but for a line of more than 65536 bytes that pieces cut.
+//! log is handed in whole, line by line or in pieces that are cut anywhere; of a line nothing is
+//! kept but where a piece ends in it. It stands on no crate of the search; all its memory is taken
+//! at its start, but for a line of more than 65536 bytes that pieces cut.
 //!
-//! Proved: a text is replayed to the bound and the counts of its one tree, or to its first fault,
-//! a line and a kind, however it is cut; each text is a log or has a first fault, never both, nor two;
-//! a fault of a line that has ended is the fault of every longer text, and is answered from the piece
-//! on in which that line ends.
+//! Proved: a text is replayed to the bound and the counts of its one tree, or to its first fault, a
+//! line and a kind, however it is cut; each text is a log or has a first fault, never both, nor
+//! two; a fault of a line that has ended is the fault of every longer text, and is answered from
+//! the piece on in which that line ends.
 //!
-//! Said by: `replay`, clauses `replayed`, `fault`; `Replayer`, clauses `fed` of `line` and of `feed`,
-//! and that of `finish`; `each_text_has_one_verdict`, `a_fault_stays`.
+//! Said by: `replay`, clauses `replayed`, `fault`; `Replayer`, clauses `fed` of `line` and of
+//! `feed`, and that of `finish`; `each_text_has_one_verdict`, `a_fault_stays`.
 //!
 //! Caller: `answer_check` of `geoplan/src/check.rt`.
 #![tactic(auto)]
 
+mod dual;
+mod dual_sums;
 mod fault;
 mod judged;
 mod laws;
@@ -22,9 +24,11 @@ mod moves;
 mod open_nodes;
 mod parts;
 mod progress;
+mod reduced;
 mod replayer;
 mod replaying;
 mod rules;
+mod shares;
 mod taking;
 
 pub use bound_log::{Bound, LogKind};

@@ -7,11 +7,14 @@ use geo_model::{Displacement, Network};
 use pivot_chain::ChainRoom;
 use std::alloc::Global;
 
-/// The room that judging the lines of a log takes: that of verdicts, and that of one displacement.
+/// The room that judging the lines of a log takes: that of verdicts, of one displacement, and of
+/// the coefficients of a cut and the reduced prices of the candidates.
 #[derive(Drop)]
 pub struct LineRoom {
     pub chains: ChainRoom,
     pub moves: Displacement,
+    pub coefficients: Vec<u32>,
+    pub reduced: Vec<i128>,
 }
 
 impl LineRoom {
@@ -21,6 +24,13 @@ impl LineRoom {
     {
         let chains = ChainRoom::new(alloc, network)?;
         let moves = Displacement::new(alloc, network.unknowns().len() as u32)?;
-        Ok(LineRoom { chains, moves })
+        let coefficients = vec![in alloc; 0; network.candidates().len()]?;
+        let reduced = vec![in alloc; 0; network.candidates().len()]?;
+        Ok(LineRoom {
+            chains,
+            moves,
+            coefficients,
+            reduced,
+        })
     }
 }

@@ -10,8 +10,8 @@ use geo_model::Displacement;
 /// The most by which an unknown moves in a line of a log.
 const MOST_MOVED: u128 = 32768;
 
-/// Writes the displacement of a cut, and says whether its pairs are one: no more than unknowns, in the
-/// order of the unknowns, each by at most 32768 in size and not by 0. It takes no memory.
+/// Writes the displacement of a cut, and says whether its pairs are one: no more than unknowns, in
+/// the order of the unknowns, each by at most 32768 in size and not by 0. It takes no memory.
 pub fn write_moves(x: &mut Displacement, cut: &CutText<'_>) -> bool
     requires { length x.old ≤ 64 }
     ensures are { result ≡ is_displacement (length x.old) cut.now.pairs }

@@ -11,13 +11,13 @@ use std::alloc::Global;
 use std::marker::Model;
 use std::mem;
 
-/// How many places there are: a node that is split leaves a candidate open, of which there are at most
-/// 256, so no more nodes are open at once.
+/// How many places there are: a node that is split leaves a candidate open, of which there are at
+/// most 256, so no more nodes are open at once.
 const NODE_PLACES: usize = 257;
 
-/// The open nodes of a log, the next one first. Its places are all taken at the start: the open nodes
-/// stand in the last ones, and one spare node stands outside, so that a copy can be written beside
-/// the node that it is of.
+/// The open nodes of a log, the next one first. Its places are all taken at the start: the open
+/// nodes stand in the last ones, and one spare node stands outside, so that a copy can be written
+/// beside the node that it is of.
 #[derive(Drop)]
 pub struct OpenNodes {
     places: Vec<Node>,
@@ -38,8 +38,8 @@ impl Model for OpenNodes {
 }
 
 impl OpenNodes {
-    /// All places, with the node of all plans of `count` candidates open. Refused for want of memory
-    /// alone.
+    /// All places, with the node of all plans of `count` candidates open. Refused for want of
+    /// memory alone.
     #[tactic(auto, using(crate::proofs::PlaceLemmas::places_made))]
     pub fn new(alloc: Global, count: u32) -> Result<OpenNodes, NoMemory>
         ensures { IfOk result (λ made. made ≡ record { candidates = count; nodes = all_plans count ∷ [] }) }
@@ -81,8 +81,8 @@ impl OpenNodes {
         self.free += 1;
     }
 
-    /// Splits the next node on a candidate that it leaves open: the child that chooses the candidate
-    /// comes first, then the child that leaves it out. It takes no memory.
+    /// Splits the next node on a candidate that it leaves open: the child that chooses the
+    /// candidate comes first, then the child that leaves it out. It takes no memory.
     pub fn split(&mut self, candidate: u32)
         requires some { 0 < length self.old.nodes }
         requires few { length self.old.nodes < 257 }
@@ -97,8 +97,9 @@ impl OpenNodes {
     }
 }
 
-// Writes the children of the node at a place: the one that leaves the candidate out in its own place,
-// and the one that chooses it in the place before. The node that stood there becomes the spare one.
+// Writes the children of the node at a place: the one that leaves the candidate out in its own
+// place, and the one that chooses it in the place before. The node that stood there becomes the
+// spare one.
 fn split_place(places: &mut Vec<Node>, spare: &mut Node, at: usize, count: u32, candidate: u32)
     requires long { All (HasEntries count) places.old.items }
     requires spare_long { HasEntries count spare.old }

@@ -8,8 +8,9 @@ use crate::judged::Judged;
 use geo_model::Network;
 use lent_parts::{Line, lines};
 
-/// Takes one more piece of a text: judges each line that ends in it, as a slice of it where the line lies
-/// in it whole, and keeps what has not ended. It takes no memory where there is room for the piece.
+/// Takes one more piece of a text: judges each line that ends in it, as a slice of it where the
+/// line lies in it whole, and keeps what has not ended. It takes no memory where there is room for
+/// the piece.
 pub fn take_piece(network: &Network, judged: &mut Judged, kept: &mut Vec<u8>, piece: &[u8])
     requires sound { IsSound network.now judged.old }
     requires space { vec_len kept.old + length piece.now ≤ vec_capacity kept.old }

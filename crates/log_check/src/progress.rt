@@ -1,26 +1,32 @@
 //! How far a replay has come.
-ghost use Rattle.std.specs.Prelude.{◌≡◌, ◌<◌, ◌≤◌, List, [], ◌∷◌, length, IfOk};
+ghost use Rattle.std.specs.Prelude.{◌≡◌, ◌<◌, ◌≤◌, List, [], ◌∷◌, length, map, IfOk};
 ghost use Rattle.geo_model.specs.Network.{IsNetwork};
-ghost use Rattle.geo_model.specs.Prices.{price_of};
+ghost use Rattle.geo_model.specs.Dual.{dual_bound};
+ghost use Rattle.geo_model.specs.Prices.{price_of, prices_of};
 ghost use Rattle.geo_model.specs.Nodes.{all_plans};
 ghost use Rattle.geo_model.specs.declared.plan.Node.{Node as NodeOf};
 ghost use Rattle.bound_log.specs.declared.bound.Bound.TheVariants.{NoPlan, AtLeast};
 ghost use Rattle.bound_log.specs.Bound.{lesser};
 ghost use Rattle.bound_log.specs.Counted.{counts_of};
-ghost use Rattle.bound_log.specs.LogTree.{leaf_bound};
+ghost use Rattle.bound_log.specs.DualText.{weighed_text};
+ghost use Rattle.bound_log.specs.LogTree.{IsDualAt, leaf_bound};
 ghost use Rattle.bound_log.specs.Rules.{IsAllowedLine};
+ghost use Rattle.bound_log.specs.declared.log_line.LogLine.TheVariants as log_line;
+ghost use Rattle.log_check.specs.LineRoom.{IsLineRoom};
 ghost use Rattle.log_check.specs.Places.{IsReady};
 ghost use Rattle.log_check.specs.Running.{line_bound};
 ghost use Rattle.log_check.specs.Taking.{EndsAt, Takes};
 
+use crate::dual::dual_bound_at;
+use crate::line_room::LineRoom;
 use crate::open_nodes::OpenNodes;
-use bound_log::{Bound, LogLeaf, LogLine, count_line};
+use bound_log::{Bound, LogLeaf, LogLine, Shares, count_line};
 use geo_base::NoMemory;
 use geo_model::{Counts, Network, cost};
 use std::alloc::Global;
 
-/// What the lines so far leave: how many there are, the first line of a log among them, the nodes that
-/// are open, the least bound of the leaves, and the lines counted by their kinds.
+/// What the lines so far leave: how many there are, the first line of a log among them, the nodes
+/// that are open, the least bound of the leaves, and the lines counted by their kinds.
 #[derive(Drop)]
 pub struct Progress {
     pub lines: u64,
@@ -48,31 +54,38 @@ impl Progress {
         })
     }
 
-    /// Takes a line that is allowed at the next node, which is to be numbered yet. It takes no memory.
-    pub fn take(&mut self, network: &Network, line: &LogLine<'_>)
+    /// Takes a line that is allowed at the next node, which is to be numbered yet. It takes no
+    /// memory.
+    pub fn take(&mut self, network: &Network, room: &mut LineRoom, line: &LogLine<'_>)
+        requires room { IsLineRoom network.now room.old }
         requires ready { IsReady network.now self.old.stack }
         requires some { 0 < length self.old.stack.nodes }
         requires allowed { (node : NodeOf) (rest : List NodeOf) → self.old.stack.nodes ≡ node ∷ rest → IsAllowedLine network.now node line.now }
-        ensures { (node : NodeOf) (rest : List NodeOf) → self.old.stack.nodes ≡ node ∷ rest →
+        ensures taken { (node : NodeOf) (rest : List NodeOf) → self.old.stack.nodes ≡ node ∷ rest →
             Takes node rest line.now (line_bound network.now node line.now) self.old self.new }
+        ensures kept { IsLineRoom network.now room.new }
     {
         count_line(&mut self.counts, line.kind());
         match line {
             LogLine::Split(candidate) => self.stack.split(*candidate as u32),
-            LogLine::Leaf(leaf) => self.close(network, leaf),
+            LogLine::Leaf(leaf) => self.close(network, room, leaf),
         }
     }
 
-    // Closes the next node with the bound of a leaf.
-    fn close(&mut self, network: &Network, leaf: &LogLeaf<'_>)
+    // Closes the next node with the bound of a leaf that is allowed there.
+    fn close(&mut self, network: &Network, room: &mut LineRoom, leaf: &LogLeaf<'_>)
+        requires room { IsLineRoom network.now room.old }
         requires ready { IsReady network.now self.old.stack }
         requires some { 0 < length self.old.stack.nodes }
-        ensures { (node : NodeOf) (rest : List NodeOf) → self.old.stack.nodes ≡ node ∷ rest →
+        requires allowed { (node : NodeOf) (rest : List NodeOf) → self.old.stack.nodes ≡ node ∷ rest → IsAllowedLine network.now node (log_line.Leaf leaf.now) }
+        ensures ends { (node : NodeOf) (rest : List NodeOf) → self.old.stack.nodes ≡ node ∷ rest →
             EndsAt rest (leaf_bound network.now node leaf.now) self.old self.new }
+        ensures kept { IsLineRoom network.now room.new }
     {
         match leaf {
             LogLeaf::Cost => self.close_at_price(network),
             LogLeaf::Pivot(_) | LogLeaf::Cut(_) => self.stack.pop(),
+            LogLeaf::Dual(divisor, shares) => self.close_at_dual(network, room, *divisor, shares),
         }
     }
 
@@ -85,6 +98,27 @@ impl Progress {
     {
         let price = cost(network, &self.stack.top().inside);
         self.bound = lesser_bound(self.bound, u128::from(price));
+        self.stack.pop();
+    }
+
+    // Closes the next node, with the dual bound of a line's shares as its bound.
+    fn close_at_dual(
+        &mut self,
+        network: &Network,
+        room: &mut LineRoom,
+        divisor: u64,
+        shares: &Shares<'_>,
+    )
+        requires room { IsLineRoom network.now room.old }
+        requires ready { IsReady network.now self.old.stack }
+        requires some { 0 < length self.old.stack.nodes }
+        requires allowed { (node : NodeOf) (rest : List NodeOf) → self.old.stack.nodes ≡ node ∷ rest → IsDualAt network.now node divisor shares.now }
+        ensures ends { (node : NodeOf) (rest : List NodeOf) → self.old.stack.nodes ≡ node ∷ rest →
+            EndsAt rest (AtLeast (dual_bound (prices_of network.now) divisor (map (weighed_text network.now) shares.now) node)) self.old self.new }
+        ensures kept { IsLineRoom network.now room.new }
+    {
+        let least = dual_bound_at(network, room, self.stack.top(), divisor, shares);
+        self.bound = lesser_bound(self.bound, least);
         self.stack.pop();
     }
 }

@@ -17,8 +17,8 @@ use std::marker::Model;
 /// The room for an unfinished line that is taken at the start.
 const LINE_ROOM: usize = 65536;
 
-/// A replay of a text that is handed in piece by piece, cut anywhere. Its answers are those of the text
-/// that the pieces make when they are joined, however it is cut.
+/// A replay of a text that is handed in piece by piece, cut anywhere. Its answers are those of the
+/// text that the pieces make when they are joined, however it is cut.
 #[derive(Drop)]
 pub struct Replayer<'n> {
     network: &'n Network,
@@ -54,9 +54,9 @@ impl<'n> Replayer<'n> {
         })
     }
 
-    /// Judges one line, which is lent and not copied, and answers the first fault of the text so far. After a
-    /// fault it answers that fault again. It takes no memory. The clauses speak of texts in which each line
-    /// so far had its LF and fewer than 2^63 have one.
+    /// Judges one line, which is lent and not copied, and answers the first fault of the text so
+    /// far. After a fault it answers that fault again. It takes no memory. The clauses speak of
+    /// texts in which each line so far had its LF and fewer than 2^63 have one.
     pub fn line(&mut self, line: Line<'_>) -> Result<(), LogFault>
         ensures network { self.new.network ≡ self.old.network }
         ensures finished { self.new.unfinished ≡ self.old.unfinished }
@@ -69,9 +69,9 @@ impl<'n> Replayer<'n> {
         }
     }
 
-    /// Takes one more piece of the text: judges the lines that end in it, and keeps the rest. It answers the
-    /// first fault of the text where the lines that have ended hold it. Where memory runs out, which comes
-    /// before any line is judged, all stays as it was.
+    /// Takes one more piece of the text: judges the lines that end in it, and keeps the rest. It
+    /// answers the first fault of the text where the lines that have ended hold it. Where memory
+    /// runs out, which comes before any line is judged, all stays as it was.
     pub fn feed(&mut self, piece: &[u8]) -> Result<(), ReplayAnswer>
         ensures network { self.new.network ≡ self.old.network }
         ensures fed { (text : List ℕ) → HasFed text self.old → IsCountable text → AnswersFed text piece.now result self.old self.new }
@@ -88,8 +88,8 @@ impl<'n> Replayer<'n> {
         }
     }
 
-    /// What the text comes to that was handed in: its bound and the counts of its lines where it is a log, and
-    /// its first fault otherwise. It takes no memory.
+    /// What the text comes to that was handed in: its bound and the counts of its lines where it is
+    /// a log, and its first fault otherwise. It takes no memory.
     pub fn finish(self) -> Result<Replayed, LogFault>
         ensures { (text : List ℕ) → HasRead text self.entry → IsCountable text → Finishes self.entry.network text result }
     {

@@ -16,9 +16,9 @@ pub struct Replayed {
     pub counts: Counts,
 }
 
-/// Replays a text on a network. Where the text is a log it answers the log's bound and how many lines
-/// of each kind there are, and otherwise the text's first fault. It takes all its memory at its start,
-/// and the lines are only read.
+/// Replays a text on a network. Where the text is a log it answers the log's bound and how many
+/// lines of each kind there are, and otherwise the text's first fault. It takes all its memory at
+/// its start, and the lines are only read.
 pub fn replay(alloc: Global, network: &Network, log: &[u8]) -> Result<Replayed, ReplayAnswer>
     ensures replayed { IfOk result (λ done. IsReplayed network.now log.now done) }
     ensures fault { IfErr result (λ why. IsCause network.now log.now why) }

@@ -8,11 +8,13 @@ ghost use Rattle.log_check.specs.Places.{HasEntries};
 
 use crate::line_room::LineRoom;
 use crate::moves::write_moves;
-use bound_log::{CutText, LogKind, LogLeaf, LogLine};
+use crate::shares::{dual_in_range, shares_owned};
+use bound_log::{CutText, LogKind, LogLeaf, LogLine, Shares};
 use geo_model::{Network, Node, Verdict, breaks};
 use pivot_chain::verdict;
 
-/// The first rule that a line breaks at a node; `None` where it is allowed there. It takes no memory.
+/// The first rule that a line breaks at a node; `None` where it is allowed there. It takes no
+/// memory.
 pub fn broken_rule(
     network: &Network,
     room: &mut LineRoom,
@@ -46,6 +48,7 @@ fn broken_by_leaf(
         LogLeaf::Cost => None,
         LogLeaf::Pivot(limit) => broken_by_pivot(network, room, node, *limit),
         LogLeaf::Cut(cut) => broken_by_cut(network, room, node, cut),
+        LogLeaf::Dual(divisor, shares) => broken_by_dual(network, room, node, *divisor, shares),
     }
 }
 
@@ -120,6 +123,28 @@ fn broken_by_cut(
     }
     if !breaks(network, &node.upper, number as u32, &room.moves) {
         return Some(LogKind::CutHolds);
+    }
+    None
+}
+
+// The first rule that a leaf of a dual bound breaks.
+fn broken_by_dual(
+    network: &Network,
+    room: &mut LineRoom,
+    node: &Node,
+    divisor: u64,
+    shares: &Shares<'_>,
+) -> Option<LogKind>
+    requires room { IsLineRoom network.now room.old }
+    requires node { HasEntries (length network.now.candidates) node.now }
+    ensures rule { result ≡ first_broken (line_rules network.now node.now (log_line.Leaf (log_leaf.Dual divisor shares.now))) }
+    ensures kept { IsLineRoom network.now room.new }
+{
+    if !dual_in_range(network, room, divisor, shares) {
+        return Some(LogKind::Range);
+    }
+    if !shares_owned(network, node, divisor, shares) {
+        return Some(LogKind::Owner);
     }
     None
 }

@@ -12,8 +12,8 @@ use crate::rules::broken_rule;
 use bound_log::{LogKind, is_head, read_line};
 use geo_model::Network;
 
-/// Takes the text of a line, which LF ends or not: that of the first line of a log, or one at the next
-/// node. On an error nothing has changed. The count of lines stands still at its end.
+/// Takes the text of a line, which LF ends or not: that of the first line of a log, or one at the
+/// next node. On an error nothing has changed. The count of lines stands still at its end.
 pub fn take_line(
     network: &Network,
     room: &mut LineRoom,
@@ -82,6 +82,6 @@ fn take_at_node(
     if let Some(kind) = broken_rule(network, room, progress.stack.top(), &line) {
         return Err(kind);
     }
-    progress.take(network, &line);
+    progress.take(network, room, &line);
     Ok(())
 }

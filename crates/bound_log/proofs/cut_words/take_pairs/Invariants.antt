@@ -1,10 +1,10 @@
-use Rattle.std.proofs.Common.{◌≡◌, ℕ, ◌+◌, List}
 use Rattle.bound_log.specs.LogWords.{words_of}
-use Rattle.bound_log.proofs.CutLemmas.{Took}
+use Rattle.bound_log.proofs.CutLemmas.{pair_kind}
+use Rattle.bound_log.proofs.ItemLemmas.{Took}
 use Rattle.bound_log.proofs.cut_words.take_pairs.Given as goal
 
 abbrev pub invariant-pairs : goal.invariant-pairs
-invariant-pairs l = Took l.count l.left (words_of l.initial.words) (words_of l.words)
+invariant-pairs l = Took pair_kind l.count l.left (words_of l.initial.words) (words_of l.words)
 
 abbrev pub decreases-pairs : goal.decreases-pairs
 decreases-pairs l = l.left

@@ -1,4 +1,4 @@
-use Rattle.std.proofs.Common.{ℕ, subst, sym}
+use Rattle.std.proofs.Common.{ℕ, subst}
 use Rattle.bound_log.specs.Numbers.{IsNumber}
 use Rattle.bound_log.proofs.CutLemmas.{not_minus_zero, not_negative}
 use Rattle.bound_log.proofs.number.read_negative.Goals as goal

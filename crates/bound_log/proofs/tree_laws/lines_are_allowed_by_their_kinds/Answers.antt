@@ -1,4 +1,4 @@
-use Rattle.bound_log.proofs.AllowedLemmas.{cost_allowed, cut_allowed, cut_broken, pivot_allowed, pivot_refuted, split_allowed, split_open}
+use Rattle.bound_log.proofs.AllowedLemmas.{cost_allowed, cut_allowed, cut_broken, dual_allowed, dual_at, pivot_allowed, pivot_refuted, split_allowed, split_open}
 use Rattle.bound_log.proofs.tree_laws.lines_are_allowed_by_their_kinds.Goals as goal
 
 pub returns-clause-split : goal.returns-clause-split
@@ -12,3 +12,6 @@ returns-clause-pivot c = λ network node number. (pivot_refuted network node num
 
 pub returns-clause-cut : goal.returns-clause-cut
 returns-clause-cut c = λ network node text. (cut_broken network node text, cut_allowed network node text)
+
+pub returns-clause-dual : goal.returns-clause-dual
+returns-clause-dual c = λ network node divisor shares. (dual_at network node divisor shares, dual_allowed network node divisor shares)

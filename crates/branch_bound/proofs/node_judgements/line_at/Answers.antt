@@ -1,10 +1,18 @@
+use Rattle.std.proofs.Common.{refl, [], ◌∷◌}
 use Rattle.std.proofs.lemmas.Bool.{iff_false}
 use Rattle.bound_log.specs.LogTree.{leaf_bound_for}
 use Rattle.std.specs.Prelude.{slice_get}
 use Rattle.bound_log.proofs.AllowedLemmas.{cost_allowed, cut_allowed, pivot_allowed}
-use Rattle.branch_bound.specs.Cuts.{text_or_none}
+use Rattle.geo_model.specs.Row.{unit_at}
+use Rattle.cut_pool.specs.Cut.{cover_of}
+use Rattle.bound_log.specs.declared.log_leaf.LogLeaf.TheVariants.{Dual}
+use Rattle.bound_log.specs.DualText.{text_or_none}
+use Rattle.idle_splits.specs.Idle.{bound_by}
+use Rattle.branch_bound.specs.Found.{best_bound}
+use Rattle.branch_bound.proofs.DearLemmas.{above_past, not_idle, unit_allowed, unit_bound}
+use Rattle.branch_bound.specs.Cuts.{unit_text}
 use Rattle.branch_bound.proofs.VerdictLemmas.{unsettled_by}
-use Rattle.branch_bound.proofs.DoneLemmas.{IsDone-cut_off, IsDone-broken, IsDone-refuted, IsDone-certified, IsDone-unsettled, IsDone-undercut}
+use Rattle.branch_bound.proofs.DoneLemmas.{IsDone-cut_off, IsDone-past, IsDone-broken, IsDone-refuted, IsDone-certified, IsDone-unsettled, IsDone-undercut}
 use Rattle.branch_bound.proofs.node_judgements.line_at.Goals as goal
 
 pub returns-then-is_cut_off-clause-line : goal.returns-then-is_cut_off-clause-line
@@ -17,9 +25,29 @@ returns-then-is_cut_off-clause-line c = record {
 pub returns-in-Some-clause-line : goal.returns-in-Some-clause-line
 unfolding leaf_bound_for
 returns-in-Some-clause-line c = record {
-  allowed = cut_allowed c.args.network.now c.args.node.now (text_or_none (slice_get c.first_broken.new.self c.in-Some.number)) c.in-Some.ensures.found.broken;
-  done = IsDone-broken c.args.network.now c.args.node.now (text_or_none (slice_get c.first_broken.new.self c.in-Some.number)) c.args.best.now c.in-Some.ensures.bounds c.requires.kept c.in-Some.ensures.found.broken;
+  allowed = cut_allowed c.args.network.now c.args.node.now (text_or_none (slice_get c.first_broken.new.self.pool c.in-Some.number)) c.in-Some.ensures.found.broken;
+  done = IsDone-broken c.args.network.now c.args.node.now (text_or_none (slice_get c.first_broken.new.self.pool c.in-Some.number)) c.args.best.now c.in-Some.ensures.bounds c.requires.kept c.in-Some.ensures.found.broken;
 }
+
+pub returns-in-Some-dear_share-clause-line : goal.returns-in-Some-dear_share-clause-line
+returns-in-Some-dear_share-clause-line c =
+    let shows = c.in-Some-dear_share.ensures.found in
+    let allowed = unit_allowed c.args.network.now c.args.node.now (best_bound c.args.network.now c.args.best.now) c.in-Some-dear_share.share c.in-Some-dear_share.ensures.bounds shows in
+    let price = bound_by c.args.network.now c.args.node.now (cover_of c.args.network.now shows.limit (unit_at c.in-Some-dear_share.share.unknown)) c.in-Some-dear_share.share.candidate in
+    record {
+      allowed = allowed;
+      done = IsDone-past c.args.network.now c.args.node.now (Dual c.in-Some-dear_share.share.d (unit_text c.in-Some-dear_share.share ∷ [])) price c.args.best.now c.in-Some-dear_share.ensures.bounds c.requires.kept allowed
+          (unit_bound c.args.network.now c.args.node.now (best_bound c.args.network.now c.args.best.now) c.in-Some-dear_share.share shows)
+          (above_past c.args.network.now c.args.best.now price shows.dear.above);
+    }
+
+pub returns-in-Some-branch_candidate-clause-line : goal.returns-in-Some-branch_candidate-clause-line
+returns-in-Some-branch_candidate-clause-line c = (
+  c.in-Some-branch_candidate.ensures.open,
+  refl,
+  c.in_default-refuting_limit.ensures.none,
+  not_idle c.args.network.now c.args.node.now c.args.best.now (iff_false c.is_cut_off.ensures c.if-is_cut_off.false) c.in_default-refuting_limit.ensures.none c.in_default-dear_share.ensures.none,
+)
 
 pub returns-in-Some-refuting_limit-clause-line : goal.returns-in-Some-refuting_limit-clause-line
 unfolding leaf_bound_for

@@ -5,7 +5,7 @@ use Rattle.bound_log.specs.LogTree.{with_chosen, without_chosen, IsOpenAt}
 use Rattle.branch_bound.specs.Cuts.{AreCutsFor, line_of}
 use Rattle.branch_bound.specs.Explored.{IsNode}
 use Rattle.branch_bound.specs.Found.{IsKept}
-use Rattle.branch_bound.proofs.ExploreLemmas.{BreaksOff-nothing, BreaksOff-line, BreaksOff-first, BreaksOff-second, Explores-leaf, Explores-split, IsNode-with, IsNode-without, IsNode-same, IsKept-same, IsOpenAt-line, IsKept-line, unrefuted-line, Adds-line, Counts-line, BreaksOff-same, Explores-same, child_with, child_without, node_back}
+use Rattle.branch_bound.proofs.ExploreLemmas.{BreaksOff-nothing, BreaksOff-line, BreaksOff-first, BreaksOff-second, Explores-leaf, Explores-split, IsNode-with, IsNode-without, IsNode-same, IsKept-same, IsOpenAt-line, IsKept-line, unrefuted-line, idle-line, Adds-line, Counts-line, BreaksOff-same, Explores-same, child_with, child_without, node_back}
 use Rattle.branch_bound.proofs.CutLemmas.{cuts_kept, split_line, unsplit_line}
 use Rattle.bound_log.specs.OpenCount.{open_count}
 use Rattle.bound_log.proofs.OpenLemmas.{open_count-with, open_count-without}
@@ -164,7 +164,7 @@ returns-clause-explored g t c =
     (g.H.Shelf.state c.write_line.new.shelf)
     (g.H.Shelf.state c.explore.new.shelf)
     (g.H.Shelf.state c.explore-2.new.shelf)
-    is_open added counted
+    is_open (idle-line c.args.network.now c.args.node.now c.args.findings.now.best c.line_at.new.best line c.in-Some.candidate split c.in_ok-line.ensures.line) added counted
     (Explores-same c.args.network.now (with_chosen c.args.node.now c.in-Some.candidate) (record { inside = c.set.new.self; upper = c.args.node.now.upper }) c.args.name.now
     c.line_at.new.best c.args.findings.now.best c.explore.new.findings.best c.write_line.new.counts c.explore.new.findings.counts
     (g.H.Shelf.state c.write_line.new.shelf)

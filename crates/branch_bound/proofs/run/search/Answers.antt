@@ -3,7 +3,7 @@ use Rattle.std.proofs.lemmas.Result.{err_from_is_err_and}
 use Rattle.geo_model.specs.Nodes.{all_plans}
 use Rattle.bound_log.specs.LogTree.{root_of}
 use Rattle.branch_bound.proofs.ExploreLemmas.{IsNode-root, IsNode-same}
-use Rattle.branch_bound.proofs.SearchLemmas.{BreaksLog-nothing, BreaksLog-head, BreaksLog-tree, Searches-done}
+use Rattle.branch_bound.proofs.SearchLemmas.{BreaksLog-nothing, BreaksLog-head, BreaksLog-tree, IsStart-same, IsKept-start, Searches-done}
 use Rattle.branch_bound.proofs.InheritedLemmas.{IsInherited-nothing}
 use Rattle.branch_bound.proofs.run.search.Goals as goal
 
@@ -17,6 +17,13 @@ returns-in_err-node-clause-refused g c =
 pub returns-in_err-room-clause-refused : goal.returns-in_err-room-clause-refused
 returns-in_err-room-clause-refused g c =
     let p = err_from_is_err_and c.from_residual-in_err-room.result c.from_residual-in_err-room.ensures.1 in
+    rw (p.1, p.2)
+    (BreaksLog-nothing c.args.network.now c.args.name.now (g.H.Shelf.state c.args.shelf.now)
+    (λ files held. g.met.H.Shelf.started_is_held c.args.shelf.now files c.args.name.now held c.requires.started))
+
+pub returns-in_err-first-clause-refused : goal.returns-in_err-first-clause-refused
+returns-in_err-first-clause-refused g c =
+    let p = err_from_is_err_and c.from_residual-in_err-first.result c.from_residual-in_err-first.ensures.1 in
     rw (p.1, p.2)
     (BreaksLog-nothing c.args.network.now c.args.name.now (g.H.Shelf.state c.args.shelf.now)
     (λ files held. g.met.H.Shelf.started_is_held c.args.shelf.now files c.args.name.now held c.requires.started))
@@ -55,7 +62,7 @@ returns-clause-searched g c =
     (g.H.Shelf.state c.args.shelf.now)
     (g.H.Shelf.state c.begin_log.new.shelf)
     (g.H.Shelf.state c.explore.new.shelf)
-    root c.new-findings.ensures.best c.new-findings.ensures.counts c.in_ok-begin_log.ensures.added c.in_ok-explore.ensures.explored c.done.ensures.answer c.done.ensures.counts
+    c.in_ok-first.ensures.bounds root (IsStart-same c.args.network.now c.in_ok-first.first c.new-findings.result.best c.new-findings.ensures.best c.in_ok-first.ensures.first) c.new-findings.ensures.counts c.in_ok-begin_log.ensures.added c.in_ok-explore.ensures.explored c.done.ensures.answer c.done.ensures.counts
 
 pub explore-requires-clause-node : goal.explore-requires-clause-node
 explore-requires-clause-node g c =
@@ -64,3 +71,8 @@ explore-requires-clause-node g c =
 
 pub explore-requires-clause-inherited : goal.explore-requires-clause-inherited
 explore-requires-clause-inherited g c = IsInherited-nothing c.args.network.now c.in_ok-node.node
+
+pub explore-requires-clause-kept : goal.explore-requires-clause-kept
+explore-requires-clause-kept g c =
+    IsKept-start c.args.network.now c.new-findings.result.best
+    (IsStart-same c.args.network.now c.in_ok-first.first c.new-findings.result.best c.new-findings.ensures.best c.in_ok-first.ensures.first)

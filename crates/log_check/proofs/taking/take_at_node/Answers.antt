@@ -35,5 +35,5 @@ returns-clause-taken c =
       with_end = c.if-not-ended.false;
       spelled = c.in-Some.ensures.some;
       allowed = subst (λ (n : Node). IsAllowedLine c.args.network.now n line) (c.top.ensures top.first top.rest top.is) (sym c.in_default-broken_rule.ensures.rule);
-      takes = c.take.ensures top.first top.rest top.is;
+      takes = c.take.ensures.taken top.first top.rest top.is;
     }

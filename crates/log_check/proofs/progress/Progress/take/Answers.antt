@@ -27,10 +27,14 @@ split-requires-clause-candidate c =
     let allowed = subst (λ (l : LogLine). (node : Node) (rest : List Node) → stack.nodes ≡ node ∷ rest → IsAllowedLine c.args.network.now node l) c.in-Split.is c.requires.allowed in
     (split_fits c.args.network.now stack c.in-Split.candidate c.requires.ready c.requires.some allowed).within
 
-pub returns-in-Split : goal.returns-in-Split
-returns-in-Split c = λ node rest is.
+pub returns-in-Split-clause-taken : goal.returns-in-Split-clause-taken
+returns-in-Split-clause-taken c = λ node rest is.
     split_taken c.args.network.now node rest c.args.line.now c.in-Split.candidate c.args.self.now _ c.in-Split.is (c.split.ensures node rest is) refl (c.count_line.ensures ∙ ap (λ (k : LineKind). counts_with c.args.self.now.counts (k ∷ [])) c.kind.ensures) refl
 
-pub returns-in-Leaf : goal.returns-in-Leaf
-returns-in-Leaf c = λ node rest is.
-    leaf_taken c.args.network.now node rest c.args.line.now c.in-Leaf.leaf c.args.self.now _ _ c.in-Leaf.is refl refl (c.count_line.ensures ∙ ap (λ (k : LineKind). counts_with c.args.self.now.counts (k ∷ [])) c.kind.ensures) refl (c.close.ensures node rest is)
+pub returns-in-Leaf-clause-taken : goal.returns-in-Leaf-clause-taken
+returns-in-Leaf-clause-taken c = λ node rest is.
+    leaf_taken c.args.network.now node rest c.args.line.now c.in-Leaf.leaf c.args.self.now _ _ c.in-Leaf.is refl refl (c.count_line.ensures ∙ ap (λ (k : LineKind). counts_with c.args.self.now.counts (k ∷ [])) c.kind.ensures) refl (c.close.ensures.ends node rest is)
+
+pub close-requires-clause-allowed : goal.close-requires-clause-allowed
+close-requires-clause-allowed c = λ node rest is.
+    subst (λ (l : LogLine). IsAllowedLine c.args.network.now node l) c.in-Leaf.is (c.requires.allowed node rest is)

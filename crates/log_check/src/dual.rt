@@ -1,0 +1,98 @@
+//! The dual bound of a line of a log, formed from the lent line in room that stands.
+ghost use Rattle.std.specs.Prelude.{◌≡◌, ℕ, ◌+◌, ◌-◌, ◌*◌, ◌/◌, ◌^◌, ◌≤◌, pos, ◌-ℤ◌, All, None, get_or, length, map, sum_by, unsigned_abs};
+ghost use Rattle.whole_algebra.specs.Matrices.{at};
+ghost use Rattle.geo_model.specs.Dual.{at_least_zero, dual_bound, reduced_price};
+ghost use Rattle.geo_model.specs.Prices.{prices_of};
+ghost use Rattle.bound_log.specs.DualText.{weighed_text};
+ghost use Rattle.bound_log.specs.LogTree.{IsDualAt};
+ghost use Rattle.log_check.specs.Groups.{AreReduced};
+ghost use Rattle.log_check.specs.LineRoom.{IsLineRoom};
+ghost use Rattle.log_check.specs.Places.{HasEntries};
+ghost use Rattle.log_check.specs.Weighing.{IsShareOf};
+
+use crate::dual_sums::{inner_sum, open_sum, stations_sum};
+use crate::line_room::LineRoom;
+use crate::moves::write_moves;
+use crate::reduced::{take_off, write_prices};
+use bound_log::{CutText, Shares};
+use cut_pool::cut_into;
+use geo_model::{Network, Node};
+
+// Takes a share off the reduced prices, and answers its multiplier times the bound of its cut.
+fn weigh_share(network: &Network, room: &mut LineRoom, multiplier: u64, cut: &CutText<'_>) -> u128
+    requires room { IsLineRoom network.now room.old }
+    requires share { IsShareOf network.now (multiplier, cut.now) }
+    requires small { (i : ℕ) → unsigned_abs (at room.old.reduced.items i) ≤ 2 ^ 75 }
+    ensures paid { result ≡ multiplier * (weighed_text network.now (multiplier, cut.now)).cover.bound }
+    ensures paid_size { result ≤ 2 ^ 68 }
+    ensures taken { (i : ℕ) → at room.new.reduced.items i ≡ at room.old.reduced.items i -ℤ pos (multiplier * get_or (weighed_text network.now (multiplier, cut.now)).cover.coefficients i 0) }
+    ensures near { (i : ℕ) → unsigned_abs (at room.new.reduced.items i) ≤ unsigned_abs (at room.old.reduced.items i) + 2 ^ 68 }
+    ensures kept { IsLineRoom network.now room.new }
+{
+    // The network's bounds, for the proof.
+    let _bounds = network.limits();
+    // The pairs are a displacement: their ranges were looked at.
+    let _written = write_moves(&mut room.moves, cut);
+    let coefficients = room.coefficients.as_mut_slice();
+    let bound = cut_into(network, cut.limit() as u32, &room.moves, coefficients);
+    take_off(
+        room.reduced.as_mut_slice(),
+        room.coefficients.as_slice(),
+        multiplier,
+    );
+    u128::from(multiplier) * u128::from(bound)
+}
+
+// Writes the reduced prices that shares leave, and answers the sum of their multipliers times the
+// bounds of their cuts.
+fn weigh(network: &Network, room: &mut LineRoom, divisor: u64, shares: &Shares<'_>) -> u128
+    requires room { IsLineRoom network.now room.old }
+    requires divisor { divisor ≤ 2 ^ 44 }
+    requires few { length shares.now ≤ 64 }
+    requires each { All (IsShareOf network.now) shares.now }
+    ensures paid { result ≡ sum_by (λ share. share.multiplier * share.cover.bound) (map (weighed_text network.now) shares.now) }
+    ensures paid_size { result ≤ 2 ^ 74 }
+    ensures taken { (i : ℕ) → at room.new.reduced.items i ≡ reduced_price (prices_of network.now) divisor (map (weighed_text network.now) shares.now) i }
+    ensures small { AreReduced (length network.now.candidates) room.new.reduced.items }
+    ensures kept { IsLineRoom network.now room.new }
+{
+    write_prices(network, room.reduced.as_mut_slice(), divisor);
+    let mut left = shares.shares();
+    let mut paid = 0;
+    'shares: while let Some((multiplier, cut)) = left.next() {
+        paid += weigh_share(network, room, multiplier, &cut);
+    }
+    paid
+}
+
+// A number over the divisor, rounded up, and at least 0.
+fn rounded_up(sum: i128, divisor: u64) -> u128
+    requires size { unsigned_abs sum ≤ 2 ^ 100 }
+    requires divisor { 1 ≤ divisor }
+    ensures { result ≡ (at_least_zero sum + (divisor - 1)) / divisor }
+{
+    let whole = sum.max(0) as u128;
+    (whole + u128::from(divisor - 1)) / u128::from(divisor)
+}
+
+/// The dual bound of the shares of a line that is allowed at a node. It takes no memory.
+pub fn dual_bound_at(
+    network: &Network,
+    room: &mut LineRoom,
+    node: &Node,
+    divisor: u64,
+    shares: &Shares<'_>,
+) -> u128
+    requires room { IsLineRoom network.now room.old }
+    requires node { HasEntries (length network.now.candidates) node.now }
+    requires dual { IsDualAt network.now node.now divisor shares.now }
+    ensures value { result ≡ dual_bound (prices_of network.now) divisor (map (weighed_text network.now) shares.now) node.now }
+    ensures kept { IsLineRoom network.now room.new }
+{
+    let paid = weigh(network, room, divisor, shares);
+    let reduced = room.reduced.as_slice();
+    let inner = inner_sum(network, node, reduced);
+    let free = open_sum(network, node, reduced, None);
+    let stations = stations_sum(network, node, divisor, reduced);
+    rounded_up(inner + free + stations + paid as i128, divisor)
+}
