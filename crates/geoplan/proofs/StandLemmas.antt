@@ -61,6 +61,7 @@ leaves_log tables name done before now network solved =
       network = network;
       replayed = record { tree = solved.tree; log = shown.log; least = refl; counted = solved.searched.counted };
       lower = HasBound-below tables.network (log_text solved.tree) (bound_at tables.network (root_of tables.network) solved.tree) network shown;
+      no_idle = solved.searched.no_idle;
       written = solved.written;
       quiet = solved.quiet;
     }
@@ -199,6 +200,7 @@ module _ (tables : TablesOf) (name : List ℕ) (before middle now : ShelfState) 
     network = leaves.network;
     replayed = leaves.replayed;
     lower = leaves.lower;
+    no_idle = leaves.no_idle;
     written = leaves.written ∙ ap (λ files. with_bytes files name leaves.log) held;
     quiet = keeps before middle now leaves.quiet quiet;
   }

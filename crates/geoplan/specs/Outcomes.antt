@@ -12,6 +12,7 @@ use Rattle.bound_log.specs.declared.bound.Bound.{Bound}
 use Rattle.bound_log.specs.declared.bound.Bound.TheVariants.{NoPlan, AtLeast}
 use Rattle.bound_log.specs.LogText.{log_text}
 use Rattle.bound_log.specs.LogTree.{root_of, IsAllowed}
+use Rattle.bound_log.specs.Placed.{placed}
 use Rattle.bound_log.specs.Sound.{IsLowerBound}
 use Rattle.bound_log.specs.Tree.{Tree}
 use Rattle.branch_bound.specs.Searched.{IsCertified, IsUnsettled, IsFirstOpen}
@@ -19,6 +20,7 @@ use Rattle.log_check.specs.declared.fault.LogFault.{LogFault}
 use Rattle.log_check.specs.declared.replaying.Replayed.{Replayed}
 use Rattle.log_check.specs.FirstFault.{IsFirstFault}
 use Rattle.log_check.specs.Replayed.{IsReplayed}
+use Rattle.idle_splits.specs.NoIdle.{NoSplitIsIdle}
 use Rattle.geoplan.specs.CommandOf.{CommandOf, FileOf, files_read, command_of}
 use Rattle.geoplan.specs.Input.{InputOf, too_long_input, refused_input, IsWithin, input_of}
 use Rattle.geoplan.specs.Tables.{TablesOf, RefusedOf}
@@ -33,11 +35,13 @@ use Rattle.geoplan.specs.Texts.{words_text, cannot_read_text, too_long_text, tab
 
 -- Under the name stands a log of the tables' network, with this bound and these counts of its lines, and every other name
 -- holds what it held. Every plan that meets the limits costs at least the bound, and where that is `NoPlan` none meets them.
+-- No split of the log is idle.
 pub record LeavesLog (tables : TablesOf) (name : List ℕ) (done : Replayed) (before now : ShelfState) : Type 0 where
   pub log : List ℕ
   pub network : IsNetwork tables.network
   pub replayed : IsReplayed tables.network log done
   pub lower : IsLowerBound tables.network done.bound
+  pub no_idle : NoSplitIsIdle tables.network (placed (root_of tables.network) replayed.tree)
   pub written : now.held ≡ with_bytes before.held name log
   pub quiet : KeepsFaults before now
 
