@@ -1,5 +1,5 @@
-//! Splits over three levels of 1.00 mm to one new height, whose limit is 0.9 mm, that a unit cut makes
-//! idle.
+//! Splits over three levels of 1.00 mm to one new height, whose limit is 0.9 mm, that a unit cut
+//! makes idle.
 ghost use Rattle.std.specs.Prelude.{◌≡◌, ◌∷◌, [], length, IsTrue, IfOk};
 ghost use Rattle.geo_model.specs.Energy.{IsWithin};
 ghost use Rattle.idle_splits.specs.Tests.{IsTestOf};
