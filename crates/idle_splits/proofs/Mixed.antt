@@ -1,5 +1,5 @@
--- Two plans of a node that satisfy a covering inequality where each is counted so many times: no dual bound of the
--- inequality alone is above what they cost together.
+-- Two plans of a node that satisfy a covering inequality where each is counted so many times: no
+-- dual bound of the inequality alone is above what they cost together.
 use Rattle.std.proofs.Common.{◌≡◌, ◌<◌, ◌≤◌, ℕ, suc, ◌+◌, ◌-◌, ◌*◌, ◌/◌, inl, inr, ℤ, pos, negsuc, ◌+ℤ◌, ◌≤ℤ◌, Bool, List, [], ◌∷◌, length, get_or, None, arith, refl, ap, sym, ◌∙◌}
 use Rattle.std.specs.Prelude.{sum_by}
 use Rattle.std.proofs.lemmas.Bool.{cases_lt}

@@ -20,7 +20,8 @@ pub record IsFilling (network : NetworkOf) (cuts : UnitCuts) (k : ℕ) (plan : L
   pub weight : (cut : CutOf) → slice_get cuts.pool k ≡ Some cut → filling.weight ≡ chosen_sum cut.coefficients plan
   pub price : filling.price ≡ price_of network plan
 
--- two plans, each counted so many times, reach as many times a bound, and cost no more than as many times a price
+-- two plans, each counted so many times, reach as many times a bound, and cost no more than as many
+-- times a price
 pub record IsMixedBelow (bound earlier : ℕ) (first second : Filling) : Type 0 where
   pub one : ℕ
   pub two : ℕ

@@ -58,8 +58,8 @@ pub(crate) fn is_dear(
     leaf_bound(network, node, share.d, &shares, &cuts.pool) > earlier
 }
 
-// The share of a kept cut, by its number, at the price of the first candidate at which it shows that a
-// node costs more than a bound.
+// The share of a kept cut, by its number, at the price of the first candidate at which it shows
+// that a node costs more than a bound.
 pub(crate) fn first_dear_share(
     network: &Network,
     node: &Node,
@@ -83,10 +83,11 @@ pub(crate) fn first_dear_share(
     None
 }
 
-/// A share of one unit cut that shows that a node costs more than an earlier bound: its dual bound at
-/// the price of a candidate that the node may choose is greater. None only where no unit cut shows it
-/// at the price of any. Both plans of the node have an entry for each candidate. It takes no memory,
-/// and asks each cut at the price of each candidate: `IdleTest` does the same in less time.
+/// A share of one unit cut that shows that a node costs more than an earlier bound: its dual bound
+/// at the price of a candidate that the node may choose is greater. None only where no unit cut
+/// shows it at the price of any. Both plans of the node have an entry for each candidate. It takes
+/// no memory, and asks each cut at the price of each candidate: `IdleTest` does the same in less
+/// time.
 pub fn dear_share(
     network: &Network,
     node: &Node,

@@ -34,8 +34,8 @@ fn is_open(network: &Network, node: &Node, candidate: u32) -> bool
         && !node.inside.has(candidate)
 }
 
-// Puts into a plan of a node the open candidates that are offered, up to the one with which it would
-// reach a bound: that one is answered. `weight` is what the plan weighs without them.
+// Puts into a plan of a node the open candidates that are offered, up to the one with which it
+// would reach a bound: that one is answered. `weight` is what the plan weighs without them.
 fn fill_up(
     network: &Network,
     node: &Node,
@@ -64,8 +64,8 @@ fn fill_up(
     None
 }
 
-/// Makes `room` a plan of the node that doesn't reach the bound of a kept cut, by its number, or else
-/// the inner plan; answers a candidate with which it would.
+/// Makes `room` a plan of the node that doesn't reach the bound of a kept cut, by its number, or
+/// else the inner plan; answers a candidate with which it would.
 pub(crate) fn fill(
     network: &Network,
     node: &Node,

@@ -81,8 +81,8 @@ fn times_of(bound: u64, first: Filling, second: Filling) -> Times
     }
 }
 
-/// Whether two plans, each counted a number of times, reach a bound and cost no more than a price as
-/// often.
+/// Whether two plans, each counted a number of times, reach a bound and cost no more than a price
+/// as often.
 pub(crate) fn is_mixed_below(bound: u64, first: Filling, second: Filling, earlier: u128) -> bool
     requires bound { bound ≤ 2 ^ 32 }
     requires second { second.weight ≤ 2 ^ 32 }

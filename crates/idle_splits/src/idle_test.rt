@@ -40,10 +40,10 @@ impl IdleTest {
         Ok(IdleTest { cuts, room })
     }
 
-    /// A share of one unit cut that shows that a node costs more than an earlier bound: its dual bound
-    /// at the price of a candidate that the node may choose is greater. None only where no unit cut
-    /// shows it at the price of any. Both plans of the node have an entry for each candidate. It takes
-    /// no memory.
+    /// A share of one unit cut that shows that a node costs more than an earlier bound: its dual
+    /// bound at the price of a candidate that the node may choose is greater. None only where no
+    /// unit cut shows it at the price of any. Both plans of the node have an entry for each
+    /// candidate. It takes no memory.
     pub fn dear_share(&mut self, network: &Network, node: &Node, earlier: u128) -> Option<UnitShare>
         requires test { IsTestOf network.now self.old }
         requires within { IsWithin node.now.inside node.now.upper }

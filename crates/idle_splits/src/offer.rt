@@ -5,8 +5,8 @@ use geo_base::NoMemory;
 use geo_model::Network;
 use std::alloc::Global;
 
-/// A candidate as a cut sees it: its number, its coefficient, and its price for each part of that, in
-/// parts of 2^-48.
+/// A candidate as a cut sees it: its number, its coefficient, and its price for each part of that,
+/// in parts of 2^-48.
 #[derive(Clone, Copy, Debug)]
 pub(crate) struct Offer {
     pub(crate) candidate: u32,

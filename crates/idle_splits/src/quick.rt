@@ -12,8 +12,8 @@ use crate::unit_cuts::UnitCuts;
 use crate::unit_share::UnitShare;
 use geo_model::{Network, Node, Plan};
 
-// The share of a kept cut, by its number, at the price of a candidate, if any, where it shows that a
-// node costs more than a bound.
+// The share of a kept cut, by its number, at the price of a candidate, if any, where it shows that
+// a node costs more than a bound.
 fn dear_share_at(
     network: &Network,
     node: &Node,
@@ -36,10 +36,10 @@ fn dear_share_at(
     Some(share)
 }
 
-// The share of a kept cut, by its number, at the price of a candidate, where it shows that a node costs
-// more than a bound. As a function of the multiplier over the divisor the dual bound is concave, and
-// the candidate with which the cheapest ones for their weight reach the cut's bound is where it is
-// greatest. That candidate is asked alone, unless that doesn't decide it.
+// The share of a kept cut, by its number, at the price of a candidate, where it shows that a node
+// costs more than a bound. As a function of the multiplier over the divisor the dual bound is
+// concave, and the candidate with which the cheapest ones for their weight reach the cut's bound is
+// where it is greatest. That candidate is asked alone, unless that doesn't decide it.
 fn quick_share_of(
     network: &Network,
     node: &Node,
@@ -69,9 +69,10 @@ fn quick_share_of(
     first_dear_share(network, node, cuts, k, earlier)
 }
 
-/// A share of one unit cut that shows that a node costs more than an earlier bound: its dual bound at
-/// the price of a candidate that the node may choose is greater. None only where no unit cut shows it
-/// at the price of any. `room` has an entry for each candidate; its content afterwards is open.
+/// A share of one unit cut that shows that a node costs more than an earlier bound: its dual bound
+/// at the price of a candidate that the node may choose is greater. None only where no unit cut
+/// shows it at the price of any. `room` has an entry for each candidate; its content afterwards is
+/// open.
 pub(crate) fn quick_share(
     network: &Network,
     node: &Node,

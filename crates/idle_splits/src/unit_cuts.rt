@@ -11,8 +11,8 @@ use geo_base::NoMemory;
 use geo_model::{Displacement, Limit, LimitKind, Network, load};
 use std::alloc::Global;
 
-/// The cuts of a network's axis and height limits and the displacements by 1 in one unknown that load
-/// them, each with its unknown: at most one for each limit and unknown.
+/// The cuts of a network's axis and height limits and the displacements by 1 in one unknown that
+/// load them, each with its unknown: at most one for each limit and unknown.
 #[derive(Debug, Drop)]
 pub struct UnitCuts {
     pub(crate) pool: CutPool,
