@@ -1,4 +1,4 @@
-use Rattle.std.specs.Prelude.{◌≡◌, ℕ, ◌<◌, ◌≤◌, ◌∷◌, ◌++◌, Bool, List, [], length, drop, All, Option, Some, None, option_map}
+use Rattle.std.specs.Prelude.{◌≡◌, ℕ, ◌<◌, ◌≤◌, ◌∷◌, ◌++◌, Bool, List, [], length, drop, All, map, Option, Some, None, option_map}
 use Rattle.std.specs.List.{AllByRecursion}
 use Rattle.std.specs.Option.{ForSome}
 use Rattle.shelf_io.specs.Files.{Files, bytes_of}
@@ -13,11 +13,13 @@ use Rattle.point_tables.specs.PointTable.{points_fault, points_of}
 use Rattle.candidate_tables.specs.CandidateTable.{candidates_fault, candidates_of}
 use Rattle.point_tables.specs.declared.fault.TableAnswer.{TableAnswer}
 use Rattle.point_tables.specs.declared.fault.TableAnswer.TheVariants as answer
+use Rattle.geoplan.specs.declared.file_kind.FileKind.{FileKind}
 use Rattle.geoplan.specs.declared.file_kind.FileKind.TheVariants as kind
 use Rattle.geoplan.specs.declared.load.LoadFault.{LoadFault}
 use Rattle.geoplan.specs.declared.load.LoadFault.TheVariants as load
 use Rattle.geoplan.specs.declared.refused_table.RefusedTable.{RefusedTable}
-use Rattle.geoplan.specs.CommandOf.{CommandOf, FileOf, file_of, files_read}
+use Rattle.geoplan.specs.declared.verb.Verb.{Verb}
+use Rattle.geoplan.specs.CommandOf.{CommandOf, FileOf, reads, file_of, files_read}
 use Rattle.geoplan.specs.Ends.{AreHeldTables}
 use Rattle.geoplan.specs.Input.{InputOf, too_long_input, refused_input, built_input, refused_table, refused_or, IsWithin, accepted_input, input_of}
 use Rattle.geoplan.specs.Tables.{TablesOf, RefusedOf}
@@ -92,9 +94,18 @@ pub record ReadsAll (files : List FileOf) (before now : ShelfState) : Type 0 whe
   pub held : now.held ≡ before.held
   pub quiet : KeepsFaults before now
 
+-- the kinds of the files that a command reads after the two tables
+abbrev pub more_kinds : Verb → List FileKind
+more_kinds verb = drop 2 (reads verb)
+
+-- at most one kind
+abbrev pub listed : Option FileKind → List FileKind
+listed None = []
+listed (Some kind) = kind ∷ []
+
 -- the files that are read after the two tables
 abbrev pub more_read : CommandOf → List FileOf
-more_read command = drop 2 (files_read command)
+more_read command = map (file_of command.sources) (more_kinds command.verb)
 
 -- the one file after the two tables was not read
 pub record FailsMore (command : CommandOf) (why : LoadFault) (before now : ShelfState) : Type 0 where

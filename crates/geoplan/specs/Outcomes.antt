@@ -11,7 +11,7 @@ use Rattle.geo_model.specs.declared.answer.Counts.{Counts}
 use Rattle.bound_log.specs.declared.bound.Bound.{Bound}
 use Rattle.bound_log.specs.declared.bound.Bound.TheVariants.{NoPlan, AtLeast}
 use Rattle.bound_log.specs.LogText.{log_text}
-use Rattle.bound_log.specs.LogTree.{root_of, IsAllowed}
+use Rattle.bound_log.specs.LogTree.{root_of, IsAllowed, IsLog}
 use Rattle.bound_log.specs.Sound.{IsLowerBound}
 use Rattle.bound_log.specs.Tree.{Tree}
 use Rattle.branch_bound.specs.Searched.{IsCertified, IsUnsettled, IsFirstOpen}
@@ -121,6 +121,22 @@ pub record RefusesLog (tables : TablesOf) (log : List ℕ) (before now : ShelfSt
   pub held : now.held ≡ before.held
   pub quiet : KeepsFaults before now
   pub printed : text ≡ log_fault_text fault
+
+-- a text is a log of the tables' network, and has no first fault
+pub record IsRightLog (tables : TablesOf) (log : List ℕ) : Type 0 where
+  pub done : Replayed
+  pub replayed : IsReplayed tables.network log done
+  pub faultless : (fault : LogFault) → IsFirstFault tables.network log fault → ⊥
+
+-- a text has a first fault for the tables' network, and is no log of it
+pub record IsWrongLog (tables : TablesOf) (log : List ℕ) : Type 0 where
+  pub fault : LogFault
+  pub first : IsFirstFault tables.network log fault
+  pub no_log : (tree : Tree) → IsLog tables.network log tree → ⊥
+
+-- the status of a replay: 0 exactly where the text is a log, 8 exactly where it is none, or want of memory
+abbrev pub IsCheckStatus : TablesOf → List ℕ → ℕ → Type 0
+IsCheckStatus tables log status = ((status ≡ 0) × IsRightLog tables log) ⊎ (((status ≡ 8) × IsWrongLog tables log) ⊎ (status ≡ 7))
 
 -- ---- refusals
 

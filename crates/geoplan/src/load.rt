@@ -14,7 +14,6 @@ use crate::log_parts::LogParts;
 use crate::refused_table::RefusedTable;
 use crate::sources::Sources;
 use crate::tables::Tables;
-use crate::verb::Verb;
 use candidate_tables::{Candidates, read_candidates};
 use geo_base::NoMemory;
 use net_build::build;
@@ -76,9 +75,13 @@ fn skip_more<'a, H: Shelf>(
     ensures read { OnOk result (ReadsAll (more_read (command_view command.now)) (H.state shelf.old) (H.state shelf.new)) }
     ensures fault { IfErr result (λ why. FailsMore (command_view command.now) why (H.state shelf.old) (H.state shelf.new)) }
 {
-    match command.verb {
-        Verb::Check => skip_log(alloc, shelf, command.sources.log),
-        Verb::Plan | Verb::Rows => Ok(()),
+    match command.verb.read_after_tables() {
+        None => Ok(()),
+        Some(FileKind::Log) => skip_log(alloc, shelf, command.sources.log),
+        Some(kind) => match read_file(alloc, &command.sources, kind, shelf) {
+            Ok(_) => Ok(()),
+            Err(why) => Err(why),
+        },
     }
 }
 

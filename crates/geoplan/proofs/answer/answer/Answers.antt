@@ -1,5 +1,8 @@
 use Rattle.geoplan.specs.CommandView.{sources_view, command_view}
-use Rattle.geoplan.proofs.StandLemmas.{IsOutcomeOf-refused, IsOutcomeOf-plan, IsOutcomeOf-rows, IsOutcomeOf-check}
+use Rattle.geoplan.proofs.StandLemmas.{IsOutcomeOf-refused}
+use Rattle.geoplan.proofs.PlanOutcome.{IsOutcomeOf-plan}
+use Rattle.geoplan.proofs.RowsOutcome.{IsOutcomeOf-rows}
+use Rattle.geoplan.proofs.CheckOutcome.{IsOutcomeOf-check}
 use Rattle.geoplan.proofs.answer.answer.Goals as goal
 
 pub returns-in-Err : goal.returns-in-Err
