@@ -66,15 +66,21 @@ const SHORT: Cover = Cover {
     cuts: &[Cut(&[1, 1, 0], 3), Cut(&[0, 1, 2], 2)],
 };
 
+const FREE: Cover = Cover {
+    prices: &[5, 7, 9],
+    cuts: &[],
+};
+
 // Covers and their least prices, by the corners of their shares in exact fractions; none where no
 // shares meet the cuts.
-const COVERS: [(&Cover, Option<Exact>); 6] = [
+const COVERS: [(&Cover, Option<Exact>); 7] = [
     (&TRIANGLE, Some(Exact(3, 2))),
     (&FOUR, Some(Exact(1169, 148))),
     (&HALF, Some(Exact(5, 2))),
     (&WHOLE, Some(Exact(12, 1))),
     (&THIRDS, Some(Exact(34, 3))),
     (&SHORT, None),
+    (&FREE, Some(Exact(0, 1))),
 ];
 
 impl Cut {

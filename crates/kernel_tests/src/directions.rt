@@ -147,13 +147,14 @@ fn limits_are_weakest_in_known_directions(rt: HostRuntime) -> Result<(), Fail> {
 }
 
 // Matrices of two rows by their entries, the greatest eigenvalue and its direction.
-const MATRICES: [([i64; 3], i64, Exact, Exact); 6] = [
+const MATRICES: [([i64; 3], i64, Exact, Exact); 7] = [
     ([2, 1, 2], 3, Exact(1, 1), Exact(1, 1)),
     ([5, 2, 2], 6, Exact(1, 1), Exact(1, 2)),
     ([2, 2, 5], 6, Exact(1, 2), Exact(1, 1)),
     ([1, -2, 1], 3, Exact(1, 1), Exact(-1, 1)),
     ([73, -36, 52], 100, Exact(1, 1), Exact(-3, 4)),
     ([4, 0, 4], 4, Exact(1, 1), Exact(0, 1)),
+    ([0, 0, 0], 0, Exact(1, 1), Exact(0, 1)),
 ];
 
 #[test]

@@ -57,10 +57,12 @@ fn quotients_stop_at_the_greatest_number(rt: HostRuntime) {
 
 // Two whole numbers, and the root of their quotient times 2^32, rounded down: by the whole roots of
 // Python, whose numbers have no greatest one.
-const ROOTS: [(u128, u128, i64); 8] = [
+const ROOTS: [(u128, u128, i64); 10] = [
+    (0, 5, 0),
     (9, 16, 3221225472),
     (2, 1, 6074000999),
     (1, 3, 2479700524),
+    (100000000000000, 81000000000000, 4772185884),
     (1 << 90, 1 << 99, 189812531),
     (3 << 100, 1 << 100, 7439101573),
     (1 << 127, 3 << 70, 941356466589540094),

@@ -80,6 +80,9 @@ fn cuts_are_added_and_dropped_between_runs(rt: HostRuntime) -> Result<(), Fail> 
     let mut tableau = halves(rt.alloc(), [ONE, 3 * ONE].as_slice())?;
     tableau.add_cut(6, [3 * ONE; 2].as_slice())?;
     assert!(rt; ends_at(&mut tableau, Some(Exact(4, 1)))?);
+    let mut ray = Vec::new(rt.alloc());
+    tableau.ray(&mut ray)?;
+    assert_eq!(rt; ray.len(), 0);
     tableau.drop_slack_cuts(ONE);
     let mut numbers = Vec::new(rt.alloc());
     tableau.cuts(&mut numbers)?;
