@@ -81,8 +81,17 @@ fn roots_are_those_of_whole_numbers(rt: HostRuntime) {
     }
 }
 
-// Rows of seven and of six numbers: one is gone over in fours, with a rest on both sides.
-const ROW: [i64; 7] = [ONE, 2 * ONE, 3 * ONE, 4 * ONE, 5 * ONE, 6 * ONE, 7 * ONE];
+// Rows of eight and of six numbers: the shorter one has a rest beside its four.
+const ROW: [i64; 8] = [
+    ONE,
+    2 * ONE,
+    3 * ONE,
+    4 * ONE,
+    5 * ONE,
+    6 * ONE,
+    7 * ONE,
+    8 * ONE,
+];
 
 const OTHER: [i64; 6] = [2 * ONE, 0, -2 * ONE, 4 * ONE, 6 * ONE, -8 * ONE];
 
@@ -91,29 +100,20 @@ fn rows_are_combined_place_by_place(rt: HostRuntime) {
     let mut row = ROW;
     let sizes = subtract_scaled(row.as_mut_slice(), ONE / 2, OTHER.as_slice());
     assert!(rt; !sizes.is_passed());
-    assert_eq!(rt;
-        row,
-        [0, 2 * ONE, 4 * ONE, 2 * ONE, 2 * ONE, 10 * ONE, 7 * ONE]
-    );
+    assert_eq!(rt; row, [0, 2, 4, 2, 2, 10, 7, 8].map(whole));
     assert_eq!(rt; dot(row.as_slice(), OTHER.as_slice()), -68 * ONE);
-    divide_row(row.as_mut_slice(), Divisor::new(-2 * ONE));
-    assert_eq!(rt;
-        row,
-        [0, -ONE, -2 * ONE, -ONE, -ONE, -5 * ONE, -7 * ONE / 2]
-    );
+    divide_row(row.as_mut_slice(), Divisor::new(-ONE));
+    assert_eq!(rt; row, [0, -2, -4, -2, -2, -10, -7, -8].map(whole));
     let _sizes = negate_row(row.as_mut_slice(), OTHER.as_slice());
-    assert_eq!(rt;
-        row,
-        [
-            -2 * ONE,
-            0,
-            2 * ONE,
-            -4 * ONE,
-            -6 * ONE,
-            8 * ONE,
-            -7 * ONE / 2
-        ]
-    );
+    assert_eq!(rt; row, [-2, 0, 2, -4, -6, 8, -7, -8].map(whole));
+    let mut shorter = OTHER;
+    let _sizes = subtract_scaled(shorter.as_mut_slice(), ONE, ROW.as_slice());
+    assert_eq!(rt; shorter, [1, -2, -5, 0, 1, -14].map(whole));
+}
+
+// A whole number in fixed point.
+fn whole(number: i64) -> i64 {
+    number.wrapping_shl(32)
 }
 
 #[test]
