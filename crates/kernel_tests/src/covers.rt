@@ -39,6 +39,12 @@ pub const FOUR: Cover = Cover {
     ],
 };
 
+// One cut, to which each candidate gives as much.
+pub const EQUAL: Cover = Cover {
+    prices: &[5, 7, 9],
+    cuts: &[Cut(&[3, 3, 3], 4)],
+};
+
 const HALF: Cover = Cover {
     prices: &[3, 2],
     cuts: &[Cut(&[1, 1], 1), Cut(&[2, 0], 1)],
@@ -73,9 +79,10 @@ const FREE: Cover = Cover {
 
 // Covers and their least prices, by the corners of their shares in exact fractions; none where no
 // shares meet the cuts.
-const COVERS: [(&Cover, Option<Exact>); 7] = [
+const COVERS: [(&Cover, Option<Exact>); 8] = [
     (&TRIANGLE, Some(Exact(3, 2))),
     (&FOUR, Some(Exact(1169, 148))),
+    (&EQUAL, Some(Exact(22, 3))),
     (&HALF, Some(Exact(5, 2))),
     (&WHOLE, Some(Exact(12, 1))),
     (&THIRDS, Some(Exact(34, 3))),

@@ -1,6 +1,6 @@
 //! Strong branching: how much a bound rises on both sides of a split, and which split is the best.
 
-use crate::covers::{Cover, FOUR, STEPS, TOLERANCE, TRIANGLE};
+use crate::covers::{Cover, EQUAL, FOUR, STEPS, TOLERANCE, TRIANGLE};
 use crate::exact::Exact;
 use dual_simplex::Tableau;
 use geo_base::NoMemory;
@@ -112,6 +112,9 @@ fn the_best_split_lifts_both_sides(rt: HostRuntime) -> Result<(), Fail> {
     let mut branching = Branching::new(rt.alloc());
     let triangle = solved(rt.alloc(), &TRIANGLE)?;
     assert!(rt; best_of(&mut branching, &triangle, &[1, 0, 2])? == Some(1));
+    // The rises are 0 and 8/3, 4/3 and 2/3, 10/3 and 0.
+    let equal = solved(rt.alloc(), &EQUAL)?;
+    assert!(rt; best_of(&mut branching, &equal, &[0, 1, 2])? == Some(1));
     let four = solved(rt.alloc(), &FOUR)?;
     assert!(rt; best_of(&mut branching, &four, &[])?.is_none());
     assert!(rt; best_of(&mut branching, &four, &[3, 1])? == Some(1));
