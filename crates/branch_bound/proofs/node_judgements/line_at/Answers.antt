@@ -6,7 +6,7 @@ use Rattle.bound_log.proofs.AllowedLemmas.{cost_allowed, cut_allowed, pivot_allo
 use Rattle.geo_model.specs.Row.{unit_at}
 use Rattle.cut_pool.specs.Cut.{cover_of}
 use Rattle.bound_log.specs.declared.log_leaf.LogLeaf.TheVariants.{Dual}
-use Rattle.bound_log.specs.DualText.{text_or_none}
+use Rattle.bound_log.specs.DualText.{text_or_none, texts_of_shares}
 use Rattle.idle_splits.specs.Idle.{bound_by}
 use Rattle.branch_bound.specs.Found.{best_bound}
 use Rattle.branch_bound.proofs.DearLemmas.{above_past, not_idle, unit_allowed, unit_bound}
@@ -39,6 +39,14 @@ returns-in-Some-dear_share-clause-line c =
       done = IsDone-past c.args.network.now c.args.node.now (Dual c.in-Some-dear_share.share.d (unit_text c.in-Some-dear_share.share ∷ [])) price c.args.best.now c.in-Some-dear_share.ensures.bounds c.requires.kept allowed
           (unit_bound c.args.network.now c.args.node.now (best_bound c.args.network.now c.args.best.now) c.in-Some-dear_share.share shows)
           (above_past c.args.network.now c.args.best.now price shows.dear.above);
+    }
+
+pub returns-in-Some-dual_past-clause-line : goal.returns-in-Some-dual_past-clause-line
+returns-in-Some-dual_past-clause-line c =
+    let off = c.in-Some-dual_past.ensures.found in
+    record {
+      allowed = off.allowed;
+      done = IsDone-past c.args.network.now c.args.node.now (Dual c.in-Some-dual_past.dual.d (texts_of_shares c.first_broken.new.self.pool c.in-Some-dual_past.dual.shares.items)) off.price c.args.best.now c.in-Some-dual_past.ensures.bounds c.requires.kept off.allowed off.bound off.past;
     }
 
 pub returns-in-Some-branch_candidate-clause-line : goal.returns-in-Some-branch_candidate-clause-line
