@@ -1,24 +1,21 @@
-use Rattle.std.proofs.Common.{◌≡◌, ◌<◌, ◌≤◌, ℕ, List, [], ◌∷◌, All, length, map, get_or, refl, ap, ap₂, sym, ◌∙◌, subst, Some}
-use Rattle.std.specs.Prelude.{slice_get}
+use Rattle.std.proofs.Common.{◌≡◌, ◌<◌, ℕ, List, [], ◌∷◌, All, length, map, get_or, refl, ap, ap₂, sym, ◌∙◌, subst}
 use Rattle.std.proofs.lemmas.Option.{slice_get_within}
 use Rattle.std.proofs.lemmas.List.Elements.{All-head, All-tail}
 use Rattle.whole_algebra.specs.Matrices.{at}
 use Rattle.geo_model.specs.Cover.{CoverOf}
 use Rattle.geo_model.specs.Dual.{WeighedCover, dual_bound}
-use Rattle.geo_model.specs.Limit.{LimitOf}
 use Rattle.geo_model.specs.Network.{NetworkOf, IsNetwork, IsLimit}
 use Rattle.geo_model.specs.Prices.{prices_of}
 use Rattle.geo_model.specs.declared.plan.Node.{Node}
-use Rattle.cut_pool.specs.Cut.{CutOf, cover, cover_of}
+use Rattle.cut_pool.specs.Cut.{CutOf, cover}
 use Rattle.cut_pool.specs.declared.share.Share.{Share}
 use Rattle.pivot_chain.proofs.CertifiedLemmas.{limit_named}
 use Rattle.dual_bound.specs.Shares.{AreShares, IsShare, IsSmallCover, cover_or_none, weighed, weighed_covers}
 use Rattle.dual_ascent.specs.Duals.{IsShareAt, IsDualAt}
 use Rattle.dual_ascent.specs.declared.dual.Dual.{Dual as AscentDual}
 use Rattle.bound_log.specs.declared.bound.Bound.TheVariants.{AtLeast}
-use Rattle.bound_log.specs.declared.log_leaf.LogLeaf.TheVariants.{Dual}
 use Rattle.bound_log.specs.DualText.{texts_of_shares, text_of_share, weighed_text}
-use Rattle.bound_log.specs.LogTree.{leaf_bound, leaf_bound_for}
+use Rattle.bound_log.specs.LogTree.{leaf_bound_for}
 use Rattle.bound_log.specs.PoolShares.{MayBeNamed}
 use Rattle.bound_log.proofs.PoolLemmas.{dual_line_allowed, share_covers}
 use Rattle.bound_log.proofs.SoundLemmas.{at_place}
