@@ -5,7 +5,8 @@
 //! Proved: no call goes wrong, whatever it is given: no index out of range, no overflow, no zero
 //! divisor.
 //!
-//! Said by: safety alone; its numbers are proposals, and no test of them is in the repository yet.
+//! Said by: safety alone; its numbers are proposals, which `kernel_tests` compares with exact
+//! fractions on small cases.
 //!
 //! Caller: `clear_place` of `dual_simplex/src/table.rt`.
 #![tactic(auto)]

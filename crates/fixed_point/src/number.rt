@@ -37,16 +37,26 @@ pub fn ratio(a: u64, b: u64) -> i64 {
     }
 }
 
-/// The square root of the quotient of two whole numbers, at most 2^30; 0 where the divisor is 0. It is
-/// exact up to rounding for a dividend below 2^64, and coarser above.
+/// The square root of the quotient of two whole numbers, at most 2^30; 0 where the divisor is 0. It
+/// is rounded down, and above that by at most 2^-32 where the dividend is 2^64 or more.
 pub fn root_of_ratio(dividend: u128, divisor: u128) -> i64 {
     if divisor == 0 {
         return 0;
     }
-    let half_shift = dividend.leading_zeros().min(64) / 2;
-    let quotient = dividend.wrapping_shl(2 * half_shift) / divisor;
-    let root = quotient.isqrt().wrapping_shl(32 - half_shift);
+    let whole = dividend / divisor;
+    if whole >= 1 << 60 {
+        return GREATEST as i64;
+    }
+    let part = part_of(dividend % divisor, divisor);
+    let root = whole.wrapping_shl(64).wrapping_add(part).isqrt();
     root.min(1 << 62) as i64
+}
+
+// A remainder over its divisor, with 64 fractional bits. Where the remainder has no room for them,
+// the last bits of the divisor are left out: 64 bits of it or more stay.
+fn part_of(remainder: u128, divisor: u128) -> u128 {
+    let shift = remainder.leading_zeros().min(64);
+    remainder.wrapping_shl(shift) / divisor.wrapping_shr(64 - shift).max(1)
 }
 
 // The number nearest to `wide` that a quotient may be.

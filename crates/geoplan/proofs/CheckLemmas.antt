@@ -1,7 +1,7 @@
 -- What `check` makes of the log that `plan` left.
 use Rattle.std.proofs.Common.{◌≡◌, ◌≤◌, length, ◌⊎◌, inl, inr, ℕ, Bool, true, false, not, ◌&&◌, ◌||◌, if◌then◌else◌, List, [], ◌∷◌, refl, sym, ap, ap₂, ◌∙◌, subst, Option, None, Some, is_some}
 use Rattle.std.specs.Prelude.{drop}
-use Rattle.std.specs.List.{list_all, AllByRecursion}
+use Rattle.std.specs.List.{list_all}
 use Rattle.std.specs.Str.{bytes_eq}
 use Rattle.std.specs.Option.{option_map, option_and_then}
 use Rattle.std.proofs.lemmas.Slice.Eq.{bytes_eq-Decides}
@@ -22,10 +22,10 @@ use Rattle.geoplan.specs.declared.verb.Verb.TheVariants as verb
 use Rattle.geoplan.specs.Checked.{planning, checking, ChecksWith}
 use Rattle.geoplan.specs.CommandOf.{SourcesOf, CommandOf, roles_of, most_of, is_plain, are_distinct, no_sources, with_name, with_redundancy, given_by, sources_from, command_by, command_from, command_of, verb_of}
 use Rattle.geoplan.specs.Ends.{AreHeldTables}
-use Rattle.geoplan.specs.Input.{built_input, IsWithin, input_of}
+use Rattle.geoplan.specs.Input.{built_input, input_of}
 use Rattle.geoplan.specs.Loading.{tables_input}
-use Rattle.geoplan.specs.Outcomes.{LeavesLog, AcceptsLog}
-use Rattle.geoplan.specs.Promises.{IsCheckStatus, IsStatusOf}
+use Rattle.geoplan.specs.Outcomes.{LeavesLog, IsCheckStatus}
+use Rattle.geoplan.specs.Promises.{IsStatusOf}
 use Rattle.geoplan.specs.Tables.{TablesOf}
 use Rattle.geoplan.proofs.InputLemmas.{accepted, input_of-short}
 
@@ -78,15 +78,13 @@ plan_names (points ∷ candidates ∷ redundancy ∷ []) sources is = no_sources
 plan_names (points ∷ candidates ∷ redundancy ∷ log ∷ []) sources is = four_names points candidates redundancy log (are_distinct (points ∷ candidates ∷ log ∷ [])) sources refl is
 plan_names (points ∷ candidates ∷ redundancy ∷ log ∷ more ∷ rest) sources is = no_sources_from (are_distinct (points ∷ candidates ∷ log ∷ [])) (given_by (roles_of verb.Plan) (points ∷ candidates ∷ redundancy ∷ log ∷ more ∷ rest) no_sources) sources (long_given (digits_of 3 redundancy) points candidates log more rest) is
 
-verb_names : (verb : Verb) (words : List (List ℕ)) (given : Option SourcesOf) (sources : SourcesOf) → sources_from (roles_of verb) words ≡ given → option_map (λ s. record { verb = verb; sources = s }) given ≡ Some (planning sources) → HasNames sources
-verb_names verb.Plan words None sources from is = absurd (cc)
-verb_names verb.Plan words (Some other) sources from is =
-    let e : planning other ≡ planning sources = cc in
-    plan_names words sources (from ∙ ap (λ (c : CommandOf). Some c.sources) e)
-verb_names verb.Rows words None sources from is = absurd (cc)
-verb_names verb.Rows words (Some other) sources from is = absurd (let e : (record { verb = verb.Rows; sources = other }) ≡ planning sources = cc in let v : verb.Rows ≡ verb.Plan = ap (λ (c : CommandOf). c.verb) e in cc)
-verb_names verb.Check words None sources from is = absurd (cc)
-verb_names verb.Check words (Some other) sources from is = absurd (let e : checking other ≡ planning sources = cc in let v : verb.Check ≡ verb.Plan = ap (λ (c : CommandOf). c.verb) e in cc)
+-- a command that plans has the words of `plan`
+verb_names : (which : Verb) (words : List (List ℕ)) (given : Option SourcesOf) (sources : SourcesOf) → sources_from (roles_of which) words ≡ given → option_map (λ s. record { verb = which; sources = s }) given ≡ Some (planning sources) → HasNames sources
+verb_names which words None sources from is = absurd (cc)
+verb_names which words (Some other) sources from is =
+    let e : (record { verb = which; sources = other }) ≡ planning sources = cc in
+    let same : which ≡ verb.Plan = ap (λ (c : CommandOf). c.verb) e in
+    plan_names words sources (subst (λ v. sources_from (roles_of v) words ≡ Some sources) same (from ∙ ap (λ (c : CommandOf). Some c.sources) e))
 
 word_names : (found : Option Verb) (words : List (List ℕ)) (sources : SourcesOf) → option_and_then (command_by words) found ≡ Some (planning sources) → HasNames sources
 word_names None words sources is = absurd (cc)

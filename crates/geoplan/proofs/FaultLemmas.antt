@@ -1,15 +1,15 @@
 -- How the clauses on failed writes and on what stays follow from a run.
-use Rattle.std.proofs.Common.{◌≡◌, ◌≢◌, ◌<◌, ◌⊎◌, inl, inr, ℕ, List, [], ◌∷◌, ◌++◌, length, refl, sym, ap, ◌∙◌, subst, arith, Option, None, Some, is_some}
+use Rattle.std.proofs.Common.{◌≡◌, ◌⊎◌, inl, inr, ℕ, List, [], ◌∷◌, ◌++◌, length, refl, sym, ap, ◌∙◌, subst, arith, Some, is_some}
 use Rattle.std.specs.Prelude.{Contains}
 use Rattle.std.specs.FinMap.{get}
-use Rattle.shelf_io.specs.Files.{Files, with_bytes}
+use Rattle.shelf_io.specs.Files.{Files}
 use Rattle.shelf_io.specs.Written.{with_written}
 use Rattle.shelf_io.proofs.FileLaws.{is_some-with_bytes, KeepsOthers-with_bytes}
 use Rattle.shelf_io.proofs.WrittenLaws.{with_written-nothing, is_some-with_written}
 use Rattle.shelf_io.specs.States.{SinkState, ShelfState}
 use Rattle.geoplan.specs.Codes.{code_of, after_failed_put}
-use Rattle.geoplan.specs.CommandOf.{SourcesOf, CommandOf, command_of, names_written, written_for, written_by, OnCommand}
-use Rattle.geoplan.specs.Ends.{AreHeldTables, OnTables, CompletesBy, FindsNoneBy, LeavesOpenBy, RefusesLogBy, FailsToWriteBy, BeganBy, Began, HasReport}
+use Rattle.geoplan.specs.CommandOf.{CommandOf, names_written, written_for, written_by, OnCommand}
+use Rattle.geoplan.specs.Ends.{AreHeldTables, ends_of, Began, HasReport}
 use Rattle.geoplan.specs.Printing.{WritesPrefix, WritesAll, IsCutShort}
 use Rattle.geoplan.specs.Promises.{WhereHeld, IsUnwritten, OthersStay}
 use Rattle.geoplan.specs.Running.{Prints, Answered, IsRun}
@@ -17,11 +17,10 @@ use Rattle.geoplan.specs.Standing.{IsOutcomeOf}
 use Rattle.geoplan.specs.Tables.{TablesOf}
 use Rattle.geoplan.specs.declared.status.Status.{Status}
 use Rattle.geoplan.specs.declared.status.Status.TheVariants as status
-use Rattle.geoplan.specs.declared.verb.Verb.{Verb}
-use Rattle.geoplan.specs.declared.verb.Verb.TheVariants as verb
 use Rattle.geoplan.proofs.AnswerLemmas.{by_command}
 use Rattle.geoplan.proofs.CodeLemmas.{from_code}
-use Rattle.geoplan.proofs.StandLemmas.{whole_began}
+use Rattle.geoplan.proofs.CommandFacts.{facts_of}
+use Rattle.geoplan.proofs.OwedFacts.{KeptBy, HeldOrPiece, EndsKeep}
 
 -- ---- what is printed
 
@@ -45,72 +44,33 @@ out_told-of begun ended text sink sink_now (inr (inr out)) = ap is_some out.begi
 
 -- ---- what the shelf holds
 
--- what each command leaves: what was held, or the beginning of what it writes besides
-module _ (sources : SourcesOf) (tables : TablesOf) (before now : ShelfState) (text : List ℕ) where
-  abbrev KeptBy : Verb → Type 0
-  KeptBy verb = (now.held ≡ before.held) ⊎ BeganBy verb sources tables before.held now.held
-
-  completed_keeps : (verb : Verb) → CompletesBy verb sources tables before now text → KeptBy verb
-  completed_keeps verb.Plan found = inr (whole_began tables sources.log _ before now found.leaves)
-  completed_keeps verb.Rows listed = inl listed.held
-  completed_keeps verb.Check (log, is, accepted) = inl accepted.held
-
-  none_keeps : (verb : Verb) → FindsNoneBy verb sources tables before now text → KeptBy verb
-  none_keeps verb.Plan found = inr (whole_began tables sources.log _ before now found.leaves)
-  none_keeps verb.Rows never = absurd never
-  none_keeps verb.Check never = absurd never
-
-  open_keeps : (verb : Verb) → LeavesOpenBy verb sources tables before now text → KeptBy verb
-  open_keeps verb.Plan left = inr (whole_began tables sources.log _ before now left.leaves)
-  open_keeps verb.Rows never = absurd never
-  open_keeps verb.Check never = absurd never
-
-  log_keeps : (verb : Verb) → RefusesLogBy verb sources tables before now text → KeptBy verb
-  log_keeps verb.Plan never = absurd never
-  log_keeps verb.Rows never = absurd never
-  log_keeps verb.Check (log, is, refused) = inl refused.held
-
-  unwritten_keeps : (verb : Verb) → FailsToWriteBy verb sources tables before now → KeptBy verb
-  unwritten_keeps verb.Plan failed = failed.held
-  unwritten_keeps verb.Rows never = absurd never
-  unwritten_keeps verb.Check never = absurd never
-
 module _ (command : CommandOf) (before now : ShelfState) where
   abbrev Kept : Type 0
   Kept = (now.held ≡ before.held) ⊎ Began command before.held now.held
 
-  kept_on : (tables : TablesOf) → AreHeldTables command before.held tables → (now.held ≡ before.held) ⊎ BeganBy command.verb command.sources tables before.held now.held → Kept
+  kept_on : (tables : TablesOf) → AreHeldTables command before.held tables → KeptBy (ends_of command.verb command.sources tables) before now → Kept
   kept_on tables are (inl same) = inl same
   kept_on tables are (inr began) = inr (tables, are, began)
 
+  keeps_of : (tables : TablesOf) → EndsKeep (ends_of command.verb command.sources tables) (names_written command)
+  keeps_of tables = (facts_of command.verb).keeps command.sources tables
+
   pub stands_keep : (begun : Status) (text : List ℕ) → IsOutcomeOf command before now begun text → Kept
-  stands_keep status.Found text (tables, are, ends) = kept_on tables are (completed_keeps command.sources tables before now text command.verb ends)
-  stands_keep status.NoPlan text (tables, are, ends) = kept_on tables are (none_keeps command.sources tables before now text command.verb ends)
+  stands_keep status.Found text (tables, are, ends) = kept_on tables are ((keeps_of tables).completed before now text ends)
+  stands_keep status.NoPlan text (tables, are, ends) = kept_on tables are ((keeps_of tables).none before now text ends)
   stands_keep status.WordsRefused text never = absurd never
   stands_keep status.TableRefused text refused = inl refused.refuses.held
-  stands_keep status.Undecided text (tables, are, ends) = kept_on tables are (open_keeps command.sources tables before now text command.verb ends)
+  stands_keep status.Undecided text (tables, are, ends) = kept_on tables are ((keeps_of tables).undecided before now text ends)
   stands_keep status.ReadFault text unread = inl unread.held
-  stands_keep status.WriteFault text ((tables, are, ends), none) = kept_on tables are (unwritten_keeps command.sources tables before now text command.verb ends)
+  stands_keep status.WriteFault text ((tables, are, ends), none) = kept_on tables are ((keeps_of tables).unwritten before now ends)
   stands_keep status.NoMemory text out = out.held
-  stands_keep status.LogRefused text (tables, are, ends) = kept_on tables are (log_keeps command.sources tables before now text command.verb ends)
+  stands_keep status.LogRefused text (tables, are, ends) = kept_on tables are ((keeps_of tables).log_refused before now text ends)
   stands_keep status.FileTooLong text refused = inl refused.refuses.held
-
--- the shelf holds what it held, or a piece under one of these names
-abbrev HeldOrPiece : List (List ℕ) → Option Files → Option Files → Type 0
-HeldOrPiece names before now = (now ≡ before) ⊎ ((name piece : List ℕ) × Contains names name × (now ≡ with_bytes before name piece))
-
-only_one : (name : List ℕ) → Contains (name ∷ []) name
-only_one name = (0, omega arith, refl)
-
-piece_by : (verb : Verb) (sources : SourcesOf) (tables : TablesOf) (before now : Option Files) → BeganBy verb sources tables before now → HeldOrPiece (names_written (record { verb = verb; sources = sources })) before now
-piece_by verb.Plan sources tables before now began = inr (sources.log, began.piece, only_one sources.log, began.written)
-piece_by verb.Rows sources tables before now never = absurd never
-piece_by verb.Check sources tables before now never = absurd never
 
 module _ (words : List (List ℕ)) (before now : ShelfState) where
   command_held : (command : CommandOf) → (now.held ≡ before.held) ⊎ Began command before.held now.held → HeldOrPiece (names_written command) before.held now.held
   command_held command (inl same) = inl same
-  command_held command (inr (tables, are, began)) = piece_by command.verb command.sources tables before.held now.held began
+  command_held command (inr (tables, are, began)) = (keeps_of command before now tables).piece before.held now.held began
 
   held_answered : (begun : Status) (text : List ℕ) → Answered words before now begun text → HeldOrPiece (written_by words) before.held now.held
   held_answered begun text (inl (command, of, stands)) =

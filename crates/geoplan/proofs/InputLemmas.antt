@@ -1,17 +1,17 @@
 -- What the files of a command give, case by case.
 use Rattle.std.proofs.Common.{◌≡◌, ◌<◌, ◌≤◌, ℕ, Bool, true, false, if◌then◌else◌, List, [], ◌∷◌, ◌++◌, length, refl, sym, ap, ◌∙◌, arith}
-use Rattle.std.specs.Prelude.{nat_lt, drop}
+use Rattle.std.specs.Prelude.{nat_lt, map}
 use Rattle.std.specs.List.{AllByRecursion}
 use Rattle.std.proofs.lemmas.Bool.Decides.{nat_tests}
 use Rattle.shelf_io.specs.Files.{Files, bytes_of}
 use Rattle.geoplan.specs.declared.file_kind.FileKind.{FileKind}
 use Rattle.geoplan.specs.declared.file_kind.FileKind.TheVariants as kind
 use Rattle.geoplan.specs.declared.verb.Verb.{Verb}
-use Rattle.geoplan.specs.declared.verb.Verb.TheVariants as verb
-use Rattle.geoplan.specs.CommandOf.{SourcesOf, CommandOf, FileOf, reads, file_of, files_read}
+use Rattle.geoplan.specs.CommandOf.{CommandOf, FileOf, reads, file_of, files_read}
 use Rattle.geoplan.specs.Input.{InputOf, too_long_input, built_input, IsWithin, too_long_or, judged_input, bytes_held, input_of}
 use Rattle.geoplan.specs.Loading.{tables_input, more_read}
 use Rattle.geoplan.specs.Tables.{TablesOf}
+use Rattle.geoplan.proofs.CommandFacts.{facts_of}
 
 is_long : (most n : ℕ) → most < n → nat_lt most n ≡ true
 is_long most n long = grind (arith, nat_tests)
@@ -54,20 +54,12 @@ module _ (files : Files) where
 -- ---- the files of a command
 
 -- the two tables come first
-tables_first : (verb : Verb) (sources : SourcesOf) → files_read (record { verb = verb; sources = sources }) ≡ file_of sources kind.Points ∷ file_of sources kind.Candidates ∷ drop 2 (files_read (record { verb = verb; sources = sources }))
-tables_first verb.Plan sources = refl
-tables_first verb.Rows sources = refl
-tables_first verb.Check sources = refl
-
 pub files_read-tables : (command : CommandOf) → files_read command ≡ file_of command.sources kind.Points ∷ file_of command.sources kind.Candidates ∷ more_read command
-files_read-tables command = tables_first command.verb command.sources
+files_read-tables command = ap (map (file_of command.sources)) (facts_of command.verb).reads_tables.first
 
 -- what is judged are the two tables
-pub judged_input-tables : (verb : Verb) (redundancy : ℕ) (bytes : FileKind → List ℕ) → judged_input redundancy bytes (reads verb) ≡ tables_input redundancy (bytes kind.Points) (bytes kind.Candidates)
-unfolding judged_input tables_input
-judged_input-tables verb.Plan redundancy bytes = refl
-judged_input-tables verb.Rows redundancy bytes = refl
-judged_input-tables verb.Check redundancy bytes = refl
+pub judged_input-tables : (which : Verb) (redundancy : ℕ) (bytes : FileKind → List ℕ) → judged_input redundancy bytes (reads which) ≡ tables_input redundancy (bytes kind.Points) (bytes kind.Candidates)
+judged_input-tables which = (facts_of which).reads_tables.judged
 
 module _ (command : CommandOf) (files : Files) where
   -- a file after such that aren't too long is

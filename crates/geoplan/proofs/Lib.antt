@@ -1,8 +1,17 @@
 pub mod CommandLemmas
+pub mod OwedFacts
+pub mod PlanFacts
+pub mod RowsFacts
+pub mod CheckFacts
+pub mod CommandFacts
 pub mod InputLemmas
 pub mod LoadLemmas
+pub mod PartLemmas
 pub mod SolveLemmas
 pub mod StandLemmas
+pub mod PlanOutcome
+pub mod RowsOutcome
+pub mod CheckOutcome
 pub mod PrintLemmas
 pub mod CodeLemmas
 pub mod AnswerLemmas

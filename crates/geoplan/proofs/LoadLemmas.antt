@@ -20,12 +20,16 @@ use Rattle.net_build.specs.Bounds.{AreTables}
 use Rattle.net_build.specs.Build.{candidate_of, network_of}
 use Rattle.covariance_words.proofs.Meaning.{met-limits-mean}
 use Rattle.plan_report.specs.Reported.{IsAdded}
+use Rattle.point_tables.specs.declared.fault.TableAnswer.{TableAnswer}
+use Rattle.point_tables.specs.declared.fault.TableAnswer.TheVariants as answer
+use Rattle.point_tables.specs.declared.fault.TableFault.{TableFault}
 use Rattle.geoplan.specs.declared.file_kind.FileKind.TheVariants as kind
 use Rattle.geoplan.specs.declared.load.LoadFault.{LoadFault}
 use Rattle.geoplan.specs.declared.load.LoadFault.TheVariants as load
+use Rattle.geoplan.specs.declared.refused_table.RefusedTable.{RefusedTable}
 use Rattle.geoplan.specs.CommandOf.{CommandOf, FileOf, file_of, files_read}
-use Rattle.geoplan.specs.Input.{InputOf, too_long_input, refused_input, built_input, IsWithin, input_of}
-use Rattle.geoplan.specs.Loading.{IsGoodNetwork, refused_view, HasBytes, ReadsFile, HasReadFault, FailsRead, ReadsAll, more_read, ReadsMore, FailsMore, Loads, FailsInOrder, HasLoadFault, FailsLoad, tables_input, IsRefusal}
+use Rattle.geoplan.specs.Input.{InputOf, too_long_input, refused_input, built_input, refused_table, IsWithin, input_of}
+use Rattle.geoplan.specs.Loading.{IsGoodNetwork, refused_view, HasBytes, ReadsFile, HasReadFault, FailsRead, ReadsAll, tables_read, more_read, FailsMore, TablesGive, LoadsTables, Loads, FailsInOrder, HasLoadFault, FailsLoad, tables_input, IsRefusal}
 use Rattle.geoplan.specs.Tables.{TablesOf}
 use Rattle.geoplan.proofs.InputLemmas.{files_read-tables, input_of-long, input_of-short}
 
@@ -90,6 +94,32 @@ pub FailsLoad-points : (command : CommandOf) (why : LoadFault) (before now : She
 FailsLoad-points command why before now fails =
     FailsLoad-at command [] (file_of command.sources kind.Points) (file_of command.sources kind.Candidates ∷ more_read command) (files_read-tables command) before before now (ReadsAll-none before) why fails
 
+-- the file after the two tables was not
+pub FailsLoad-after : (command : CommandOf) (before middle now : ShelfState) → ReadsAll (tables_read command) before middle → (why : LoadFault) → FailsMore command why middle now → FailsLoad command why before now
+FailsLoad-after command before middle now read why more =
+    FailsLoad-at command (tables_read command) more.file []
+    (files_read-tables command ∙ ap (λ files. file_of command.sources kind.Points ∷ file_of command.sources kind.Candidates ∷ files) more.one) before middle now read why more.fails
+
+-- all files were read
+pub reads_every : (command : CommandOf) (before middle now : ShelfState) → ReadsAll (tables_read command) before middle → ReadsAll (more_read command) middle now → ReadsAll (files_read command) before now
+reads_every command before middle now read more =
+    subst (λ files. ReadsAll files before now) (sym (files_read-tables command)) (ReadsAll-more (tables_read command) (more_read command) before middle now read more)
+
+-- then the files give what their tables do
+pub input_is : (command : CommandOf) (before now : ShelfState) → ReadsAll (files_read command) before now → (given : InputOf) → TablesGive command before.held given → (files : Files) → before.held ≡ Some files → input_of command files ≡ given
+input_is command before now all given is files told = input_of-short command files (all.within files told) ∙ is files told
+
+-- accepted tables are those of the command once all its files were read
+pub Loads-all : (command : CommandOf) (tables : TablesOf) (before middle now : ShelfState) → LoadsTables command tables before middle → ReadsAll (more_read command) middle now → Loads command tables before now
+Loads-all command tables before middle now has more =
+    let all = reads_every command before middle now has.read more in
+    record {
+      input = λ files told. input_is command before now all (built_input tables) has.gives files told;
+      good = has.good;
+      held = all.held;
+      quiet = all.quiet;
+    }
+
 module _ (command : CommandOf) (points : List ℕ) (before first : ShelfState) (one : ReadsFile (file_of command.sources kind.Points) points before first) where
   one_read : ReadsAll (file_of command.sources kind.Points ∷ []) before first
   one_read = ReadsAll-one [] (file_of command.sources kind.Points) points before before first (ReadsAll-none before) one
@@ -103,42 +133,36 @@ module _ (command : CommandOf) (points : List ℕ) (before first : ShelfState) (
     two_read : ReadsAll (file_of command.sources kind.Points ∷ file_of command.sources kind.Candidates ∷ []) before second
     two_read = ReadsAll-one (file_of command.sources kind.Points ∷ []) (file_of command.sources kind.Candidates) candidates before first second one_read two
 
-    -- the file after them was not
+    -- what the files give is what the bytes that were read give
+    give : (given : InputOf) → tables_input command.sources.redundancy points candidates ≡ given → TablesGive command before.held given
+    give given is files told = sym (ap (λ bytes. tables_input command.sources.redundancy bytes (bytes_of files command.sources.candidates)) (one.has.1 files told)) ∙ sym (ap (λ bytes. tables_input command.sources.redundancy points bytes) (two.has.1 files (one.held ∙ told))) ∙ is
+
+    -- the tables are accepted
+    pub LoadsTables-judged : (tables : TablesOf) → tables_input command.sources.redundancy points candidates ≡ built_input tables → IsGoodNetwork tables → LoadsTables command tables before second
+    LoadsTables-judged tables is good = record { read = two_read; gives = give (built_input tables) is; good = good }
+
+    -- memory ran out
+    pub FailsLoad-out : FailsLoad command load.NoMemory before second
+    FailsLoad-out = record { held = two_read.held; later = omega (arith, two_read.quiet.same_count); cause = tt }
+
+    -- the tables are refused, and the file after them was not read
     pub FailsLoad-more : (why : LoadFault) (now : ShelfState) → FailsMore command why second now → FailsLoad command why before now
-    FailsLoad-more why now more =
-        FailsLoad-at command (file_of command.sources kind.Points ∷ file_of command.sources kind.Candidates ∷ []) more.file []
-        (files_read-tables command ∙ ap (λ files. file_of command.sources kind.Points ∷ file_of command.sources kind.Candidates ∷ files) more.one) before second now two_read why more.fails
+    FailsLoad-more why now more = FailsLoad-after command before second now two_read why more
 
-    module _ (log : List ℕ) (now : ShelfState) (three : ReadsMore command log second now) where
-      all_read : ReadsAll (file_of command.sources kind.Points ∷ file_of command.sources kind.Candidates ∷ more_read command) before now
-      all_read = ReadsAll-more (file_of command.sources kind.Points ∷ file_of command.sources kind.Candidates ∷ []) (more_read command) before second now two_read three.all
+    -- .. or was
+    pub FailsLoad-refused : (refused : RefusedTable) (now : ShelfState) → tables_input command.sources.redundancy points candidates ≡ refused_input (refused_view refused) → ReadsAll (more_read command) second now → FailsLoad command (load.Refused refused) before now
+    FailsLoad-refused refused now is more =
+        let all = reads_every command before second now two_read more in
+        record {
+          held = all.held;
+          later = omega (arith, all.quiet.same_count);
+          cause = (λ files told. input_is command before now all (refused_input (refused_view refused)) (give (refused_input (refused_view refused)) is) files told, all.quiet);
+        }
 
-      -- what the files give is what the bytes that were read give
-      input_is : (files : Files) → before.held ≡ Some files → input_of command files ≡ tables_input command.sources.redundancy points candidates
-      input_is files told =
-          let short : AllByRecursion (IsWithin files) (files_read command) =
-          subst (λ read. AllByRecursion (IsWithin files) read) (sym (files_read-tables command)) (all_read.within files told) in
-          rw (one.has.1 files told, two.has.1 files (one.held ∙ told)) (input_of-short command files short)
-
-      -- all were read, and the tables are accepted
-      pub Loads-judged : (tables : TablesOf) → tables_input command.sources.redundancy points candidates ≡ built_input tables → IsGoodNetwork tables → Loads command tables log before now
-      Loads-judged tables is good = record {
-        input = λ files told. input_is files told ∙ is;
-        good = good;
-        read = λ asks files told. three.read asks files (two.held ∙ one.held ∙ told);
-        held = all_read.held;
-        quiet = all_read.quiet;
-      }
-
-      refused_as : (why : LoadFault) → IsRefusal (tables_input command.sources.redundancy points candidates) why → HasLoadFault command why before now
-      refused_as (load.TooLong name) never = absurd never
-      refused_as (load.Unread name) never = absurd never
-      refused_as (load.Refused refused) is = (λ files told. input_is files told ∙ is, all_read.quiet)
-      refused_as load.NoMemory free = tt
-
-      -- .. or are not
-      pub FailsLoad-judged : (why : LoadFault) → IsRefusal (tables_input command.sources.redundancy points candidates) why → FailsLoad command why before now
-      FailsLoad-judged why is = record { held = all_read.held; later = omega (arith, all_read.quiet.same_count); cause = refused_as why is }
+-- what is refused is shown
+pub refused_as : (given : InputOf) (why : TableAnswer) (fault : TableFault) (refused : RefusedTable) → IsRefusal given why → why ≡ answer.Fault fault
+    → refused_view refused ≡ refused_table fault.table (fault.number, fault.kind) → given ≡ refused_input (refused_view refused)
+refused_as given why fault refused is named same = let P : TableAnswer → Type 0 = IsRefusal given in subst P named is ∙ ap refused_input (sym same)
 
 -- ---- the network
 

@@ -1,26 +1,25 @@
 -- How the clauses on want of memory, on complete answers and on refusals follow from a run.
-use Rattle.std.proofs.Common.{◌≡◌, ◌⊎◌, inl, inr, ℕ, List, [], refl, sym, ap, ◌∙◌, subst, Option, None, Some}
+use Rattle.std.proofs.Common.{◌≡◌, ◌⊎◌, inl, inr, ℕ, List, [], refl, sym, ap, ◌∙◌, subst, arith, None, Some}
 use Rattle.std.proofs.lemmas.List.{append-nil}
-use Rattle.shelf_io.specs.Files.{Files, bytes_of}
+use Rattle.shelf_io.specs.Files.{Files}
 use Rattle.shelf_io.specs.Faults.{Rose}
 use Rattle.shelf_io.specs.States.{SinkState, ShelfState}
-use Rattle.log_check.proofs.VerdictLemmas.{logs_have_no_fault}
 use Rattle.geoplan.specs.Codes.{code_of, after_failed_put}
-use Rattle.geoplan.specs.CommandOf.{SourcesOf, CommandOf, files_read, command_of, OnCommand}
-use Rattle.geoplan.specs.Ends.{AreHeldTables, CompletesBy, FindsNoneBy, LeavesOpenBy, RefusesLogBy, FailsToWriteBy, EndsAtLog, Began, HasReport, HasRefusal, HasText}
+use Rattle.geoplan.specs.CommandOf.{CommandOf, files_read, command_of, OnCommand}
+use Rattle.geoplan.specs.Ends.{AreHeldTables, ends_of, EndsAtLog, Began, HasReport, HasRefusal, HasText}
 use Rattle.geoplan.specs.Input.{InputOf, too_long_input, refused_input, built_input, input_of}
-use Rattle.geoplan.specs.Outcomes.{AcceptsLog, RefusesLog, RefusesTable, RefusesLength, FailsToRead}
+use Rattle.geoplan.specs.Outcomes.{RefusesTable, RefusesLength, FailsToRead}
 use Rattle.geoplan.specs.Printing.{WritesPrefix, WritesAll}
-use Rattle.geoplan.specs.Promises.{RanOut, IsRightLog, IsWrongLog, IsAnswerStatus, IsStatusOf, IsComplete, IsRefusedBy}
+use Rattle.geoplan.specs.Promises.{IsUnwritten, RanOut, IsStatusOf, IsComplete, IsRefusedBy}
 use Rattle.geoplan.specs.Running.{Prints, IsWordsRefusal, Answered, IsRun}
 use Rattle.geoplan.specs.Standing.{IsOutcomeOf}
 use Rattle.geoplan.specs.Tables.{TablesOf}
 use Rattle.geoplan.specs.declared.status.Status.{Status}
 use Rattle.geoplan.specs.declared.status.Status.TheVariants as status
-use Rattle.geoplan.specs.declared.verb.Verb.{Verb}
-use Rattle.geoplan.specs.declared.verb.Verb.TheVariants as verb
 use Rattle.geoplan.proofs.AnswerLemmas.{stands_for, not_refused}
+use Rattle.geoplan.proofs.CommandFacts.{facts_of}
 use Rattle.geoplan.proofs.FaultLemmas.{silent_prefix, stands_keep}
+use Rattle.geoplan.proofs.OwedFacts.{EndsAnswer}
 
 -- ---- what an answer is, without its status
 
@@ -101,59 +100,26 @@ ran_out-of words ended before now sink sink_now runs = record {
 
 -- ---- complete answers
 
--- want of memory is a status of any input
-memory_answer : (verb : Verb) (sources : SourcesOf) (tables : TablesOf) (files : Files) (code : ℕ) → code ≡ 7 → IsAnswerStatus verb sources tables files code
-memory_answer verb.Plan sources tables files code is = inr (inr (inr is))
-memory_answer verb.Rows sources tables files code is = inr is
-memory_answer verb.Check sources tables files code is = inr (inr is)
+-- the statuses of the ends of a command
+answers_of : (command : CommandOf) (tables : TablesOf) → EndsAnswer (ends_of command.verb command.sources tables)
+answers_of command tables = (facts_of command.verb).answers command.sources tables
 
+-- want of memory is a status of any input
 memory_status : (command : CommandOf) (given : InputOf) (files : Files) (code : ℕ) → code ≡ 7 → IsStatusOf command given files code
 memory_status command (too_long_input name) files code is = inr is
 memory_status command (refused_input fault) files code is = inr is
-memory_status command (built_input tables) files code is = memory_answer command.verb command.sources tables files code is
+memory_status command (built_input tables) files code is =
+    subst ((ends_of command.verb command.sources tables).answers files) (sym is) ((answers_of command tables).memory files)
 
--- a text that is accepted has no first fault
-right_log : (tables : TablesOf) (log : List ℕ) (before now : ShelfState) (text : List ℕ) → AcceptsLog tables log before now text → IsRightLog tables log
-right_log tables log before now text accepts = record {
-  done = accepts.done;
-  replayed = accepts.replayed;
-  faultless = λ fault first. logs_have_no_fault tables.network log accepts.replayed.tree fault accepts.network accepts.replayed.log first;
-}
+-- where a write or a put failed, a count of faults rose
+pub unwritten_rose : (command : CommandOf) (before now : ShelfState) (sink sink_now : SinkState) → IsUnwritten command before now sink sink_now → Rose before.faults now.faults ⊎ Rose sink.faults sink_now.faults
+unwritten_rose command before now sink sink_now (inl ((tables, are, ends), silent)) = inl ((answers_of command tables).unwritten before now ends)
+unwritten_rose command before now sink sink_now (inr (text, report, cut)) = inr cut.0
 
--- a text with a first fault is no log
-wrong_log : (tables : TablesOf) (log : List ℕ) (before now : ShelfState) (text : List ℕ) → RefusesLog tables log before now text → IsWrongLog tables log
-wrong_log tables log before now text refuses = record {
-  fault = refuses.fault;
-  first = refuses.first;
-  no_log = λ tree is. logs_have_no_fault tables.network log tree refuses.fault refuses.network is refuses.first;
-}
-
--- the status of each end
-module _ (sources : SourcesOf) (tables : TablesOf) (files : Files) (before now : ShelfState) (text : List ℕ) (told : before.held ≡ Some files) where
-  done_status : (verb : Verb) → CompletesBy verb sources tables before now text → IsAnswerStatus verb sources tables files 0
-  done_status verb.Plan found = inl refl
-  done_status verb.Rows listed = inl refl
-  done_status verb.Check (log, is, accepted) = inl (refl, subst (λ bytes. IsRightLog tables bytes) (sym (is files told)) (right_log tables log before now text accepted))
-
-  none_status : (verb : Verb) → FindsNoneBy verb sources tables before now text → IsAnswerStatus verb sources tables files 1
-  none_status verb.Plan found = inr (inl refl)
-  none_status verb.Rows never = absurd never
-  none_status verb.Check never = absurd never
-
-  open_status : (verb : Verb) → LeavesOpenBy verb sources tables before now text → IsAnswerStatus verb sources tables files 4
-  open_status verb.Plan left = inr (inr (inl refl))
-  open_status verb.Rows never = absurd never
-  open_status verb.Check never = absurd never
-
-  log_status : (verb : Verb) → RefusesLogBy verb sources tables before now text → IsAnswerStatus verb sources tables files 8
-  log_status verb.Plan never = absurd never
-  log_status verb.Rows never = absurd never
-  log_status verb.Check (log, is, refused) = inr (inl (refl, subst (λ bytes. IsWrongLog tables bytes) (sym (is files told)) (wrong_log tables log before now text refused)))
-
-  no_write : (verb : Verb) → FailsToWriteBy verb sources tables before now → Rose before.faults now.faults
-  no_write verb.Plan failed = failed.rose
-  no_write verb.Rows never = absurd never
-  no_write verb.Check never = absurd never
+-- a count that stays 0 doesn't rise
+pub none_rose : Rose 0 0 ⊎ Rose 0 0 → ⊥
+none_rose (inl rose) = absurd (omega (arith, rose))
+none_rose (inr rose) = absurd (omega (arith, rose))
 
 -- a status of what the files give completes them
 completes : (command : CommandOf) (files : Files) (given : InputOf) (code : ℕ) → input_of command files ≡ given → IsStatusOf command given files code → IsComplete command files code
@@ -161,19 +127,19 @@ completes command files given code is status_of = subst (λ g. IsStatusOf comman
 
 stands_completes : (command : CommandOf) (files : Files) (before now : ShelfState) (begun : Status) (text : List ℕ) → before.held ≡ Some files → (Rose before.faults now.faults → ⊥) → IsOutcomeOf command before now begun text → IsComplete command files (code_of begun)
 stands_completes command files before now status.Found text told quiet (tables, are, ends) =
-    completes command files (built_input tables) 0 (are files told) (done_status command.sources tables files before now text told command.verb ends)
+    completes command files (built_input tables) 0 (are files told) ((answers_of command tables).completed files before now text told ends)
 stands_completes command files before now status.NoPlan text told quiet (tables, are, ends) =
-    completes command files (built_input tables) 1 (are files told) (none_status command.sources tables files before now text told command.verb ends)
+    completes command files (built_input tables) 1 (are files told) ((answers_of command tables).none files before now text told ends)
 stands_completes command files before now status.WordsRefused text told quiet never = absurd never
 stands_completes command files before now status.TableRefused text told quiet refused = completes command files (refused_input refused.fault) 3 (refused.refuses.input files told) (inl refl)
 stands_completes command files before now status.Undecided text told quiet (tables, are, ends) =
-    completes command files (built_input tables) 4 (are files told) (open_status command.sources tables files before now text told command.verb ends)
+    completes command files (built_input tables) 4 (are files told) ((answers_of command tables).undecided files before now text told ends)
 stands_completes command files before now status.ReadFault text told quiet failed = absurd (quiet failed.rose)
 stands_completes command files before now status.WriteFault text told quiet ((tables, are, ends), none) =
-    absurd (quiet (no_write command.sources tables files before now text told command.verb ends))
+    absurd (quiet ((answers_of command tables).unwritten before now ends))
 stands_completes command files before now status.NoMemory text told quiet out = memory_status command (input_of command files) files 7 refl
 stands_completes command files before now status.LogRefused text told quiet (tables, are, ends) =
-    completes command files (built_input tables) 8 (are files told) (log_status command.sources tables files before now text told command.verb ends)
+    completes command files (built_input tables) 8 (are files told) ((answers_of command tables).log_refused files before now text told ends)
 stands_completes command files before now status.FileTooLong text told quiet refused = completes command files (too_long_input refused.name) 9 (refused.refuses.input files told) (inl refl)
 
 completes_by : (words : List (List ℕ)) (command : CommandOf) (files : Files) (before now : ShelfState) (begun ended : Status) (text : List ℕ) (sink sink_now : SinkState) → command_of words ≡ Some command → before.held ≡ Some files → (Rose before.faults now.faults → ⊥) → (Rose sink.faults sink_now.faults → ⊥) → Answered words before now begun text → Prints begun text ended sink sink_now → IsComplete command files (code_of ended)

@@ -1,8 +1,17 @@
+use Rattle.std.specs.Prelude.{List, [], ◌∷◌}
 use Rattle.geoplan.specs.declared.command.Command.{Command}
+use Rattle.geoplan.specs.declared.file_kind.FileKind.TheVariants as kind
+use Rattle.geoplan.specs.declared.shape.Shape.{Shape}
+use Rattle.geoplan.specs.declared.shape.Shape.TheVariants as shape
 use Rattle.geoplan.specs.declared.sources.Sources.{Sources}
-use Rattle.geoplan.specs.CommandOf.{SourcesOf, CommandOf}
+use Rattle.geoplan.specs.CommandOf.{RoleOf, file_role, redundancy_role, SourcesOf, CommandOf}
 
--- Commands as their bytes. Only private clauses and proofs cite it.
+-- Commands as their bytes, and the shapes of their words. Only private clauses and proofs cite it.
+
+-- what the further words of a command of this shape stand for
+abbrev pub roles_for : Shape → List RoleOf
+roles_for shape.Tables = file_role kind.Points ∷ file_role kind.Candidates ∷ []
+roles_for shape.Job = file_role kind.Points ∷ file_role kind.Candidates ∷ redundancy_role ∷ file_role kind.Log ∷ []
 
 abbrev pub sources_view : Sources → SourcesOf
 sources_view sources = record { points = sources.points.now; candidates = sources.candidates.now; redundancy = sources.redundancy; log = sources.log.now }

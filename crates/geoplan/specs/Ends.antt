@@ -6,7 +6,7 @@ use Rattle.geoplan.specs.declared.verb.Verb.{Verb}
 use Rattle.geoplan.specs.declared.verb.Verb.TheVariants as verb
 use Rattle.geoplan.specs.CommandOf.{SourcesOf, CommandOf, files_read, OnCommand}
 use Rattle.geoplan.specs.Input.{built_input, input_of}
-use Rattle.geoplan.specs.Outcomes.{FindsPlan, FindsNone, LeavesOpen, BeganLog, FailsToWrite, ListsRows, AcceptsLog, RefusesLog, RefusesWords, RefusesTable, RefusesLength, FailsToRead}
+use Rattle.geoplan.specs.Outcomes.{FindsPlan, FindsNone, LeavesOpen, BeganLog, FailsToWrite, ListsRows, AcceptsLog, RefusesLog, IsCheckStatus, RefusesWords, RefusesTable, RefusesLength, FailsToRead}
 use Rattle.geoplan.specs.Tables.{TablesOf}
 
 -- What each command ends with: the outcomes, over the files that it reads and writes. This project's own.
@@ -27,63 +27,72 @@ AreBytes name held bytes = ForSome held (λ files. bytes_of files name ≡ bytes
 abbrev pub OnBytes : List ℕ → Option Files → (List ℕ → Type 0) → Type 0
 OnBytes name held P = (bytes : List ℕ) × AreBytes name held bytes × P bytes
 
--- ---- the tables of ends
+-- ---- the ends of each command
 
--- what each command completes with status 0
-abbrev pub CompletesBy : Verb → SourcesOf → TablesOf → ShelfState → ShelfState → List ℕ → Type 0
-CompletesBy verb.Plan sources tables before now text = FindsPlan tables sources.log before now text
-CompletesBy verb.Rows sources tables before now text = ListsRows tables before now text
-CompletesBy verb.Check sources tables before now text = OnBytes sources.log before.held (λ log. AcceptsLog tables log before now text)
+-- What a command ends with over accepted tables. With status 0, 1, 4 and 8: what the shelf held and holds, and the text. With
+-- status 6: what it held and holds. What a command that writes a file may leave of it. And which statuses it may have for
+-- files, want of memory among them.
+pub record EndsOf : Type 1 where
+  pub completes : ShelfState → ShelfState → List ℕ → Type 0
+  pub finds_none : ShelfState → ShelfState → List ℕ → Type 0
+  pub leaves_open : ShelfState → ShelfState → List ℕ → Type 0
+  pub refuses_log : ShelfState → ShelfState → List ℕ → Type 0
+  pub fails_to_write : ShelfState → ShelfState → Type 0
+  pub began : Option Files → Option Files → Type 0
+  pub answers : Files → ℕ → Type 0
 
--- status 1, of a command that plans
-abbrev pub FindsNoneBy : Verb → SourcesOf → TablesOf → ShelfState → ShelfState → List ℕ → Type 0
-FindsNoneBy verb.Plan sources tables before now text = FindsNone tables sources.log before now text
-FindsNoneBy verb.Rows sources tables before now text = ⊥
-FindsNoneBy verb.Check sources tables before now text = ⊥
+-- those of a command that completes or refuses a log, and writes no file
+abbrev pub reading_ends : (ShelfState → ShelfState → List ℕ → Type 0) → (ShelfState → ShelfState → List ℕ → Type 0) → (Files → ℕ → Type 0) → EndsOf
+reading_ends completes refuses_log answers = record {
+  completes = completes;
+  finds_none = λ before now text. ⊥;
+  leaves_open = λ before now text. ⊥;
+  refuses_log = refuses_log;
+  fails_to_write = λ before now. ⊥;
+  began = λ before now. ⊥;
+  answers = answers;
+}
 
--- status 4, of a command that plans
-abbrev pub LeavesOpenBy : Verb → SourcesOf → TablesOf → ShelfState → ShelfState → List ℕ → Type 0
-LeavesOpenBy verb.Plan sources tables before now text = LeavesOpen tables sources.log before now text
-LeavesOpenBy verb.Rows sources tables before now text = ⊥
-LeavesOpenBy verb.Check sources tables before now text = ⊥
+-- those of one that only completes
+abbrev pub completing : (ShelfState → ShelfState → List ℕ → Type 0) → EndsOf
+completing completes = reading_ends completes (λ before now text. ⊥) (λ files status. (status ≡ 0) ⊎ (status ≡ 7))
 
--- status 8, of a command that reads a log
-abbrev pub RefusesLogBy : Verb → SourcesOf → TablesOf → ShelfState → ShelfState → List ℕ → Type 0
-RefusesLogBy verb.Plan sources tables before now text = ⊥
-RefusesLogBy verb.Rows sources tables before now text = ⊥
-RefusesLogBy verb.Check sources tables before now text = OnBytes sources.log before.held (λ log. RefusesLog tables log before now text)
-
--- status 6, of a command that writes a file
-abbrev pub FailsToWriteBy : Verb → SourcesOf → TablesOf → ShelfState → ShelfState → Type 0
-FailsToWriteBy verb.Plan sources tables before now = FailsToWrite tables sources.log before now
-FailsToWriteBy verb.Rows sources tables before now = ⊥
-FailsToWriteBy verb.Check sources tables before now = ⊥
-
--- what a command that writes a file may leave of it
-abbrev pub BeganBy : Verb → SourcesOf → TablesOf → Option Files → Option Files → Type 0
-BeganBy verb.Plan sources tables before now = BeganLog tables sources.log before now
-BeganBy verb.Rows sources tables before now = ⊥
-BeganBy verb.Check sources tables before now = ⊥
+-- the ends of each command
+abbrev pub ends_of : Verb → SourcesOf → TablesOf → EndsOf
+ends_of verb.Plan sources tables = record {
+  completes = FindsPlan tables sources.log;
+  finds_none = FindsNone tables sources.log;
+  leaves_open = LeavesOpen tables sources.log;
+  refuses_log = λ before now text. ⊥;
+  fails_to_write = FailsToWrite tables sources.log;
+  began = BeganLog tables sources.log;
+  answers = λ files status. (status ≡ 0) ⊎ ((status ≡ 1) ⊎ ((status ≡ 4) ⊎ (status ≡ 7)));
+}
+ends_of verb.Rows sources tables = completing (ListsRows tables)
+ends_of verb.Check sources tables =
+    reading_ends (λ before now text. OnBytes sources.log before.held (λ log. AcceptsLog tables log before now text))
+    (λ before now text. OnBytes sources.log before.held (λ log. RefusesLog tables log before now text))
+    (λ files status. IsCheckStatus tables (bytes_of files sources.log) status)
 
 -- ---- .. over the tables that the files give
 
 abbrev pub Completes : CommandOf → ShelfState → ShelfState → List ℕ → Type 0
-Completes command before now text = OnTables command before.held (λ tables. CompletesBy command.verb command.sources tables before now text)
+Completes command before now text = OnTables command before.held (λ tables. (ends_of command.verb command.sources tables).completes before now text)
 
 abbrev pub EndsWithNone : CommandOf → ShelfState → ShelfState → List ℕ → Type 0
-EndsWithNone command before now text = OnTables command before.held (λ tables. FindsNoneBy command.verb command.sources tables before now text)
+EndsWithNone command before now text = OnTables command before.held (λ tables. (ends_of command.verb command.sources tables).finds_none before now text)
 
 abbrev pub EndsOpen : CommandOf → ShelfState → ShelfState → List ℕ → Type 0
-EndsOpen command before now text = OnTables command before.held (λ tables. LeavesOpenBy command.verb command.sources tables before now text)
+EndsOpen command before now text = OnTables command before.held (λ tables. (ends_of command.verb command.sources tables).leaves_open before now text)
 
 abbrev pub EndsAtLog : CommandOf → ShelfState → ShelfState → List ℕ → Type 0
-EndsAtLog command before now text = OnTables command before.held (λ tables. RefusesLogBy command.verb command.sources tables before now text)
+EndsAtLog command before now text = OnTables command before.held (λ tables. (ends_of command.verb command.sources tables).refuses_log before now text)
 
 abbrev pub EndsUnwritten : CommandOf → ShelfState → ShelfState → Type 0
-EndsUnwritten command before now = OnTables command before.held (λ tables. FailsToWriteBy command.verb command.sources tables before now)
+EndsUnwritten command before now = OnTables command before.held (λ tables. (ends_of command.verb command.sources tables).fails_to_write before now)
 
 abbrev pub Began : CommandOf → Option Files → Option Files → Type 0
-Began command before now = OnTables command before (λ tables. BeganBy command.verb command.sources tables before now)
+Began command before now = OnTables command before (λ tables. (ends_of command.verb command.sources tables).began before now)
 
 -- ---- the outcomes of a command line that have a text
 

@@ -15,4 +15,5 @@ pub mod Standing
 pub mod Loading
 pub mod Solving
 pub mod Reporting
+pub mod Parts
 pub mod Running

@@ -1,4 +1,4 @@
-use Rattle.std.specs.Prelude.{◌≡◌, ℕ, ◌<◌, ◌≤◌, ◌∷◌, ◌++◌, Bool, List, [], length, drop, All, Option, Some, None, option_map}
+use Rattle.std.specs.Prelude.{◌≡◌, ℕ, ◌<◌, ◌≤◌, ◌∷◌, ◌++◌, Bool, List, [], length, drop, All, map, Option, Some, None, option_map}
 use Rattle.std.specs.List.{AllByRecursion}
 use Rattle.std.specs.Option.{ForSome}
 use Rattle.shelf_io.specs.Files.{Files, bytes_of}
@@ -11,12 +11,16 @@ use Rattle.plan_report.specs.Reported.{IsNetworkFor}
 use Rattle.point_tables.specs.declared.fault.TableName.TheVariants as fault_table
 use Rattle.point_tables.specs.PointTable.{points_fault, points_of}
 use Rattle.candidate_tables.specs.CandidateTable.{candidates_fault, candidates_of}
+use Rattle.point_tables.specs.declared.fault.TableAnswer.{TableAnswer}
+use Rattle.point_tables.specs.declared.fault.TableAnswer.TheVariants as answer
+use Rattle.geoplan.specs.declared.file_kind.FileKind.{FileKind}
+use Rattle.geoplan.specs.declared.file_kind.FileKind.TheVariants as kind
 use Rattle.geoplan.specs.declared.load.LoadFault.{LoadFault}
 use Rattle.geoplan.specs.declared.load.LoadFault.TheVariants as load
 use Rattle.geoplan.specs.declared.refused_table.RefusedTable.{RefusedTable}
-use Rattle.geoplan.specs.declared.verb.Verb.TheVariants as verb
-use Rattle.geoplan.specs.CommandOf.{CommandOf, FileOf, files_read}
-use Rattle.geoplan.specs.Ends.{AreHeldTables, AreBytes}
+use Rattle.geoplan.specs.declared.verb.Verb.{Verb}
+use Rattle.geoplan.specs.CommandOf.{CommandOf, FileOf, reads, file_of, files_read}
+use Rattle.geoplan.specs.Ends.{AreHeldTables}
 use Rattle.geoplan.specs.Input.{InputOf, too_long_input, refused_input, built_input, refused_table, refused_or, IsWithin, accepted_input, input_of}
 use Rattle.geoplan.specs.Tables.{TablesOf, RefusedOf}
 
@@ -37,6 +41,20 @@ pub record IsGoodNetwork (tables : TablesOf) : Type 0 where
   pub placed : All (λ unknown. unknown.point < length tables.points) tables.network.unknowns
   pub means : Means tables
   pub reported : IsNetworkFor tables.points tables.candidates tables.redundancy tables.network
+
+-- ---- the tables
+
+-- what the bytes of two tables give
+unfoldable pub tables_input : ℕ → List ℕ → List ℕ → InputOf
+tables_input redundancy points candidates =
+    refused_or (option_map (refused_table fault_table.Points) (points_fault points))
+    (refused_or (option_map (refused_table fault_table.Candidates) (candidates_fault (points_of points) candidates))
+    (accepted_input redundancy (points_of points) (candidates_of (points_of points) candidates)))
+
+-- why tables were not accepted: the refusal that they give, or memory ran out
+abbrev pub IsRefusal : InputOf → TableAnswer → Type 0
+IsRefusal given (answer.Fault fault) = given ≡ refused_input (refused_table fault.table (fault.number, fault.kind))
+IsRefusal given answer.NoMemory = Unit {0}
 
 -- ---- one file
 
@@ -76,18 +94,18 @@ pub record ReadsAll (files : List FileOf) (before now : ShelfState) : Type 0 whe
   pub held : now.held ≡ before.held
   pub quiet : KeepsFaults before now
 
+-- the kinds of the files that a command reads after the two tables
+abbrev pub more_kinds : Verb → List FileKind
+more_kinds verb = drop 2 (reads verb)
+
+-- at most one kind
+abbrev pub listed : Option FileKind → List FileKind
+listed None = []
+listed (Some kind) = kind ∷ []
+
 -- the files that are read after the two tables
 abbrev pub more_read : CommandOf → List FileOf
-more_read command = drop 2 (files_read command)
-
--- the bytes of the log are those that the shelf holds, where it is read
-abbrev pub IsReadLog : CommandOf → List ℕ → Option Files → Type 0
-IsReadLog command log held = command.verb ≡ verb.Check → AreBytes command.sources.log held log
-
--- the files after the two tables were read
-pub record ReadsMore (command : CommandOf) (log : List ℕ) (before now : ShelfState) : Type 0 where
-  pub read : IsReadLog command log before.held
-  pub all : ReadsAll (more_read command) before now
+more_read command = map (file_of command.sources) (more_kinds command.verb)
 
 -- the one file after the two tables was not read
 pub record FailsMore (command : CommandOf) (why : LoadFault) (before now : ShelfState) : Type 0 where
@@ -95,12 +113,25 @@ pub record FailsMore (command : CommandOf) (why : LoadFault) (before now : Shelf
   pub one : more_read command ≡ file ∷ []
   pub fails : FailsRead file why before now
 
--- the tables were read and are accepted, these are they with their network, the log was read besides, and no fault was
--- counted
-pub record Loads (command : CommandOf) (tables : TablesOf) (log : List ℕ) (before now : ShelfState) : Type 0 where
+-- the two tables
+abbrev pub tables_read : CommandOf → List FileOf
+tables_read command = file_of command.sources kind.Points ∷ file_of command.sources kind.Candidates ∷ []
+
+-- what the bytes of the two tables give is this, where the shelf tells them
+abbrev pub TablesGive : CommandOf → Option Files → InputOf → Type 0
+TablesGive command held given =
+    ForSome held (λ files. tables_input command.sources.redundancy (bytes_of files command.sources.points) (bytes_of files command.sources.candidates) ≡ given)
+
+-- the tables were read and are accepted, these are they with their network, and no fault was counted
+pub record LoadsTables (command : CommandOf) (tables : TablesOf) (before now : ShelfState) : Type 0 where
+  pub read : ReadsAll (tables_read command) before now
+  pub gives : TablesGive command before.held (built_input tables)
+  pub good : IsGoodNetwork tables
+
+-- .. and all files of the command were read
+pub record Loads (command : CommandOf) (tables : TablesOf) (before now : ShelfState) : Type 0 where
   pub input : AreHeldTables command before.held tables
   pub good : IsGoodNetwork tables
-  pub read : IsReadLog command log before.held
   pub held : now.held ≡ before.held
   pub quiet : KeepsFaults before now
 
@@ -126,19 +157,3 @@ pub record FailsLoad (command : CommandOf) (why : LoadFault) (before now : Shelf
   pub held : now.held ≡ before.held
   pub later : before.faults ≤ now.faults
   pub cause : HasLoadFault command why before now
-
--- ---- the tables
-
--- what the bytes of two tables give
-unfoldable pub tables_input : ℕ → List ℕ → List ℕ → InputOf
-tables_input redundancy points candidates =
-    refused_or (option_map (refused_table fault_table.Points) (points_fault points))
-    (refused_or (option_map (refused_table fault_table.Candidates) (candidates_fault (points_of points) candidates))
-    (accepted_input redundancy (points_of points) (candidates_of (points_of points) candidates)))
-
--- why tables were not accepted: the refusal that they give, or memory ran out
-abbrev pub IsRefusal : InputOf → LoadFault → Type 0
-IsRefusal given (load.TooLong name) = ⊥
-IsRefusal given (load.Unread name) = ⊥
-IsRefusal given (load.Refused refused) = given ≡ refused_input (refused_view refused)
-IsRefusal given load.NoMemory = Unit {0}

@@ -11,7 +11,8 @@ use Rattle.geo_model.specs.declared.answer.Counts.{Counts}
 use Rattle.bound_log.specs.declared.bound.Bound.{Bound}
 use Rattle.bound_log.specs.declared.bound.Bound.TheVariants.{NoPlan, AtLeast}
 use Rattle.bound_log.specs.LogText.{log_text}
-use Rattle.bound_log.specs.LogTree.{root_of, IsAllowed}
+use Rattle.bound_log.specs.LogTree.{root_of, IsAllowed, IsLog}
+use Rattle.bound_log.specs.Placed.{placed}
 use Rattle.bound_log.specs.Sound.{IsLowerBound}
 use Rattle.bound_log.specs.Tree.{Tree}
 use Rattle.branch_bound.specs.Searched.{IsCertified, IsUnsettled, IsFirstOpen}
@@ -19,6 +20,7 @@ use Rattle.log_check.specs.declared.fault.LogFault.{LogFault}
 use Rattle.log_check.specs.declared.replaying.Replayed.{Replayed}
 use Rattle.log_check.specs.FirstFault.{IsFirstFault}
 use Rattle.log_check.specs.Replayed.{IsReplayed}
+use Rattle.idle_splits.specs.NoIdle.{NoSplitIsIdle}
 use Rattle.geoplan.specs.CommandOf.{CommandOf, FileOf, files_read, command_of}
 use Rattle.geoplan.specs.Input.{InputOf, too_long_input, refused_input, IsWithin, input_of}
 use Rattle.geoplan.specs.Tables.{TablesOf, RefusedOf}
@@ -33,11 +35,13 @@ use Rattle.geoplan.specs.Texts.{words_text, cannot_read_text, too_long_text, tab
 
 -- Under the name stands a log of the tables' network, with this bound and these counts of its lines, and every other name
 -- holds what it held. Every plan that meets the limits costs at least the bound, and where that is `NoPlan` none meets them.
+-- No split of the log is idle.
 pub record LeavesLog (tables : TablesOf) (name : List ℕ) (done : Replayed) (before now : ShelfState) : Type 0 where
   pub log : List ℕ
   pub network : IsNetwork tables.network
   pub replayed : IsReplayed tables.network log done
   pub lower : IsLowerBound tables.network done.bound
+  pub no_idle : NoSplitIsIdle tables.network (placed (root_of tables.network) replayed.tree)
   pub written : now.held ≡ with_bytes before.held name log
   pub quiet : KeepsFaults before now
 
@@ -121,6 +125,22 @@ pub record RefusesLog (tables : TablesOf) (log : List ℕ) (before now : ShelfSt
   pub held : now.held ≡ before.held
   pub quiet : KeepsFaults before now
   pub printed : text ≡ log_fault_text fault
+
+-- a text is a log of the tables' network, and has no first fault
+pub record IsRightLog (tables : TablesOf) (log : List ℕ) : Type 0 where
+  pub done : Replayed
+  pub replayed : IsReplayed tables.network log done
+  pub faultless : (fault : LogFault) → IsFirstFault tables.network log fault → ⊥
+
+-- a text has a first fault for the tables' network, and is no log of it
+pub record IsWrongLog (tables : TablesOf) (log : List ℕ) : Type 0 where
+  pub fault : LogFault
+  pub first : IsFirstFault tables.network log fault
+  pub no_log : (tree : Tree) → IsLog tables.network log tree → ⊥
+
+-- the status of a replay: 0 exactly where the text is a log, 8 exactly where it is none, or want of memory
+abbrev pub IsCheckStatus : TablesOf → List ℕ → ℕ → Type 0
+IsCheckStatus tables log status = ((status ≡ 0) × IsRightLog tables log) ⊎ (((status ≡ 8) × IsWrongLog tables log) ⊎ (status ≡ 7))
 
 -- ---- refusals
 

@@ -1,21 +1,12 @@
 use Rattle.std.specs.Prelude.{◌≡◌, ◌⊎◌, ℕ, List, [], ◌∷◌, nat_eq, IsTrue, Contains, Option, Some}
 use Rattle.std.specs.List.{list_any}
 use Rattle.std.specs.FinMap.{get}
-use Rattle.shelf_io.specs.Files.{Files, bytes_of}
+use Rattle.shelf_io.specs.Files.{Files}
 use Rattle.shelf_io.specs.States.{SinkState, ShelfState}
-use Rattle.bound_log.specs.LogTree.{IsLog}
-use Rattle.bound_log.specs.Tree.{Tree}
-use Rattle.log_check.specs.declared.fault.LogFault.{LogFault}
-use Rattle.log_check.specs.declared.replaying.Replayed.{Replayed}
-use Rattle.log_check.specs.FirstFault.{IsFirstFault}
-use Rattle.log_check.specs.Replayed.{IsReplayed}
-use Rattle.geoplan.specs.declared.verb.Verb.{Verb}
-use Rattle.geoplan.specs.declared.verb.Verb.TheVariants as verb
-use Rattle.geoplan.specs.CommandOf.{SourcesOf, CommandOf, written_by, OnCommand}
-use Rattle.geoplan.specs.Ends.{EndsUnwritten, Began, HasReport, HasText}
+use Rattle.geoplan.specs.CommandOf.{CommandOf, written_by, OnCommand}
+use Rattle.geoplan.specs.Ends.{ends_of, EndsUnwritten, Began, HasReport, HasText}
 use Rattle.geoplan.specs.Input.{InputOf, too_long_input, refused_input, built_input, input_of}
 use Rattle.geoplan.specs.Printing.{WritesPrefix, FailsToPut}
-use Rattle.geoplan.specs.Tables.{TablesOf}
 
 -- What the top call promises besides the outcomes. This project's own.
 
@@ -48,33 +39,11 @@ OthersStay words files after = (name : List ℕ) → (Contains (written_by words
 
 -- ---- which status comes
 
--- a text is a log of the tables' network, and has no first fault
-pub record IsRightLog (tables : TablesOf) (log : List ℕ) : Type 0 where
-  pub done : Replayed
-  pub replayed : IsReplayed tables.network log done
-  pub faultless : (fault : LogFault) → IsFirstFault tables.network log fault → ⊥
-
--- a text has a first fault for the tables' network, and is no log of it
-pub record IsWrongLog (tables : TablesOf) (log : List ℕ) : Type 0 where
-  pub fault : LogFault
-  pub first : IsFirstFault tables.network log fault
-  pub no_log : (tree : Tree) → IsLog tables.network log tree → ⊥
-
--- the status of a replay: 0 exactly where the text is a log, 8 exactly where it is none, or want of memory
-abbrev pub IsCheckStatus : TablesOf → List ℕ → ℕ → Type 0
-IsCheckStatus tables log status = ((status ≡ 0) × IsRightLog tables log) ⊎ (((status ≡ 8) × IsWrongLog tables log) ⊎ (status ≡ 7))
-
--- the status of a command for accepted tables, or want of memory
-abbrev pub IsAnswerStatus : Verb → SourcesOf → TablesOf → Files → ℕ → Type 0
-IsAnswerStatus verb.Plan sources tables files status = (status ≡ 0) ⊎ ((status ≡ 1) ⊎ ((status ≡ 4) ⊎ (status ≡ 7)))
-IsAnswerStatus verb.Rows sources tables files status = (status ≡ 0) ⊎ (status ≡ 7)
-IsAnswerStatus verb.Check sources tables files status = IsCheckStatus tables (bytes_of files sources.log) status
-
 -- the status that the files give, or want of memory
 abbrev pub IsStatusOf : CommandOf → InputOf → Files → ℕ → Type 0
 IsStatusOf command (too_long_input name) files status = (status ≡ 9) ⊎ (status ≡ 7)
 IsStatusOf command (refused_input fault) files status = (status ≡ 3) ⊎ (status ≡ 7)
-IsStatusOf command (built_input tables) files status = IsAnswerStatus command.verb command.sources tables files status
+IsStatusOf command (built_input tables) files status = (ends_of command.verb command.sources tables).answers files status
 
 -- the status of accepted words where no fault was counted: by what the files give
 abbrev pub IsComplete : CommandOf → Files → ℕ → Type 0

@@ -20,13 +20,14 @@ pub fn answer<H: Shelf>(alloc: Global, command: &Command<'_>, shelf: &mut H) -> 
     requires { command.now.sources.redundancy ≤ 999 }
     ensures { IsOutcomeOf (command_view command.now) (H.state shelf.old) (H.state shelf.new) result.status result.text.items }
 {
-    let loaded = match load(alloc, command, shelf) {
-        Ok(loaded) => loaded,
+    let tables = match load(alloc, command, shelf) {
+        Ok(tables) => tables,
         Err(why) => return refuse(alloc, why),
     };
+    let log = command.sources.log;
     match command.verb {
-        Verb::Plan => answer_plan(alloc, &loaded.tables, shelf, command.sources.log),
-        Verb::Rows => answer_rows(alloc, &loaded.tables),
-        Verb::Check => answer_check(alloc, &loaded.tables, loaded.log.as_slice()),
+        Verb::Plan => answer_plan(alloc, &tables, shelf, log),
+        Verb::Rows => answer_rows(alloc, &tables),
+        Verb::Check => answer_check(alloc, &tables, shelf, log),
     }
 }

@@ -1,8 +1,9 @@
 ghost use Rattle.std.specs.Prelude.{◌≡◌, ◌≤◌, length, option_map, drop, IfSome};
 ghost use Rattle.std.specs.List.{list_all};
-ghost use Rattle.geoplan.specs.CommandOf.{is_plain, command_from, command_of, roles_of, sources_from};
-ghost use Rattle.geoplan.specs.CommandView.{sources_view, command_view};
+ghost use Rattle.geoplan.specs.CommandOf.{is_plain, command_from, command_of, sources_from};
+ghost use Rattle.geoplan.specs.CommandView.{roles_for, sources_view, command_view};
 
+use crate::shape::Shape;
 use crate::sources::Sources;
 use crate::verb::Verb;
 use crate::words::Words;
@@ -39,27 +40,27 @@ impl<'a> Command<'a> {
             Some(verb) => verb,
             None => return None,
         };
-        match sources_of(verb, words) {
+        match sources_of(verb.shape(), words) {
             Some(sources) => Some(Command { verb, sources }),
             None => None,
         }
     }
 }
 
-/// What the words after that of the command give, which are as many as it asks for.
-fn sources_of<'a>(verb: Verb, words: &'a Words) -> Option<Sources<'a>>
+/// What the words after that of the command give, which are as many as its shape asks for.
+fn sources_of<'a>(shape: Shape, words: &'a Words) -> Option<Sources<'a>>
     requires { 2 ≤ length words.now }
-    ensures sources { option_map sources_view result ≡ sources_from (roles_of verb) (drop 2 words.now) }
+    ensures sources { option_map sources_view result ≡ sources_from (roles_for shape) (drop 2 words.now) }
     ensures within { IfSome result (λ sources. sources.redundancy ≤ 999) }
 {
-    match verb {
-        Verb::Plan | Verb::Check => {
+    match shape {
+        Shape::Job => {
             if words.len() != 6 {
                 return None;
             }
             Sources::of_job(words.get(2), words.get(3), words.get(4), words.get(5))
         }
-        Verb::Rows => {
+        Shape::Tables => {
             if words.len() != 4 {
                 return None;
             }

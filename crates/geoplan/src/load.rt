@@ -1,19 +1,21 @@
 //! Reading the files of a command.
-ghost use Rattle.std.specs.Prelude.{◌≡◌, ◌≤◌, All, IfOk, IfErr};
+ghost use Rattle.std.specs.Prelude.{◌≡◌, ◌≤◌, ℕ, List, All, IfOk, OnOk, IfErr};
 ghost use Rattle.point_tables.specs.Accepted.{IsAccepted};
 ghost use Rattle.candidate_tables.specs.Accepted.{AreCandidates};
 ghost use Rattle.geoplan.specs.CommandOf.{file_of};
 ghost use Rattle.geoplan.specs.CommandView.{sources_view, command_view};
 ghost use Rattle.geoplan.specs.Input.{accepted_input, built_input};
-ghost use Rattle.geoplan.specs.Loading.{tables_input, IsRefusal, ReadsFile, FailsRead, ReadsMore, FailsMore, IsGoodNetwork, Loads, FailsLoad};
+ghost use Rattle.geoplan.specs.Loading.{tables_input, IsRefusal, ReadsFile, FailsRead, ReadsAll, more_read, FailsMore, IsGoodNetwork, LoadsTables, FailsLoad};
+ghost use Rattle.geoplan.specs.Parts.{log_file};
 
 use crate::command::Command;
 use crate::file_kind::FileKind;
+use crate::log_parts::LogParts;
 use crate::refused_table::RefusedTable;
 use crate::sources::Sources;
 use crate::tables::Tables;
-use crate::verb::Verb;
 use candidate_tables::{Candidates, read_candidates};
+use geo_base::NoMemory;
 use net_build::build;
 use point_tables::{Points, TableAnswer, read_points};
 use shelf_io::{ReadAnswer, Shelf};
@@ -27,14 +29,6 @@ pub enum LoadFault<'a> {
     Unread(&'a str),
     Refused(RefusedTable),
     NoMemory,
-}
-
-/// What the files of a command give: its tables with their network, and the bytes of the log, none
-/// where it reads no log.
-#[derive(Drop)]
-pub struct Loaded {
-    pub tables: Tables,
-    pub log: Vec<u8>,
 }
 
 /// The bytes of a file.
@@ -59,31 +53,46 @@ fn read_file<'a, H: Shelf>(
     }
 }
 
-/// The bytes of the log, where the command reads it, and none where it doesn't.
-fn read_more<'a, H: Shelf>(
+/// Reads a log to its end, and keeps nothing of it.
+fn skip_log<'a, H: Shelf>(alloc: Global, shelf: &mut H, log: &'a str) -> Result<(), LoadFault<'a>>
+    ensures read { OnOk result ((text : List ℕ) × ReadsFile (log_file log.entry.now) text (H.state shelf.old) (H.state shelf.new)) }
+    ensures fault { IfErr result (λ why. FailsRead (log_file log.entry.now) why (H.state shelf.old) (H.state shelf.new)) }
+{
+    let mut parts = match LogParts::new(alloc, log) {
+        Ok(parts) => parts,
+        Err(NoMemory) => return Err(LoadFault::NoMemory),
+    };
+    'parts: while parts.read_next(shelf)? {}
+    Ok(())
+}
+
+/// Reads the files after the tables, and keeps nothing of them.
+fn skip_more<'a, H: Shelf>(
     alloc: Global,
     command: &Command<'a>,
     shelf: &mut H,
-) -> Result<Vec<u8>, LoadFault<'a>>
-    ensures read { IfOk result (λ bytes. ReadsMore (command_view command.now) bytes.items
-        (H.state shelf.old) (H.state shelf.new)) }
-    ensures fault { IfErr result (λ why. FailsMore (command_view command.now) why
-        (H.state shelf.old) (H.state shelf.new)) }
+) -> Result<(), LoadFault<'a>>
+    ensures read { OnOk result (ReadsAll (more_read (command_view command.now)) (H.state shelf.old) (H.state shelf.new)) }
+    ensures fault { IfErr result (λ why. FailsMore (command_view command.now) why (H.state shelf.old) (H.state shelf.new)) }
 {
-    match command.verb {
-        Verb::Check => read_file(alloc, &command.sources, FileKind::Log, shelf),
-        Verb::Plan | Verb::Rows => Ok(Vec::new(alloc)),
+    match command.verb.read_after_tables() {
+        None => Ok(()),
+        Some(FileKind::Log) => skip_log(alloc, shelf, command.sources.log),
+        Some(kind) => match read_file(alloc, &command.sources, kind, shelf) {
+            Ok(_) => Ok(()),
+            Err(why) => Err(why),
+        },
     }
 }
 
 /// What two accepted tables give for a redundancy of at most 999.
 #[tactic(auto, unfolding(crate::specs::Input::accepted_input))]
-fn accept<'a>(
+fn accept(
     alloc: Global,
     redundancy: u32,
     points: Points,
     candidates: Candidates,
-) -> Result<Tables, LoadFault<'a>>
+) -> Result<Tables, TableAnswer>
     requires redundancy { redundancy ≤ 999 }
     requires points { All IsAccepted points }
     requires accepted { AreCandidates points candidates }
@@ -93,19 +102,18 @@ fn accept<'a>(
 {
     match build(alloc, &points, &candidates, redundancy) {
         Ok(network) => Ok(Tables::new(points, candidates, redundancy, network)),
-        Err(TableAnswer::Fault(fault)) => Err(LoadFault::Refused(RefusedTable::of(fault))),
-        Err(TableAnswer::NoMemory) => Err(LoadFault::NoMemory),
+        Err(why) => Err(why),
     }
 }
 
 /// What the bytes of two tables give for a redundancy of at most 999.
 #[tactic(auto, unfolding(crate::specs::Loading::tables_input))]
-fn judge<'a>(
+fn judge(
     alloc: Global,
     redundancy: u32,
     points: &[u8],
     candidates: &[u8],
-) -> Result<Tables, LoadFault<'a>>
+) -> Result<Tables, TableAnswer>
     requires { redundancy ≤ 999 }
     ensures tables { IfOk result (λ tables. tables_input redundancy points.now candidates.now ≡ built_input tables) }
     ensures good { IfOk result IsGoodNetwork }
@@ -113,30 +121,24 @@ fn judge<'a>(
 {
     let points = match read_points(alloc, points) {
         Ok(points) => points,
-        Err(TableAnswer::Fault(fault)) => {
-            return Err(LoadFault::Refused(RefusedTable::of(fault)));
-        }
-        Err(TableAnswer::NoMemory) => return Err(LoadFault::NoMemory),
+        Err(why) => return Err(why),
     };
     let candidates = match read_candidates(alloc, candidates, &points) {
         Ok(candidates) => candidates,
-        Err(TableAnswer::Fault(fault)) => {
-            return Err(LoadFault::Refused(RefusedTable::of(fault)));
-        }
-        Err(TableAnswer::NoMemory) => return Err(LoadFault::NoMemory),
+        Err(why) => return Err(why),
     };
     accept(alloc, redundancy, points, candidates)
 }
 
-/// Reads the files of a command in their order, and judges what the tables give. The redundancy is at
-/// most 999.
+/// Reads the tables of a command in their order, and judges what they give. Where they are refused, the
+/// files after them were read too, since one of them may be what is refused. The redundancy is at most 999.
 pub fn load<'a, H: Shelf>(
     alloc: Global,
     command: &Command<'a>,
     shelf: &mut H,
-) -> Result<Loaded, LoadFault<'a>>
+) -> Result<Tables, LoadFault<'a>>
     requires { command.now.sources.redundancy ≤ 999 }
-    ensures loaded { IfOk result (λ loaded. Loads (command_view command.now) loaded.tables loaded.log.items
+    ensures loaded { IfOk result (λ tables. LoadsTables (command_view command.now) tables
         (H.state shelf.old) (H.state shelf.new)) }
     ensures fault { IfErr result (λ why. FailsLoad (command_view command.now) why
         (H.state shelf.old) (H.state shelf.new)) }
@@ -150,17 +152,18 @@ pub fn load<'a, H: Shelf>(
         Ok(candidates) => candidates,
         Err(why) => return Err(why),
     };
-    let log = match read_more(alloc, command, shelf) {
-        Ok(log) => log,
-        Err(why) => return Err(why),
-    };
-    match judge(
+    let refused = match judge(
         alloc,
         sources.redundancy,
         points.as_slice(),
         candidates.as_slice(),
     ) {
-        Ok(tables) => Ok(Loaded { tables, log }),
+        Ok(tables) => return Ok(tables),
+        Err(TableAnswer::Fault(fault)) => RefusedTable::of(fault),
+        Err(TableAnswer::NoMemory) => return Err(LoadFault::NoMemory),
+    };
+    match skip_more(alloc, command, shelf) {
+        Ok(()) => Err(LoadFault::Refused(refused)),
         Err(why) => Err(why),
     }
 }

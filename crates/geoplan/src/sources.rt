@@ -1,7 +1,7 @@
 ghost use Rattle.std.specs.Prelude.{◌≡◌, ◌≤◌, [], ◌∷◌, option_map, IfSome};
-ghost use Rattle.geoplan.specs.CommandOf.{name_of, roles_of, sources_from};
-ghost use Rattle.geoplan.specs.CommandView.{sources_view};
-ghost use Rattle.geoplan.specs.declared.verb.Verb.TheVariants as verb;
+ghost use Rattle.geoplan.specs.CommandOf.{name_of, sources_from};
+ghost use Rattle.geoplan.specs.CommandView.{roles_for, sources_view};
+ghost use Rattle.geoplan.specs.declared.shape.Shape.TheVariants as shape;
 
 use crate::file_kind::FileKind;
 use crate::words::is_same;
@@ -21,7 +21,7 @@ impl<'a> Sources<'a> {
     /// Two tables, by their names.
     pub fn of_tables(points: &'a str, candidates: &'a str) -> Option<Sources<'a>>
         ensures sources { option_map sources_view result
-            ≡ sources_from (roles_of verb.Rows) (points.entry.now ∷ candidates.entry.now ∷ []) }
+            ≡ sources_from (roles_for shape.Tables) (points.entry.now ∷ candidates.entry.now ∷ []) }
         ensures within { IfSome result (λ sources. sources.redundancy ≤ 999) }
     {
         if is_same(points, candidates) {
@@ -42,7 +42,7 @@ impl<'a> Sources<'a> {
         redundancy: &str,
         log: &'a str,
     ) -> Option<Sources<'a>>
-        ensures sources { option_map sources_view result ≡ sources_from (roles_of verb.Plan)
+        ensures sources { option_map sources_view result ≡ sources_from (roles_for shape.Job)
             (points.entry.now ∷ candidates.entry.now ∷ redundancy.now ∷ log.entry.now ∷ []) }
         ensures within { IfSome result (λ sources. sources.redundancy ≤ 999) }
     {

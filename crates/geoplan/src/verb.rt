@@ -1,6 +1,10 @@
 ghost use Rattle.std.specs.Prelude.{◌≡◌};
-ghost use Rattle.geoplan.specs.CommandOf.{verb_of};
+ghost use Rattle.geoplan.specs.CommandOf.{verb_of, roles_of};
+ghost use Rattle.geoplan.specs.CommandView.{roles_for};
+ghost use Rattle.geoplan.specs.Loading.{more_kinds, listed};
 
+use crate::file_kind::FileKind;
+use crate::shape::Shape;
 use crate::words::is_same;
 
 /// What a command does.
@@ -27,6 +31,25 @@ impl Verb {
             Some(Verb::Check)
         } else {
             None
+        }
+    }
+    /// What its further words stand for.
+    pub fn shape(self) -> Shape
+        ensures { roles_of self ≡ roles_for result }
+    {
+        match self {
+            Verb::Plan | Verb::Check => Shape::Job,
+            Verb::Rows => Shape::Tables,
+        }
+    }
+
+    /// The file that it reads after the two tables, if there is one.
+    pub fn read_after_tables(self) -> Option<FileKind>
+        ensures { more_kinds self ≡ listed result }
+    {
+        match self {
+            Verb::Plan | Verb::Rows => None,
+            Verb::Check => Some(FileKind::Log),
         }
     }
 }

@@ -1,4 +1,5 @@
--- Displacements by 1 in one unknown, and that the cut of a displacement depends on its entries alone.
+-- Displacements by 1 in one unknown, and that the cut of a displacement depends on its entries
+-- alone.
 use Rattle.std.proofs.Common.{◌≡◌, ◌<◌, ◌^◌, ◌/◌, ℕ, min, List, [], ◌∷◌, map, set, get_or, replicate, length, inl, inr, refl, sym, ◌∙◌, ap, ap₂, arith, ℤ, pos, ◌*ℤ◌}
 use Rattle.std.specs.Prelude.{unsigned_abs}
 use Rattle.std.proofs.lemmas.Bool.{cases_lt}

@@ -12,8 +12,8 @@ use Rattle.pivot_chain.specs.Verdict.{verdict_of}
 use Rattle.bound_log.specs.declared.bound.Bound.{Bound}
 use Rattle.bound_log.specs.declared.bound.Bound.TheVariants.{NoPlan, AtLeast}
 
--- Idle splits: splits of nodes that a verdict, a price or a dual bound of one cut makes needless, where earlier lines of
--- the log have a bound. This project's own.
+-- Idle splits: splits of nodes that a verdict, a price or a dual bound of one cut makes needless,
+-- where earlier lines of the log have a bound. This project's own.
 
 -- a price is above a bound
 abbrev pub IsAbove : ℕ → Bound → Type 0
@@ -43,12 +43,14 @@ price_at network candidate = get_or (prices_of network).candidates candidate 0
 abbrev pub coefficient_at : CoverOf → ℕ → ℕ
 coefficient_at cover candidate = get_or cover.coefficients candidate 0
 
--- the dual bound of a node by one covering inequality, where the candidate's price is just its coefficient's worth
+-- the dual bound of a node by one covering inequality: a candidate's coefficient is the divisor,
+-- its price the multiplier
 abbrev pub bound_by : NetworkOf → Node → CoverOf → ℕ → ℕ
 bound_by network node cover candidate =
     dual_bound (prices_of network) (coefficient_at cover candidate) (record { multiplier = price_at network candidate; cover = cover } ∷ []) node
 
--- by a covering inequality, at the price of a candidate that a node may choose, the node costs more than a bound
+-- by a covering inequality, at the price of a candidate that a node may choose, the node costs more
+-- than a bound
 pub record IsDearBy (network : NetworkOf) (node : Node) (earlier : Bound) (cover : CoverOf) (candidate : ℕ) : Type 0 where
   pub chosen : slice_get node.upper candidate ≡ Some true
   pub priced : 1 ≤ price_at network candidate
@@ -63,8 +65,8 @@ pub record IsDearByUnit (network : NetworkOf) (node : Node) (earlier : Bound) (n
 
 -- ---- idle
 
--- A split at a node is idle beside an earlier bound: a limit without an owner refutes the node, or the price of its inner
--- plan is above the bound, or the dual bound of the node by one unit cut is.
+-- A split at a node is idle beside an earlier bound: a limit without an owner refutes the node, or
+-- the price of its inner plan is above the bound, or the dual bound of the node by one unit cut is.
 pub data IsIdle (network : NetworkOf) (node : Node) (earlier : Bound) : Type 0 where
   refuted : (number : ℕ) → IsRefutedUnowned network node number → IsIdle network node earlier
   dear : IsAbove (price_of network node.inside) earlier → IsIdle network node earlier

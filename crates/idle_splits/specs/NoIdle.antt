@@ -13,8 +13,8 @@ use Rattle.idle_splits.specs.Idle.{IsIdle}
 
 -- Logs without idle splits. This project's own.
 
--- No split of a tree is idle, where the lines before the tree have this bound: what stands before a second child is that,
--- and the first child.
+-- No split of a tree is idle, where the lines before the tree have this bound: what stands before a
+-- second child is that, and the first child.
 abbrev pub HasNoIdle : NetworkOf → Node → Bound → Tree → Type 0
 HasNoIdle network node earlier (tip end) = Unit {0}
 HasNoIdle network node earlier (fork candidate with_it without_it) =

@@ -8,8 +8,8 @@ use Rattle.cut_pool.specs.Cut.{CutOf, cover, cover_of}
 use Rattle.idle_splits.specs.Idle.{IsLoadedAt}
 use Rattle.idle_splits.specs.declared.unit_cuts.UnitCuts.{UnitCuts}
 
--- The cuts of a network's axis and height limits and the displacements by 1 in one unknown that load them. This project's
--- own.
+-- The cuts of a network's axis and height limits and the displacements by 1 in one unknown that
+-- load them. This project's own.
 
 -- the displacement by 1 in one unknown of so many
 abbrev pub unit_move : ℕ → ℕ → List ℤ
@@ -26,7 +26,8 @@ pub record IsUnitCut (network : NetworkOf) (unknown : ℕ) (cut : CutOf) : Type 
 abbrev pub HasCover : List CutOf → CoverOf → Type 0
 HasCover pool wanted = Any (λ cut. cover cut ≡ wanted) pool
 
--- a pool has the cut of a limit and of the displacement by 1 in an unknown, where that loads the limit
+-- a pool has the cut of a limit and of the displacement by 1 in an unknown, where that loads the
+-- limit
 abbrev pub HasUnitCut : NetworkOf → List CutOf → ℕ → ℕ → Type 0
 HasUnitCut network pool number unknown =
     (limit : LimitOf) → IsLoadedAt network number unknown limit → HasCover pool (cover_of network limit (unit_at unknown))

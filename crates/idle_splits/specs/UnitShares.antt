@@ -9,7 +9,8 @@ use Rattle.idle_splits.specs.Idle.{IsLoadedAt, IsDearBy, coefficient_at, price_a
 use Rattle.idle_splits.specs.declared.unit_cuts.UnitCuts.{UnitCuts}
 use Rattle.idle_splits.specs.declared.unit_share.UnitShare.{UnitShare}
 
--- What shows that a node costs more than an earlier bound: one cut, its multiplier, and a divisor. This project's own.
+-- What shows that a node costs more than an earlier bound: one cut, its multiplier, and a divisor.
+-- This project's own.
 
 -- the dual bound of the node by this one share is above the bound
 pub record ShowsDear (network : NetworkOf) (node : Node) (earlier : Bound) (share : UnitShare) : Type 0 where

@@ -12,7 +12,7 @@ use dual_bound::leaf_bound;
 use geo_model::{Network, Node};
 
 // The share of a kept cut, by its number, at the price of a candidate.
-fn share_of(network: &Network, cuts: &UnitCuts, k: u32, candidate: u32) -> UnitShare
+pub(crate) fn share_of(network: &Network, cuts: &UnitCuts, k: u32, candidate: u32) -> UnitShare
     requires cuts { KeepsUnitCuts network.now cuts.now }
     requires k { k < length cuts.now.pool }
     requires candidate { candidate < length network.now.candidates }
@@ -34,7 +34,7 @@ fn share_of(network: &Network, cuts: &UnitCuts, k: u32, candidate: u32) -> UnitS
 }
 
 // Whether the share of a kept cut, by its number, shows that a node costs more than a bound.
-fn is_dear(
+pub(crate) fn is_dear(
     network: &Network,
     node: &Node,
     cuts: &UnitCuts,
@@ -58,9 +58,9 @@ fn is_dear(
     leaf_bound(network, node, share.d, &shares, &cuts.pool) > earlier
 }
 
-// The share of a kept cut, by its number, at the price of the first candidate at which it shows that a
-// node costs more than a bound.
-fn dear_share_of(
+// The share of a kept cut, by its number, at the price of the first candidate at which it shows
+// that a node costs more than a bound.
+pub(crate) fn first_dear_share(
     network: &Network,
     node: &Node,
     cuts: &UnitCuts,
@@ -83,9 +83,11 @@ fn dear_share_of(
     None
 }
 
-/// A share of one unit cut that shows that a node costs more than an earlier bound: its dual bound at
-/// the price of a candidate that the node may choose is greater. None only where no unit cut shows it
-/// at the price of any. Both plans of the node have an entry for each candidate. It takes no memory.
+/// A share of one unit cut that shows that a node costs more than an earlier bound: its dual bound
+/// at the price of a candidate that the node may choose is greater. None only where no unit cut
+/// shows it at the price of any. Both plans of the node have an entry for each candidate. It takes
+/// no memory, and asks each cut at the price of each candidate: `IdleTest` does the same in less
+/// time.
 pub fn dear_share(
     network: &Network,
     node: &Node,
@@ -99,7 +101,7 @@ pub fn dear_share(
     ensures none { IfNone result ((number unknown candidate : ℕ) → IsDearByUnit network.now node.now (AtLeast earlier) number unknown candidate → ⊥) }
 {
     for k in 0..cuts.pool.len() {
-        let found = dear_share_of(network, node, cuts, k, earlier);
+        let found = first_dear_share(network, node, cuts, k, earlier);
         if found.is_some() {
             return found;
         }

@@ -7,8 +7,8 @@ pub fn idleness_falls()
     ensures { IdlenessFalls }
 {}
 
-/// No split of a log's tree is idle, by the recursion on the tree, exactly where none of its lines in
-/// preorder is idle beside the bound of a leaf that stands before it.
+/// No split of a log's tree is idle, by the recursion on the tree, exactly where none of its lines
+/// in preorder is idle beside the bound of a leaf that stands before it.
 pub fn logs_without_idle_splits()
     ensures { LogsWithoutIdleSplits }
 {}

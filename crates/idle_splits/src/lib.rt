@@ -6,15 +6,21 @@
 //! displacements by 1 in one unknown finds a share exactly where one makes a split idle, and takes
 //! no memory.
 //!
-//! Said by: `logs_without_idle_splits`, `idleness_falls`; `UnitCuts::new`, `dear_share`.
+//! Said by: `logs_without_idle_splits`, `idleness_falls`; `IdleTest::dear_share`, `dear_share`.
 #![tactic(auto)]
 
 mod dear;
+mod fill;
+mod filling;
+mod idle_test;
 mod laws;
+mod offer;
+mod quick;
 mod unit_cuts;
 mod unit_share;
 
 pub use dear::dear_share;
+pub use idle_test::IdleTest;
 pub use laws::{idleness_falls, logs_without_idle_splits};
 pub use unit_cuts::UnitCuts;
 pub use unit_share::UnitShare;

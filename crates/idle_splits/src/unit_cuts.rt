@@ -5,18 +5,21 @@ ghost use Rattle.cut_pool.specs.Cut.{cover};
 ghost use Rattle.idle_splits.specs.Idle.{IsLoadedAt};
 ghost use Rattle.idle_splits.specs.UnitCuts.{unit_move, IsUnitCut, HasCover, HasUnitCut, KeepsUnitCuts, Grows, AreUnitCuts};
 
+use crate::offer::{Offer, offers_of};
 use cut_pool::{Cut, CutPool, cut_of};
 use geo_base::NoMemory;
 use geo_model::{Displacement, Limit, LimitKind, Network, load};
 use std::alloc::Global;
 
-/// The cuts of a network's axis and height limits and the displacements by 1 in one unknown that load
-/// them, each with its unknown: at most one for each limit and unknown.
+/// The cuts of a network's axis and height limits and the displacements by 1 in one unknown that
+/// load them, each with its unknown: at most one for each limit and unknown.
 #[derive(Debug, Drop)]
 pub struct UnitCuts {
     pub(crate) pool: CutPool,
     // The number of the unknown of each cut, by the cut's number.
     pub(crate) unknowns: Vec<u32>,
+    // The candidates as each cut sees them, by the cut's number.
+    pub(crate) offers: Vec<Vec<Offer>>,
 }
 
 impl UnitCuts {
@@ -27,6 +30,7 @@ impl UnitCuts {
         let mut cuts = UnitCuts {
             pool: CutPool::new(alloc),
             unknowns: Vec::new(alloc),
+            offers: Vec::new(alloc),
         };
         for number in 0..network.limits().len() as u32 {
             cuts.add_limit(alloc, network, number)?;
@@ -66,13 +70,19 @@ impl UnitCuts {
         ensures few { OnOk result (length self.new.pool ≤ length self.old.pool + 1) }
     {
         match unit_cut(alloc, network, number, unknown)? {
-            Some(cut) => self.keep(network, cut, unknown),
+            Some(cut) => self.keep(alloc, network, cut, unknown),
             None => Ok(()),
         }
     }
 
     // Keeps a unit cut, where it isn't there.
-    fn keep(&mut self, network: &Network, cut: Cut, unknown: u32) -> Result<(), NoMemory>
+    fn keep(
+        &mut self,
+        alloc: Global,
+        network: &Network,
+        cut: Cut,
+        unknown: u32,
+    ) -> Result<(), NoMemory>
         requires unit { IsUnitCut network.now unknown cut }
         requires kept { KeepsUnitCuts network.now self.old }
         requires few { length self.old.pool < 2 ^ 31 }
@@ -80,8 +90,10 @@ impl UnitCuts {
         ensures has { OnOk result (HasCover self.new.pool (cover cut)) }
         ensures few { OnOk result (length self.new.pool ≤ length self.old.pool + 1) }
     {
+        let offers = offers_of(alloc, network, &cut)?;
         if self.pool.add(cut)? {
             self.unknowns.push(unknown)?;
+            self.offers.push(offers)?;
         }
         Ok(())
     }

@@ -1,5 +1,5 @@
-/// What shows that a node costs more than a bound: the cut of a limit and of the displacement by 1 in
-/// one unknown, its multiplier, and the divisor of the dual bound.
+/// What shows that a node costs more than a bound: the cut of a limit and of the displacement by 1
+/// in one unknown, its multiplier, and the divisor of the dual bound.
 #[derive(Clone, Copy, Debug, PartialEq, Eq)]
 pub struct UnitShare {
     /// The number of the limit, from 0.

@@ -25,4 +25,6 @@ mod searches;
 #[cfg(test)]
 mod tight_networks;
 #[cfg(test)]
+mod unit_cuts;
+#[cfg(test)]
 mod verdicts;

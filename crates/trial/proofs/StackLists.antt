@@ -1,8 +1,9 @@
 -- Stacks whose changes come and go, all at once.
-use Rattle.std.proofs.Common.{◌≡◌, ℕ, zero, suc, ◌<◌, ◌≤◌, List, [], ◌∷◌, ◌++◌, length, map, ap, ap₂, subst, sym, ◌∙◌, arith, Some}
+use Rattle.std.proofs.Common.{◌≡◌, ℕ, ◌<◌, ◌≤◌, List, [], ◌∷◌, ◌++◌, length, map, ap, ap₂, subst, sym, ◌∙◌, arith, Some}
 use Rattle.std.specs.Prelude.{All, Bool, not, slice_get, slice_set}
 use Rattle.std.specs.List.{AllZip}
 use Rattle.std.proofs.lemmas.List.{length-map, map-append, same_from_push}
+use Rattle.std.proofs.lemmas.List.Elements.{All-cons}
 use Rattle.geo_model.specs.Network.{NetworkOf}
 use Rattle.factor_stack.specs.Stack.{StackOf}
 use Rattle.factor_stack.specs.Image.{ImageOf}
@@ -45,10 +46,6 @@ undone_stacks network plan last before rest (number ∷ numbers) (old ∷ olds) 
 undone_stacks network plan last before rest (number ∷ numbers) (old ∷ olds) (new ∷ news) e are become =
     (undone_one network plan last before rest number old new e are.0 become.0, undone_stacks network plan last before rest numbers olds news e are.1 become.1)
 
-all_more : (P : StackOf → Type 0) (stack : StackOf) (stacks : List StackOf) → P stack → All P stacks → All P (stack ∷ stacks)
-all_more P stack stacks first rest zero d inside = first
-all_more P stack stacks first rest (suc k) d inside = rest k d (omega arith)
-
 -- what a change leaves, in the words of the code
 pub changed_session : (network : NetworkOf) (plan next copy : List Bool) (before later : List (List Bool)) (numbers : List ℕ) (i : ℕ) (chosen : Bool) (lent old new : List StackOf)
     → next ≡ slice_set plan i chosen → later ≡ before ++ copy ∷ [] → copy ≡ plan → lent ≡ old
@@ -65,7 +62,7 @@ pub all_stacks : (P : StackOf → Type 0) (network : NetworkOf) (plan : List Boo
 all_stacks P network plan before [] [] each are = λ k d inside. absurd (omega arith)
 all_stacks P network plan before [] (stack ∷ stacks) each are = absurd are
 all_stacks P network plan before (number ∷ numbers) [] each are = absurd are
-all_stacks P network plan before (number ∷ numbers) (stack ∷ stacks) each are = all_more P stack stacks (each number stack are.0) (all_stacks P network plan before numbers stacks each are.1)
+all_stacks P network plan before (number ∷ numbers) (stack ∷ stacks) each are = All-cons P stack stacks (each number stack are.0) (all_stacks P network plan before numbers stacks each are.1)
 
 deep : (stack : StackOf) (before : List (List Bool)) → plans_before stack ≡ before → length stack.before ≡ length before
 deep stack before same = sym (length-map stack.before (λ (image : ImageOf). image.plan)) ∙ ap length same

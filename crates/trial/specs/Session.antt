@@ -1,12 +1,13 @@
 -- A session: a plan that changes, one candidate at a time, and goes back. This project's own.
-use Rattle.std.specs.Prelude.{ℕ, ◌+◌, ◌-◌, nat_lt, Bool, true, false, if◌then◌else◌, List, [], ◌∷◌, ◌++◌, length, take, get_or, slice_set, replicate, Option, Some, None}
+use Rattle.std.specs.Prelude.{◌≡◌, ℕ, ◌+◌, ◌-◌, nat_lt, Bool, true, false, if◌then◌else◌, List, [], ◌∷◌, ◌++◌, length, take, get_or, slice_set, replicate, Option, Some, None}
 use Rattle.std.specs.Bool.{beq}
 use Rattle.trial.specs.declared.command.Command.{Command}
 use Rattle.trial.specs.declared.command.Command.TheVariants.{Change, Undo, Show, Unknown}
 use Rattle.trial.specs.declared.answer.Answer.{Answer}
 use Rattle.trial.specs.declared.answer.Answer.TheVariants as answer
 
--- the plan; the plans before the changes that aren't taken back, the oldest first; and how often a plan was shown
+-- the plan; the plans before the changes that aren't taken back, the oldest first;
+-- and how often a plan was shown
 pub record SessionOf : Type 0 where
   pub plan : List Bool
   pub before : List (List Bool)
@@ -21,7 +22,9 @@ abbrev pub is_chosen : SessionOf → ℕ → Bool
 is_chosen session candidate = get_or session.plan candidate false
 
 -- ---- answers
--- .. to a change: a candidate is chosen or left out, where it isn't yet and 32 changes aren't reached
+
+-- .. to a change: it can be made where a candidate has the name, isn't chosen or left out already,
+-- and fewer than 32 changes aren't taken back
 abbrev pub change_answer : SessionOf → Option ℕ → Bool → Answer
 change_answer session None chosen = answer.NoCandidate
 change_answer session (Some candidate) chosen =
@@ -29,10 +32,12 @@ change_answer session (Some candidate) chosen =
     else if nat_lt (length session.before) 32 then answer.Done
     else answer.TooDeep
 
+-- .. to an undo: there is a change to take back
 abbrev pub undo_answer : List (List Bool) → Answer
 undo_answer [] = answer.NothingToUndo
 undo_answer (plan ∷ plans) = answer.Done
 
+-- .. to a show: fewer than 256 came before
 abbrev pub show_answer : ℕ → Answer
 show_answer shows = if nat_lt shows 256 then answer.Shown else answer.TooManyShows
 
@@ -42,7 +47,8 @@ answer_to session Undo = undo_answer session.before
 answer_to session Show = show_answer session.shows
 answer_to session Unknown = answer.NotACommand
 
--- ---- what comes after
+-- ---- the session after a command
+
 -- the plan changes, and the one before it is kept
 abbrev pub changed : SessionOf → Option ℕ → Bool → SessionOf
 changed session None chosen = session
@@ -60,10 +66,11 @@ undone session = record {
   shows = session.shows;
 }
 
+-- one more plan was shown
 abbrev pub shown : SessionOf → SessionOf
 shown session = record { plan = session.plan; before = session.before; shows = session.shows + 1 }
 
--- the session after a command that is done; after one that is refused it is the same
+-- .. that is done
 abbrev pub after_done : SessionOf → Command → SessionOf
 after_done session (Change candidate chosen) = changed session candidate chosen
 after_done session Undo = undone session
@@ -75,5 +82,13 @@ is_done answer.Done = true
 is_done answer.Shown = true
 is_done _ = false
 
+-- .. that may be refused: then the session is the same
 abbrev pub after : SessionOf → Command → SessionOf
 after session command = if is_done (answer_to session command) then after_done session command else session
+
+-- ---- a law of them
+-- an undo takes a change back
+abbrev pub UndoTakesChangesBack : Type 0
+UndoTakesChangesBack =
+    (session : SessionOf) (candidate : Option ℕ) (chosen : Bool) → answer_to session (Change candidate chosen) ≡ answer.Done →
+    after (after session (Change candidate chosen)) Undo ≡ session

@@ -1,4 +1,5 @@
--- What a session keeps: a stack of factors for each limit, of the session's plans. This project's own layout.
+-- What a session keeps: a stack of factors for each limit, of the session's plans.
+-- This project's own layout.
 use Rattle.std.specs.Prelude.{◌≡◌, ℕ, ◌<◌, ◌≤◌, ◌^◌, Bool, not, List, [], ◌∷◌, ◌++◌, All, length, map, Some, slice_get, slice_set}
 use Rattle.std.specs.List.{AllZip, range_with_len}
 use Rattle.geo_model.specs.Network.{NetworkOf}

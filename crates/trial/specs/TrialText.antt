@@ -1,4 +1,5 @@
--- The text of a session: an answer to each line of a script. Each line of the text ends with LF. This project's own.
+-- The text of a session: an answer to each line of a script. Each line of the text ends with LF.
+-- This project's own.
 use Rattle.std.specs.Prelude.{ℕ, ◌+◌, ℤ, Bool, true, if◌then◌else◌, List, [], ◌∷◌, ◌++◌, length, flat_map, get_or, codes}
 use Rattle.std.specs.Fmt.{decimal}
 use Rattle.std.specs.Option.{option_map_or}
@@ -25,7 +26,8 @@ pub record SurveyOf : Type 0 where
 
 -- ---- a plan that is shown
 
--- which limit it is: the axis or the height of a point, a row of a candidate, counted from 1, or one that was added
+-- which limit it is: the axis or the height of a point, a row of a candidate, counted from 1,
+-- or one that was added
 unfoldable pub limit_text : SurveyOf → LimitKind → List ℕ
 limit_text survey (limit.Axis place) = codes "axis," ++ get_or survey.points place []
 limit_text survey (limit.Height place) = codes "height," ++ get_or survey.points place []
@@ -51,7 +53,7 @@ unfoldable pub limit_line : SurveyOf → List Bool → LimitOf → List ℕ
 limit_line survey plan limit =
     if is_in_force plan limit then limit_text survey limit.kind ++ verdict_text (verdict_of survey.network plan limit) else []
 
--- the price of a plan, and the lines of the limits
+-- the price of a plan, and the lines of the limits in force, in their order
 abbrev pub plan_text : SurveyOf → List Bool → List ℕ
 plan_text survey plan =
     codes "cost " ++ (decimal (price_of survey.network plan) ++ (codes "\n" ++ flat_map (limit_line survey plan) survey.network.limits))

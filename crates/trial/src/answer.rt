@@ -1,5 +1,5 @@
 /// The answer to a command.
-#[derive(Clone, Copy, Debug, PartialEq, Eq)]
+#[derive(Clone, Copy, Debug)]
 pub enum Answer {
     /// The plan is changed, or changed back.
     Done,

@@ -8,7 +8,7 @@ use candidate_tables::Candidates;
 use lent_parts::Line;
 
 /// What a line of a script asks for.
-#[derive(Clone, Copy, Debug, PartialEq, Eq)]
+#[derive(Clone, Copy, Debug)]
 pub enum Command {
     /// A candidate is to be chosen or left out. None where no candidate has the name.
     Change {

@@ -1,11 +1,10 @@
 //! A script, line by line.
 ghost use Rattle.std.specs.Prelude.{◌≡◌, ◌++◌, length, IfOk, OnOk};
-ghost use Rattle.point_tables.specs.PointTable as point;
 ghost use Rattle.candidate_tables.specs.CandidateTable as candidate;
 ghost use Rattle.trial.specs.Script.{command_of};
 ghost use Rattle.trial.specs.Session.{after};
 ghost use Rattle.trial.specs.Stacks.{session_of, IsSessionOf};
-ghost use Rattle.trial.specs.Surveyed.{survey_of};
+ghost use Rattle.trial.specs.Surveyed.{survey_from, survey_of};
 ghost use Rattle.trial.specs.TrialText.{answer_text, line_text, trial_text};
 
 use crate::answer::Answer;
@@ -64,11 +63,13 @@ fn put_line(
     put_answer(text, survey, session, answer)
 }
 
-/// The answers to a script, of the network of these tables: a line each, and for `show` the price of
-/// the plan and a line for each limit in force. A script is cut into lines at LF, or CR and LF; the
-/// last line needs no end, and an empty one has no answer. The plan is empty at first, and at most 32
-/// changes are kept; it is shown 256 times at most. Refused for want of memory alone. The form of a
-/// script and of the text is this project's own.
+/// The answers to a script, each a line that ends with LF. It is cut into lines at LF, or CR and LF;
+/// the last one needs no end, and an empty one has no answer. `take NAME` and `drop NAME` choose a
+/// candidate or leave it out, `undo` takes the latest change back that isn't yet, and `show` answers
+/// with the price of the plan and a line for each limit in force, in their order. At first no
+/// candidate is chosen. There are at most 32 changes that aren't taken back, and 256 plans are shown.
+/// The network is that of these tables. Refused for want of memory alone. The form of a script and of
+/// the answers is this project's own.
 pub fn run(
     alloc: Global,
     points: &Points,
@@ -77,7 +78,7 @@ pub fn run(
     script: &[u8],
 ) -> Result<Vec<u8>, NoMemory>
     requires { length candidates.now ≡ length network.now.candidates }
-    ensures { IfOk result (λ text. text.items ≡ trial_text (record { points = point.names_of points.now; candidates = candidate.names_of candidates.now; network = network.now }) script.now) }
+    ensures { IfOk result (λ text. text.items ≡ trial_text (survey_from points.now candidates.now network.now) script.now) }
 {
     let survey = Survey {
         points,

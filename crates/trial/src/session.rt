@@ -20,8 +20,8 @@ const MOST_CHANGES: usize = 32;
 /// How often a plan is shown.
 const MOST_SHOWS: u32 = 256;
 
-/// A plan, the plans before its changes, the oldest first, and a stack of factors for each limit, which
-/// has the same plans.
+/// A plan, the plans before its changes, the oldest first, and for each limit a stack of factors with
+/// the same plans.
 #[derive(Drop)]
 pub struct Session {
     pub plan: Plan,

@@ -1,5 +1,8 @@
 use Rattle.geoplan.specs.CommandView.{sources_view, command_view}
-use Rattle.geoplan.proofs.StandLemmas.{IsOutcomeOf-refused, IsOutcomeOf-plan, IsOutcomeOf-rows, IsOutcomeOf-check}
+use Rattle.geoplan.proofs.StandLemmas.{IsOutcomeOf-refused}
+use Rattle.geoplan.proofs.PlanOutcome.{IsOutcomeOf-plan}
+use Rattle.geoplan.proofs.RowsOutcome.{IsOutcomeOf-rows}
+use Rattle.geoplan.proofs.CheckOutcome.{IsOutcomeOf-check}
 use Rattle.geoplan.proofs.answer.answer.Goals as goal
 
 pub returns-in-Err : goal.returns-in-Err
@@ -9,19 +12,18 @@ returns-in-Err g c =
 
 pub returns-in-Plan : goal.returns-in-Plan
 returns-in-Plan g c =
-    IsOutcomeOf-plan c.args.command.now.verb (sources_view c.args.command.now.sources) c.in-Ok.loaded.tables c.in-Ok.loaded.log.items
+    IsOutcomeOf-plan c.args.command.now.verb (sources_view c.args.command.now.sources) c.in-Ok.tables
     (g.H.Shelf.state c.args.shelf.now) (g.H.Shelf.state c.load.new.shelf) (g.H.Shelf.state c.answer_plan.new.shelf)
     c.answer_plan.result.status c.answer_plan.result.text.items c.in-Plan.is c.in-Ok.ensures.loaded c.answer_plan.ensures
 
 pub returns-in-Rows : goal.returns-in-Rows
 returns-in-Rows g c =
-    IsOutcomeOf-rows c.args.command.now.verb (sources_view c.args.command.now.sources) c.in-Ok.loaded.tables c.in-Ok.loaded.log.items
+    IsOutcomeOf-rows c.args.command.now.verb (sources_view c.args.command.now.sources) c.in-Ok.tables
     (g.H.Shelf.state c.args.shelf.now) (g.H.Shelf.state c.load.new.shelf)
     c.answer_rows.result.status c.answer_rows.result.text.items c.in-Rows.is c.in-Ok.ensures.loaded c.answer_rows.ensures
 
 pub returns : goal.returns
 returns g c =
-    IsOutcomeOf-check c.args.command.now.verb (sources_view c.args.command.now.sources) c.in-Ok.loaded.tables c.in-Ok.loaded.log.items
-    (g.H.Shelf.state c.args.shelf.now) (g.H.Shelf.state c.load.new.shelf)
-    c.answer_check.result.status c.answer_check.result.text.items c.in-Check.is c.in-Ok.ensures.loaded
-    (rw c.as_slice.ensures.value at c.answer_check.ensures)
+    IsOutcomeOf-check c.args.command.now.verb (sources_view c.args.command.now.sources) c.in-Ok.tables
+    (g.H.Shelf.state c.args.shelf.now) (g.H.Shelf.state c.load.new.shelf) (g.H.Shelf.state c.answer_check.new.shelf)
+    c.answer_check.result.status c.answer_check.result.text.items c.in-Check.is c.in-Ok.ensures.loaded c.answer_check.ensures

@@ -1,4 +1,4 @@
-use Rattle.geoplan.proofs.StandLemmas.{Plans-reported, Plans-unwritten, Plans-out, CanReport-solved}
+use Rattle.geoplan.proofs.PlanOutcome.{Plans-reported, Plans-unwritten, Plans-out, CanReport-solved}
 use Rattle.geoplan.proofs.plan.answer_plan.Goals as goal
 
 pub returns-in-Ok : goal.returns-in-Ok

@@ -1,7 +1,7 @@
 use Rattle.std.proofs.Common.{sym, subst}
 use Rattle.geo_model.specs.Network.{NetworkOf}
 use Rattle.plan_report.specs.Reported.{IsAnswerFor}
-use Rattle.geoplan.proofs.StandLemmas.{reports_made, network_along, report_along}
+use Rattle.geoplan.proofs.PlanOutcome.{reports_made, network_along, report_along}
 use Rattle.geoplan.proofs.plan.reported.Goals as goal
 
 pub report-text-requires-clause-network : goal.report-text-requires-clause-network

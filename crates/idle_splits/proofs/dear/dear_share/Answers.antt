@@ -7,7 +7,7 @@ use Rattle.idle_splits.proofs.dear.dear_share.Goals as goal
 pub loop-k-preserved : goal.loop-k-preserved
 loop-k-preserved c =
     let P = λ (i : ℕ). (candidate : ℕ) → IsDearByKept c.args.network.now c.args.node.now (AtLeast c.args.earlier) c.args.cuts.now i candidate → ⊥ in
-    below_more P c.loop-k.k c.loop-k.invariant (found_none c.dear_share_of-found.result c.is_some.result (P c.loop-k.k) c.is_some.ensures c.if-is_some.false c.dear_share_of-found.ensures.none)
+    below_more P c.loop-k.k c.loop-k.invariant (found_none c.first_dear_share-found.result c.is_some.result (P c.loop-k.k) c.is_some.ensures c.if-is_some.false c.first_dear_share-found.ensures.none)
 
 pub returns-clause-none : goal.returns-clause-none
 returns-clause-none c =

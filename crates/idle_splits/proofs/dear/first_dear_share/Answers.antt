@@ -2,7 +2,7 @@ use Rattle.std.proofs.Common.{◌≡◌, ◌≤◌, ℕ, length, ap, arith, belo
 use Rattle.bound_log.specs.declared.bound.Bound.TheVariants.{AtLeast}
 use Rattle.idle_splits.specs.UnitShares.{IsDearByKept}
 use Rattle.idle_splits.proofs.ShareLemmas.{shows_dear, no_further_candidate, not_told}
-use Rattle.idle_splits.proofs.dear.dear_share_of.Goals as goal
+use Rattle.idle_splits.proofs.dear.first_dear_share.Goals as goal
 
 pub returns-then-is_dear-clause-found : goal.returns-then-is_dear-clause-found
 returns-then-is_dear-clause-found c =

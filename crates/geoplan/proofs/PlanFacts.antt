@@ -1,0 +1,58 @@
+-- The facts of `plan`.
+use Rattle.std.proofs.Common.{◌≡◌, inl, inr, ℕ, List, [], ◌∷◌, refl, sym, ◌∙◌, arith}
+use Rattle.std.specs.Prelude.{Contains}
+use Rattle.std.proofs.lemmas.List.{append-nil}
+use Rattle.shelf_io.specs.States.{ShelfState}
+use Rattle.bound_log.proofs.SpellLemmas.{spelled_text}
+use Rattle.log_check.specs.declared.replaying.Replayed.{Replayed}
+use Rattle.geoplan.specs.declared.file_kind.FileKind.{FileKind}
+use Rattle.geoplan.specs.declared.file_kind.FileKind.TheVariants as kind
+use Rattle.geoplan.specs.declared.verb.Verb.TheVariants as verb
+use Rattle.geoplan.specs.CommandOf.{SourcesOf, reads, names_written}
+use Rattle.geoplan.specs.Ends.{ends_of}
+use Rattle.geoplan.specs.Input.{judged_input}
+use Rattle.geoplan.specs.Loading.{tables_input}
+use Rattle.geoplan.specs.Outcomes.{LeavesLog, BeganLog}
+use Rattle.geoplan.specs.Tables.{TablesOf}
+use Rattle.geoplan.proofs.OwedFacts.{EndsKeep, EndsAnswer, OwedFacts}
+
+-- a whole log is a beginning of a log
+pub whole_began : (tables : TablesOf) (name : List ℕ) (done : Replayed) (before now : ShelfState) → LeavesLog tables name done before now → BeganLog tables name before.held now.held
+whole_began tables name done before now leaves = record {
+  tree = leaves.replayed.tree;
+  piece = leaves.log;
+  rest = [];
+  allowed = leaves.replayed.log.allowed;
+  begins = sym (spelled_text leaves.log leaves.replayed.tree leaves.replayed.log.spells) ∙ sym (append-nil leaves.log);
+  written = leaves.written;
+}
+
+only_one : (name : List ℕ) → Contains (name ∷ []) name
+only_one name = (0, omega arith, refl)
+
+keeps : (sources : SourcesOf) (tables : TablesOf) → EndsKeep (ends_of verb.Plan sources tables) (names_written (record { verb = verb.Plan; sources = sources }))
+keeps sources tables = record {
+  completed = λ before now text found. inr (whole_began tables sources.log _ before now found.leaves);
+  none = λ before now text found. inr (whole_began tables sources.log _ before now found.leaves);
+  undecided = λ before now text left. inr (whole_began tables sources.log _ before now left.leaves);
+  log_refused = λ before now text never. absurd never;
+  unwritten = λ before now failed. failed.held;
+  piece = λ before now began. inr (sources.log, began.piece, only_one sources.log, began.written);
+}
+
+answers : (sources : SourcesOf) (tables : TablesOf) → EndsAnswer (ends_of verb.Plan sources tables)
+answers sources tables = record {
+  memory = λ files. inr (inr (inr refl));
+  completed = λ files before now text told found. inl refl;
+  none = λ files before now text told found. inr (inl refl);
+  undecided = λ files before now text told left. inr (inr (inl refl));
+  log_refused = λ files before now text told never. absurd never;
+  unwritten = λ before now failed. failed.rose;
+}
+
+judged : (redundancy : ℕ) (bytes : FileKind → List ℕ) → judged_input redundancy bytes (reads verb.Plan) ≡ tables_input redundancy (bytes kind.Points) (bytes kind.Candidates)
+unfolding judged_input tables_input
+judged redundancy bytes = refl
+
+pub facts : OwedFacts verb.Plan
+facts = record { reads_tables = record { first = refl; judged = judged }; keeps = keeps; answers = answers }

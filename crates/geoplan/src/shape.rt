@@ -1,0 +1,8 @@
+/// What the further words of a command stand for.
+#[derive(Clone, Copy, Debug, PartialEq, Eq)]
+pub enum Shape {
+    /// Two tables.
+    Tables,
+    /// Two tables, a redundancy and a log.
+    Job,
+}

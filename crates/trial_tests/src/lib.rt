@@ -1,0 +1,6 @@
+//! Tests of trial sessions. They stand in a crate of their own, since a crate with tests is proved
+//! twice.
+#![tactic(auto)]
+
+#[cfg(test)]
+mod sessions;
