@@ -16,7 +16,7 @@ use Rattle.bound_log.proofs.MoveLemmas.{cut_line_allowed}
 use Rattle.bound_log.specs.DualText.{text_or_none}
 use Rattle.branch_bound.specs.Cuts.{SearchCuts, IsCutFor, AreCutsFor, IsBrokenCut, line_of}
 use Rattle.branch_bound.specs.declared.node_line.NodeLine.{NodeLine}
-use Rattle.branch_bound.specs.declared.node_line.NodeLine.TheVariants.{Split, Cost, Pivot, Cut, UnitDual}
+use Rattle.branch_bound.specs.declared.node_line.NodeLine.TheVariants.{Split, Cost, Pivot, Cut, UnitDual, Dual}
 
 -- Laws of the cuts of a search and of the lines that it writes.
 
@@ -31,6 +31,7 @@ unsplit_line cuts Cost none candidate is = absurd (cc)
 unsplit_line cuts (Pivot k) none candidate is = absurd (cc)
 unsplit_line cuts (Cut k) none candidate is = absurd (cc)
 unsplit_line cuts (UnitDual share) none candidate is = absurd (cc)
+unsplit_line cuts (Dual dual) none candidate is = absurd (cc)
 
 -- a cut is broken where its limit is in force for the inner plan and its displacement breaks it under the upper plan
 pub cut_breaks : (network : NetworkOf) (node : Node) (cut : CutOf) (in_force broken : Bool) → IsCutFor network cut → IsNarrow (at cut.x) →
@@ -51,11 +52,12 @@ broken_number network node cuts number cut inside named broken = record {
 }
 
 -- the cut of a limit and a displacement is one of the network's
-pub is_cut_for : (network : NetworkOf) (limit : ℕ) (x : List ℤ) (cut : CutOf) → limit < length network.limits → length x ≡ length network.unknowns →
+pub is_cut_for : (network : NetworkOf) (limit : ℕ) (x : List ℤ) (cut : CutOf) → limit < length network.limits → length x ≡ length network.unknowns → IsNarrow (at x) →
     IsCutOf network limit x cut → IsCutFor network cut
-is_cut_for network limit x cut inside places is = record {
+is_cut_for network limit x cut inside places narrow is = record {
   in_range = subst (λ (n : ℕ). n < length network.limits) (sym is.named) inside;
   places = ap length is.moved ∙ places;
+  narrow = subst (λ (y : List ℤ). IsNarrow (at y)) (sym is.moved) narrow;
   exact = subst (λ (n : ℕ). IsCutOf network n cut.x cut) (sym is.named) (subst (λ (y : List ℤ). IsCutOf network limit y cut) (sym is.moved) is);
 }
 

@@ -5,6 +5,7 @@ pub mod BoundOrder
 pub mod DoneLemmas
 pub mod CutLemmas
 pub mod DearLemmas
+pub mod DualLemmas
 pub mod InheritedLemmas
 pub mod ExploreLemmas
 pub mod SearchLemmas

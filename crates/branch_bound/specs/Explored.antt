@@ -1,4 +1,4 @@
-use Rattle.std.specs.Prelude.{◌≡◌, ℕ, ◌≤◌, List, ◌++◌, map, length, Some}
+use Rattle.std.specs.Prelude.{◌≡◌, ℕ, ◌≤◌, List, ◌++◌, map, length, Some, ◌<◌, All}
 use Rattle.shelf_io.specs.Files.{with_piece}
 use Rattle.shelf_io.specs.States.{ShelfState}
 use Rattle.shelf_io.specs.Faults.{Rose, KeepsFaults, write_of}
@@ -8,7 +8,12 @@ use Rattle.geo_model.specs.declared.answer.Counts.{Counts}
 use Rattle.geo_model.specs.declared.plan.Node.{Node}
 use Rattle.bound_log.specs.Counted.{counts_with}
 use Rattle.bound_log.specs.LogText.{lines_text}
+use Rattle.cut_pool.specs.Cut.{CutOf}
+use Rattle.cut_pool.specs.declared.share.Share.{Share}
+use Rattle.bound_log.specs.DualText.{texts_of_shares}
+use Rattle.bound_log.specs.declared.bound.Bound.TheVariants.{AtLeast}
 use Rattle.bound_log.specs.declared.log_leaf.LogLeaf.{LogLeaf}
+use Rattle.bound_log.specs.declared.log_leaf.LogLeaf.TheVariants.{Dual}
 use Rattle.bound_log.specs.declared.log_line.LogLine.{LogLine}
 use Rattle.bound_log.specs.declared.log_line.LogLine.TheVariants.{Split, Leaf}
 use Rattle.bound_log.specs.Lines.{kind_of}
@@ -21,7 +26,7 @@ use Rattle.idle_splits.specs.NoIdle.{HasNoIdle}
 use Rattle.branch_bound.specs.declared.best.Best.{Best}
 use Rattle.branch_bound.specs.declared.search_fault.SearchFault.{SearchFault}
 use Rattle.branch_bound.specs.declared.search_fault.SearchFault.TheVariants as fault
-use Rattle.branch_bound.specs.Found.{best_bound, IsDone}
+use Rattle.branch_bound.specs.Found.{best_bound, IsPast, IsDone}
 
 -- What the parts of a search do. This project's own.
 
@@ -51,6 +56,14 @@ pub record IsNode (network : NetworkOf) (node : Node) : Type 0 where
 pub record IsLeafAt (network : NetworkOf) (node : Node) (end : LogLeaf) (before now : Best) : Type 0 where
   pub allowed : IsAllowedLine network node (Leaf end)
   pub done : IsDone network node (leaf_bound network node end) before now
+
+-- shares of a pool's cuts cut a node off: their line is allowed there, and its bound is past the best plan
+pub record CutsOff (network : NetworkOf) (node : Node) (found : Best) (pool : List CutOf) (d : ℕ) (shares : List Share) : Type 0 where
+  pub price : ℕ
+  pub named : All (λ share. share.cut < length pool) shares
+  pub allowed : IsAllowedLine network node (Leaf (Dual d (texts_of_shares pool shares)))
+  pub bound : leaf_bound network node (Dual d (texts_of_shares pool shares)) ≡ AtLeast price
+  pub past : IsPast network found price
 
 -- a line fits a node: a split on an open candidate where no limit refutes the node, which isn't idle beside the price of
 -- the best plan and leaves that plan as it was, or a leaf

@@ -1,20 +1,27 @@
 //! The cuts that a search tries at its nodes.
-ghost use Rattle.std.specs.Prelude.{◌≡◌, ◌<◌, ℕ, true, length, slice_get, Some, IfOk, IfSome, IfNone, OnOk};
+ghost use Rattle.std.specs.Prelude.{◌≡◌, ◌↔◌, ◌<◌, ◌++◌, ℕ, true, All, length, IsTrue, slice_get, Some, IfOk, IfSome, IfNone, OnOk};
 ghost use Rattle.geo_model.specs.Network.{IsNetwork};
 ghost use Rattle.bound_log.specs.CutText.{text_of_cut};
+ghost use Rattle.bound_log.specs.DualText.{texts_of_shares};
+ghost use Rattle.bound_log.specs.LogText.{line_text};
+ghost use Rattle.bound_log.specs.declared.log_leaf.LogLeaf.TheVariants as log_leaf;
+ghost use Rattle.bound_log.specs.declared.log_line.LogLine.TheVariants as log_line;
 ghost use Rattle.bound_log.specs.LogTree.{IsBrokenBy};
 ghost use Rattle.idle_splits.specs.Idle.{IsDearByUnit};
 ghost use Rattle.idle_splits.specs.UnitShares.{ShowsDear};
 ghost use Rattle.branch_bound.specs.Cuts.{IsCutFor, ArePoolFor, AreCutsFor, IsBrokenCut};
-ghost use Rattle.branch_bound.specs.Explored.{IsNode};
-ghost use Rattle.branch_bound.specs.Found.{IsKept, best_bound};
+ghost use Rattle.branch_bound.specs.Explored.{IsNode, CutsOff};
+ghost use Rattle.branch_bound.specs.Found.{IsKept, IsPast, best_bound};
 
 use crate::best::Best;
 use crate::cut_sums::CutSums;
 use crate::inherited::Inherited;
 use crate::limit_verdicts::is_owned_by;
 use crate::missing::unit_load;
+use bound_log::put_dual;
 use cut_pool::{Cut, CutPool, cut_of};
+use dual_ascent::{Dual, ascend};
+use dual_bound::leaf_bound;
 use geo_base::NoMemory;
 use geo_model::{Displacement, Network, Node, breaks, cost};
 use idle_splits::{UnitCuts, UnitShare, dear_share};
@@ -60,6 +67,14 @@ impl Cuts {
         ensures { slice_get self.now.pool number ≡ Some result.now }
     {
         self.pool.get(number)
+    }
+
+    /// Appends the line of a dual bound of shares of the cuts.
+    pub fn put_dual(&self, out: &mut Vec<u8>, dual: &Dual) -> Result<(), NoMemory>
+        requires { All (λ share. share.cut < length self.now.pool) dual.now.shares.items }
+        ensures put { OnOk result (out.new.items ≡ out.old.items ++ line_text (log_line.Leaf (log_leaf.Dual dual.now.d (texts_of_shares self.now.pool dual.now.shares.items)))) }
+    {
+        put_dual(out, dual.d, dual.shares.as_slice(), &self.pool)
     }
 
     /// The number of the first cut that the plans of a node break, of those that the node may inherit.
@@ -119,6 +134,37 @@ impl Cuts {
         }
     }
 
+    /// A dual bound of shares of the cuts that is past the best plan at a node, where one is found.
+    /// Refused for want of memory alone.
+    pub fn dual_past(
+        &self,
+        alloc: Global,
+        network: &Network,
+        node: &Node,
+        best: &Best,
+    ) -> Result<Option<Dual>, NoMemory>
+        requires cuts { AreCutsFor network.now self.now }
+        requires node { IsNode network.now node.now }
+        requires kept { IsKept network.now best.now }
+        ensures found { IfOk result (λ found. IfSome found (λ dual. CutsOff network.now node.now best.now self.now.pool dual.d dual.shares.items)) }
+        ensures bounds { IfOk result (λ found. IsNetwork network.now) }
+    {
+        // The network's bounds, for the proof.
+        let _bounds = network.candidates();
+        if let Best::NoPlan = best {
+            return Ok(None);
+        }
+        let Some(dual) = ascend(alloc, network, node, &self.pool)? else {
+            return Ok(None);
+        };
+        let shares = dual.shares.as_slice();
+        let price = leaf_bound(network, node, dual.d, shares, &self.pool);
+        if !is_past(network, best, price) {
+            return Ok(None);
+        }
+        Ok(Some(dual))
+    }
+
     // Whether all plans of a node break the cut of a number.
     fn breaks(&self, network: &Network, node: &Node, inherited: &Inherited, number: u32) -> bool
         requires cuts { AreCutsFor network.now self.now }
@@ -130,6 +176,18 @@ impl Cuts {
             return false;
         }
         breaks_node(network, node, inherited, self.pool.get(number))
+    }
+}
+
+// Whether a price is past the best plan.
+fn is_past(network: &Network, best: &Best, price: u128) -> bool
+    requires kept { IsKept network.now best.now }
+    ensures { IsTrue result ↔ IsPast network.now best.now price }
+{
+    match best {
+        Best::NoPlan => false,
+        Best::Certified(plan) => u128::from(cost(network, plan)) <= price,
+        Best::Unsettled(plan) => u128::from(cost(network, plan)) < price,
     }
 }
 
@@ -212,6 +270,8 @@ fn unit_cut(alloc: Global, network: &Network, limit: u32, unknown: u32) -> Resul
 {
     let mut x = Displacement::new(alloc, network.unknowns().len() as u32)?;
     x.set(unknown, 1);
+    // The displacement's bounds, for the proof.
+    let _bounds = x.entries();
     let cut = cut_of(alloc, network, limit, x)?;
     Ok(cut)
 }

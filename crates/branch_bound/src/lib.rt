@@ -3,8 +3,8 @@
 //!
 //! Proved: in any network, the answer of a search is what its log says: a certified plan whose
 //! price is the log's bound; or that no plan is left; or an unsettled plan whose price is the
-//! bound, where every certified plan costs more, with its first open limit. After a fault the
-//! beginning of a log stands under its name.
+//! bound, where every certified plan costs more, with its first open limit. No split of the log is
+//! idle. After a fault the beginning of a log stands under its name.
 //!
 //! Said by: `search`, clauses `searched`, `refused`.
 //!

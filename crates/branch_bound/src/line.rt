@@ -44,17 +44,18 @@ fn put_node_line(
     alloc: Global,
     out: &mut Vec<u8>,
     cuts: &Cuts,
-    line: NodeLine,
+    line: &NodeLine,
 ) -> Result<(), NoMemory>
-    requires { IsWritable cuts.now line }
-    ensures put { OnOk result (out.new.items ≡ out.old.items ++ line_text (line_of cuts.now line)) }
+    requires { IsWritable cuts.now line.now }
+    ensures put { OnOk result (out.new.items ≡ out.old.items ++ line_text (line_of cuts.now line.now)) }
 {
     match line {
-        NodeLine::Split(candidate) => put_split(out, candidate),
+        NodeLine::Split(candidate) => put_split(out, *candidate),
         NodeLine::Cost => put_cost(out),
-        NodeLine::Pivot(limit) => put_pivot(out, limit),
-        NodeLine::Cut(number) => put_cut(out, cuts.get(number)),
-        NodeLine::UnitDual(share) => put_unit_dual(alloc, out, share),
+        NodeLine::Pivot(limit) => put_pivot(out, *limit),
+        NodeLine::Cut(number) => put_cut(out, cuts.get(*number)),
+        NodeLine::UnitDual(share) => put_unit_dual(alloc, out, *share),
+        NodeLine::Dual(dual) => cuts.put_dual(out, dual),
     }
 }
 
@@ -80,13 +81,13 @@ pub fn write_line<H: Shelf>(
     buffer: &mut Vec<u8>,
     counts: &mut Counts,
     cuts: &Cuts,
-    line: NodeLine,
+    line: &NodeLine,
 ) -> Result<(), SearchFault>
     requires started { (H.state shelf.old).started ≡ Some name.now }
-    requires line { IsWritable cuts.now line }
-    ensures added { OnOk result (Adds name.now (line_text (line_of cuts.now line)) (H.state shelf.old) (H.state shelf.new)) }
-    ensures counted { OnOk result (counts.new ≡ counts_with counts.old (kind_of (line_of cuts.now line) ∷ [])) }
-    ensures refused { IfErr result (λ why. Breaks name.now (line_text (line_of cuts.now line)) why (H.state shelf.old) (H.state shelf.new)) }
+    requires line { IsWritable cuts.now line.now }
+    ensures added { OnOk result (Adds name.now (line_text (line_of cuts.now line.now)) (H.state shelf.old) (H.state shelf.new)) }
+    ensures counted { OnOk result (counts.new ≡ counts_with counts.old (kind_of (line_of cuts.now line.now) ∷ [])) }
+    ensures refused { IfErr result (λ why. Breaks name.now (line_text (line_of cuts.now line.now)) why (H.state shelf.old) (H.state shelf.new)) }
 {
     buffer.clear();
     if put_node_line(alloc, buffer, cuts, line).is_err() {

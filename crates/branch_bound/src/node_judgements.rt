@@ -168,6 +168,9 @@ pub fn line_at(
         return Ok(NodeLine::Cost);
     };
     inherited.unmet = Some(limit);
+    if let Some(dual) = cuts.dual_past(alloc, network, node, best)? {
+        return Ok(NodeLine::Dual(dual));
+    }
     if let Some(candidate) = branch_candidate(
         room,
         network,

@@ -4,10 +4,11 @@ ghost use Rattle.branch_bound.specs.Cuts.{SearchCuts, line_of};
 ghost use Rattle.branch_bound.specs.declared.node_line.NodeLine.TheVariants as node_line;
 
 use bound_log::LineKind;
+use dual_ascent::Dual;
 use idle_splits::UnitShare;
 
 /// The line that the search writes at a node. A cut is told by its number in the search's pool.
-#[derive(Clone, Copy, Debug, PartialEq, Eq)]
+#[derive(Debug, Drop)]
 pub enum NodeLine {
     Split(u32),
     Cost,
@@ -15,12 +16,14 @@ pub enum NodeLine {
     Cut(u32),
     /// The dual bound of one share of a unit cut.
     UnitDual(UnitShare),
+    /// The dual bound of shares of cuts of the pool.
+    Dual(Dual),
 }
 
 impl NodeLine {
     /// The kind of the line.
-    pub fn kind(self) -> LineKind
-        ensures { (cuts : SearchCuts) → result ≡ kind_of (line_of cuts self) }
+    pub fn kind(&self) -> LineKind
+        ensures { (cuts : SearchCuts) → result ≡ kind_of (line_of cuts self.now) }
     {
         match self {
             NodeLine::Split(_) => LineKind::Split,
@@ -28,20 +31,22 @@ impl NodeLine {
             NodeLine::Pivot(_) => LineKind::Pivot,
             NodeLine::Cut(_) => LineKind::Cut,
             NodeLine::UnitDual(_) => LineKind::Dual,
+            NodeLine::Dual(_) => LineKind::Dual,
         }
     }
 
     /// The candidate on which the line splits its node; a leaf splits none.
-    pub fn split_candidate(self) -> Option<u32>
-        ensures some { IfSome result (λ candidate. self ≡ node_line.Split candidate) }
-        ensures none { IfNone result ((candidate : ℕ) → self ≡ node_line.Split candidate → ⊥) }
+    pub fn split_candidate(&self) -> Option<u32>
+        ensures some { IfSome result (λ candidate. self.now ≡ node_line.Split candidate) }
+        ensures none { IfNone result ((candidate : ℕ) → self.now ≡ node_line.Split candidate → ⊥) }
     {
         match self {
-            NodeLine::Split(candidate) => Some(candidate),
+            NodeLine::Split(candidate) => Some(*candidate),
             NodeLine::Cost => None,
             NodeLine::Pivot(_) => None,
             NodeLine::Cut(_) => None,
             NodeLine::UnitDual(_) => None,
+            NodeLine::Dual(_) => None,
         }
     }
 }

@@ -113,7 +113,7 @@ fn explore<H: Shelf>(
         &mut findings.buffer,
         &mut findings.counts,
         &findings.cuts,
-        line,
+        &line,
     )?;
     let Some(candidate) = line.split_candidate() else {
         return Ok(());

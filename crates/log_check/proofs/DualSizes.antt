@@ -1,7 +1,7 @@
-use Rattle.std.proofs.Common.{◌≡◌, ◌<◌, ◌≤◌, ◌^◌, ℕ, ◌+◌, ◌*◌, ℤ, pos, ◌+ℤ◌, ◌-ℤ◌, FitsSigned, to_z, of_z, arith, ap, ap₂, sym, ◌∙◌}
+use Rattle.std.proofs.Common.{◌≡◌, ◌<◌, ◌≤◌, ◌^◌, ℕ, ◌+◌, ◌*◌, ℤ, pos, ◌+ℤ◌, FitsSigned, to_z, of_z, arith, ap, ap₂, sym, ◌∙◌}
 use mir.Syntax.{w128}
 use Rattle.std.specs.Prelude.{unsigned_abs}
-use Rattle.std.specs.Int.{int_min, int_max}
+use Rattle.std.specs.Int.{int_min}
 use Rattle.std.proofs.Math.Nat.{mul-le-mul}
 use Rattle.whole_algebra.proofs.Order.{size-add}
 use Rattle.geo_model.specs.Below.{int_sum_below}
@@ -14,28 +14,9 @@ use Rattle.std.proofs.lemmas.Int.{ints, to_z_pos, to_z-of_z, fits_signed_from_ab
 pub read_back : (z : ℤ) (n : ℕ) → unsigned_abs z ≤ n → n < 2 ^ 127 → to_z w128 (of_z w128 z) ≡ z
 read_back z n size few = let fits : FitsSigned w128 z = fits_signed_from_abs w128 z (omega arith) in to_z-of_z w128 z fits
 
-pub record IsReduced (whole taken : ℕ) : Type 0 where
-  pub is : to_z w128 (of_z w128 (to_z w128 whole -ℤ to_z w128 taken)) ≡ pos whole -ℤ pos taken
-  pub size : unsigned_abs (pos whole -ℤ pos taken) ≤ 2 ^ 75
-
-difference_size : (a b : ℕ) → a ≤ 2 ^ 74 → b ≤ 2 ^ 74 → unsigned_abs (pos a -ℤ pos b) ≤ 2 ^ 75
-difference_size a b first second = omega (arith, ints)
-
 -- a product of the divisor and a price
 pub product_price : (d price : ℕ) → d ≤ 2 ^ 44 → price ≤ 1000000000 → d * price ≤ 2 ^ 74
 product_price d price few low = omega (arith, mul-le-mul few low)
-
--- the reduced price as it is computed
-pub reduced : (whole taken : ℕ) → whole ≤ 2 ^ 74 → taken ≤ 2 ^ 74 → IsReduced whole taken
-reduced whole taken first second =
-    let a : to_z w128 whole ≡ pos whole = to_z_pos w128 whole (omega arith) in
-    let b : to_z w128 taken ≡ pos taken = to_z_pos w128 taken (omega arith) in
-    let size = difference_size whole taken first second in
-    let e : to_z w128 whole -ℤ to_z w128 taken ≡ pos whole -ℤ pos taken = ap₂ (λ s t. s -ℤ t) a b in
-    record {
-      is = ap (λ z. to_z w128 (of_z w128 z)) e ∙ read_back (pos whole -ℤ pos taken) (2 ^ 75) size (omega arith);
-      size = size;
-    }
 
 -- one number more of a sum
 pub sum_more : (f : ℕ → ℤ) (n : ℕ) (part before : ℤ) → before ≡ int_sum_below f n → part ≡ f n → before +ℤ part ≡ int_sum_below f (n + 1)
@@ -77,9 +58,6 @@ int_min_swap a b = grind (arith, ints)
 
 pub int_min_size : (z : ℤ) (n : ℕ) → unsigned_abs z ≤ n → unsigned_abs (int_min (pos 0) z) ≤ n
 int_min_size z n size = grind (arith, ints)
-
-pub int_max_size : (z : ℤ) (n : ℕ) → unsigned_abs z ≤ n → unsigned_abs (int_max z (pos 0)) ≤ n
-int_max_size z n size = grind (arith, ints)
 
 -- a price and a sum of reduced prices
 pub record IsWhole (price : ℕ) (sum : ℤ) : Type 0 where

@@ -1,25 +1,14 @@
 -- The displacement of a line, written pair by pair.
-use Rattle.std.proofs.Common.{◌≡◌, ◌⊎◌, ◌==◌, if◌then◌else◌, ℕ, zero, suc, ◌+◌, ◌<◌, ◌≤◌, ◌&&◌, ltb, Bool, true, false, List, [], ◌∷◌, length, replicate, arith, refl, ap, sym, ◌∙◌, inl, inr, eq-eqb}
+use Rattle.std.proofs.Common.{◌≡◌, ◌⊎◌, ◌==◌, if◌then◌else◌, ℕ, suc, ◌+◌, ◌<◌, ◌≤◌, ◌&&◌, ltb, Bool, true, false, List, [], ◌∷◌, arith, refl, ap, sym, ◌∙◌, inl, inr, eq-eqb}
 use Rattle.std.specs.Prelude.{ℤ, pos, nat_le, slice_set, unsigned_abs}
 use Rattle.std.proofs.lemmas.Bool.{cases_Bool, false≢true, le-leb, leb-true, lt-ltb, ltb-true, ltb-false, ne_eqb, eqb-true}
-use Rattle.std.proofs.lemmas.List.{length-set, get_or-set_same, get_or-set_other, length-replicate}
+use Rattle.std.proofs.lemmas.List.{length-set, get_or-set_same, get_or-set_other}
 use Rattle.whole_algebra.specs.Matrices.{at}
 use Rattle.bound_log.specs.CutText.{displaced_by}
-use Rattle.bound_log.specs.Rules.{is_move, are_moves, is_displacement}
+use Rattle.bound_log.specs.Rules.{is_move, are_moves}
 use Rattle.log_check.specs.Writing.{Writes}
 
 -- ---- tests
-
-not_so : (b : Bool) → (b ≡ true → ⊥) → b ≡ false
-not_so true other = absurd (other refl)
-not_so false other = refl
-
-and_false : (a b : Bool) → b ≡ false → (a && b) ≡ false
-and_false true b is = is
-and_false false b is = refl
-
-false_and : (a b : Bool) → a ≡ false → (a && b) ≡ false
-false_and a b is = ap (λ x. x && b) is
 
 and_left : (a b : Bool) → (a && b) ≡ true → a ≡ true
 and_left true b is = refl
@@ -42,11 +31,6 @@ place_of unknowns least pair is =
     let place = and_left (nat_le least pair.0 && ltb pair.0 unknowns) (ltb 0 (unsigned_abs pair.1) && nat_le (unsigned_abs pair.1) 32768) is in
     (leb-true least pair.0 (and_left (nat_le least pair.0) (ltb pair.0 unknowns) place), ltb-true pair.0 unknowns (and_right (nat_le least pair.0) (ltb pair.0 unknowns) place))
 
-size_of : (unknowns least : ℕ) (pair : ℕ × ℤ) → is_move unknowns least pair ≡ true → (0 < unsigned_abs pair.1) × (unsigned_abs pair.1 ≤ 32768)
-size_of unknowns least pair is =
-    let size = and_right (nat_le least pair.0 && ltb pair.0 unknowns) (ltb 0 (unsigned_abs pair.1) && nat_le (unsigned_abs pair.1) 32768) is in
-    (ltb-true 0 (unsigned_abs pair.1) (and_left (ltb 0 (unsigned_abs pair.1)) (nat_le (unsigned_abs pair.1) 32768) size), leb-true (unsigned_abs pair.1) 32768 (and_right (ltb 0 (unsigned_abs pair.1)) (nat_le (unsigned_abs pair.1) 32768) size))
-
 -- moves from an unknown on move none before it
 before_moves : (unknowns least i : ℕ) (pairs : List (ℕ × ℤ)) → are_moves unknowns least pairs ≡ true → i < least → displaced_by pairs i ≡ pos 0
 before_moves unknowns least i [] are below = refl
@@ -55,23 +39,6 @@ before_moves unknowns least i (pair ∷ pairs) are below =
     let place = place_of unknowns least pair first in
     ap (λ b. if b then pair.1 else displaced_by pairs i) (ne_eqb pair.0 i (λ same. omega (arith, same, place.0, below)))
     ∙ before_moves unknowns (suc pair.0) i pairs (and_right (is_move unknowns least pair) (are_moves unknowns (suc pair.0) pairs) are) (omega (arith, place.0, below))
-
--- ---- at the start
-
-still_at : (n i : ℕ) → at (replicate n (pos 0)) i ≡ pos 0
-still_at zero i = refl
-still_at (suc n) zero = refl
-still_at (suc n) (suc i) = still_at n i
-
-pub writes_start : (unknowns : ℕ) (pairs : List (ℕ × ℤ)) → length pairs ≤ unknowns → Writes unknowns pairs pairs 0 (replicate unknowns (pos 0))
-writes_start unknowns pairs few = record {
-  long = length-replicate unknowns (pos 0);
-  few = few;
-  tested = refl;
-  behind = λ are i below. absurd (omega (arith, below));
-  ahead = λ i from. refl;
-  unmoved = λ i from. still_at unknowns i;
-}
 
 -- ---- one more pair
 
@@ -112,33 +79,3 @@ writes_next unknowns pairs left pair least x low high some small writes =
         ∙ ap (λ b. if b then pair.1 else displaced_by left i) elsewhere
         ∙ before_moves unknowns (pair.0 + 1) i left are below
         ∙ sym (other_entry x pair.0 i pair.1 apart ∙ writes.unmoved i from)
-
--- ---- the answers
-
-pub writes_end : (unknowns : ℕ) (pairs : List (ℕ × ℤ)) (least : ℕ) (x : List ℤ) → Writes unknowns pairs [] least x → is_displacement unknowns pairs ≡ true
-writes_end unknowns pairs least x writes =
-    ap (λ b. b && are_moves unknowns 0 pairs) (le-leb (length pairs) unknowns writes.few) ∙ writes.tested
-
-pub writes_all : (unknowns : ℕ) (pairs : List (ℕ × ℤ)) (least : ℕ) (x : List ℤ) → Writes unknowns pairs [] least x → (i : ℕ) → displaced_by pairs i ≡ at x i
-writes_all unknowns pairs least x writes i = elim (cases_Bool (ltb i least)) [
-  | inl early ↦ writes.behind refl i (ltb-true i least early)
-  | inr later ↦
-      let from : least ≤ i = ltb-false i least later in
-      writes.ahead i from ∙ sym (writes.unmoved i from)
-]
-
--- a pair that is no move
-pub writes_wrong : (unknowns : ℕ) (pairs left : List (ℕ × ℤ)) (pair : ℕ × ℤ) (least : ℕ) (x : List ℤ) → (is_move unknowns least pair ≡ true → ⊥) → Writes unknowns pairs (pair ∷ left) least x → is_displacement unknowns pairs ≡ false
-writes_wrong unknowns pairs left pair least x other writes =
-    and_false (nat_le (length pairs) unknowns) (are_moves unknowns 0 pairs)
-    (writes.tested ∙ false_and (is_move unknowns least pair) (are_moves unknowns (suc pair.0) left) (not_so (is_move unknowns least pair) other))
-
-pub wrong_place : (unknowns least : ℕ) (pair : ℕ × ℤ) → (least ≤ pair.0 → pair.0 < unknowns → ⊥) → is_move unknowns least pair ≡ true → ⊥
-wrong_place unknowns least pair other is = let place = place_of unknowns least pair is in other place.0 place.1
-
-pub wrong_size : (unknowns least : ℕ) (pair : ℕ × ℤ) → (0 < unsigned_abs pair.1 → unsigned_abs pair.1 ≤ 32768 → ⊥) → is_move unknowns least pair ≡ true → ⊥
-wrong_size unknowns least pair other is = let size = size_of unknowns least pair is in other size.0 size.1
-
-pub too_many : (unknowns : ℕ) (pairs : List (ℕ × ℤ)) → unknowns < length pairs → is_displacement unknowns pairs ≡ false
-too_many unknowns pairs more =
-    false_and (nat_le (length pairs) unknowns) (are_moves unknowns 0 pairs) (not_so (nat_le (length pairs) unknowns) (λ is. let few : length pairs ≤ unknowns = leb-true (length pairs) unknowns is in omega (arith, few, more)))

@@ -13,10 +13,6 @@ use Rattle.log_check.specs.Weighing.{is_owned_at, is_share_in_range}
 
 -- ---- a list of tests
 
--- one more element passes
-pub passes_more : {X : Type 0} (test : X → Bool) (all left : List X) (x : X) → list_all test all ≡ list_all test (x ∷ left) → test x ≡ true → list_all test all ≡ list_all test left
-passes_more test all left x so_far passes = so_far ∙ ap (λ b. b && list_all test left) passes
-
 -- an element that fails
 pub fails_at : {X : Type 0} (test : X → Bool) (all left : List X) (x : X) → list_all test all ≡ list_all test (x ∷ left) → test x ≡ false → list_all test all ≡ false
 fails_at test all left x so_far fails = so_far ∙ ap (λ b. b && list_all test left) fails
@@ -65,15 +61,6 @@ pub ranges_are : (network : NetworkOf) (divisor : ℕ) (shares : List (ℕ × Cu
 ranges_are network divisor shares =
     regroup (is_weight divisor) (list_all is_weight (map multiplier_of shares)) (are_few (length shares)) (list_all (below_limits network) (map limit_of shares)) (list_all (is_displacement (length network.unknowns)) (map pairs_of shares))
     ∙ ap (λ b. is_weight divisor && (are_few (length shares) && b)) (sym (shares_tested network shares))
-
-pub no_divisor : (network : NetworkOf) (divisor : ℕ) (shares : List (ℕ × CutTextOf)) → is_weight divisor ≡ false → is_in_range network (Leaf (Dual divisor shares)) ≡ false
-no_divisor network divisor shares other = ranges_are network divisor shares ∙ ap (λ b. b && (are_few (length shares) && list_all (is_share_in_range network) shares)) other
-
-pub many_shares : (network : NetworkOf) (divisor : ℕ) (shares : List (ℕ × CutTextOf)) → is_weight divisor ≡ true → are_few (length shares) ≡ false → is_in_range network (Leaf (Dual divisor shares)) ≡ false
-many_shares network divisor shares weight other =
-    ranges_are network divisor shares
-    ∙ ap (λ b. b && (are_few (length shares) && list_all (is_share_in_range network) shares)) weight
-    ∙ ap (λ b. b && list_all (is_share_in_range network) shares) other
 
 pub shares_decide : (network : NetworkOf) (divisor : ℕ) (shares : List (ℕ × CutTextOf)) → is_weight divisor ≡ true → are_few (length shares) ≡ true → is_in_range network (Leaf (Dual divisor shares)) ≡ list_all (is_share_in_range network) shares
 shares_decide network divisor shares weight few =

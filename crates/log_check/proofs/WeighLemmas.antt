@@ -3,9 +3,8 @@ use Rattle.std.proofs.Common.{◌≡◌, ◌<◌, ◌≤◌, ◌^◌, ℕ, ◌+�
 use Rattle.std.specs.Prelude.{All, Some, slice_get, sum_by, unsigned_abs}
 use Rattle.std.proofs.lemmas.Int.{ints}
 use Rattle.std.proofs.lemmas.List.{append-nil, map-append}
-use Rattle.std.proofs.lemmas.List.Elements.{All-tail, All-weaker}
+use Rattle.std.proofs.lemmas.List.Elements.{All-tail}
 use Rattle.std.proofs.lemmas.List.Sums.{sum_by-append}
-use Rattle.std.proofs.lemmas.Option.{slice_get_within}
 use Rattle.whole_algebra.specs.Matrices.{at}
 use Rattle.cut_pool.specs.Cut.{cover_of}
 use Rattle.geo_model.specs.Cover.{CoverOf}
@@ -13,18 +12,10 @@ use Rattle.geo_model.specs.Limit.{LimitOf}
 use Rattle.geo_model.specs.Dual.{WeighedCover, reduced_price, taken_off}
 use Rattle.geo_model.specs.Network.{NetworkOf}
 use Rattle.geo_model.specs.Prices.{prices_of}
-use Rattle.geo_model.specs.declared.plan.Node.{Node}
 use Rattle.bound_log.specs.CutText.{CutTextOf, displaced_by}
 use Rattle.bound_log.specs.DualText.{cover_at, weighed_text}
-use Rattle.bound_log.specs.LogTree.{IsShareAt}
 use Rattle.bound_log.proofs.AllowedLemmas.{item_at}
 use Rattle.log_check.specs.Weighing.{IsShareOf, Weighs}
-
--- a share that is allowed at a node has its numbers in their ranges
-pub share_of : (network : NetworkOf) (node : Node) (shares : List (ℕ × CutTextOf)) → All (IsShareAt network node) shares → All (IsShareOf network) shares
-share_of network node shares each =
-    All-weaker (IsShareAt network node) (IsShareOf network)
-    (λ share here. record { small = here.multiplier.high; within = slice_get_within network.limits share.1.limit here.limit here.named; displacement = here.displacement }) shares each
 
 -- the covering inequality that was written is that of the share's cut
 pub cover_written : (network : NetworkOf) (cut : CutTextOf) (limit : ℕ) (x : List ℤ) (written : CoverOf) → cut.limit < length network.limits → limit ≡ cut.limit → ((i : ℕ) → displaced_by cut.pairs i ≡ at x i)
@@ -90,14 +81,3 @@ weighs_end network divisor shares left reduced paid few none weighs =
       taken = λ i. weighs.taken i ∙ ap (λ (l : List (ℕ × CutTextOf)). reduced_price (prices_of network) divisor (map (weighed_text network) l) i) all;
       small = λ i. omega (arith, weighs.small i, long, few);
     }
-
--- before a share the numbers are small enough
-pub weighs_small : (network : NetworkOf) (divisor : ℕ) (shares left : List (ℕ × CutTextOf)) (reduced : List ℤ) (paid : ℕ) → length shares ≤ 64 → Weighs network divisor shares left reduced paid → (i : ℕ) → unsigned_abs (at reduced i) ≤ 2 ^ 75
-weighs_small network divisor shares left reduced paid few weighs i =
-    let long : length shares ≡ length weighs.done + length left = ap length weighs.whole ∙ length-append weighs.done left in
-    omega (arith, weighs.small i, long, few)
-
-pub weighs_few : (network : NetworkOf) (divisor : ℕ) (shares left : List (ℕ × CutTextOf)) (reduced : List ℤ) (paid : ℕ) → length shares ≤ 64 → Weighs network divisor shares left reduced paid → paid ≤ 2 ^ 74
-weighs_few network divisor shares left reduced paid few weighs =
-    let long : length shares ≡ length weighs.done + length left = ap length weighs.whole ∙ length-append weighs.done left in
-    omega (arith, weighs.paid_small, long, few)

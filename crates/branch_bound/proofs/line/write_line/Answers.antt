@@ -5,5 +5,5 @@ use Rattle.branch_bound.proofs.line.write_line.Goals as goal
 
 pub returns-then-is_err-clause-refused : goal.returns-then-is_err-clause-refused
 returns-then-is_err-clause-refused g c =
-    Breaks-nothing c.args.name.now (line_text (line_of c.args.cuts.now c.args.line)) (g.H.Shelf.state c.args.shelf.now)
+    Breaks-nothing c.args.name.now (line_text (line_of c.args.cuts.now c.args.line.now)) (g.H.Shelf.state c.args.shelf.now)
     (λ files held. g.met.H.Shelf.started_is_held c.args.shelf.now files c.args.name.now held c.requires.started)

@@ -6,8 +6,9 @@ use Rattle.bound_log.proofs.AllowedLemmas.{cost_allowed, cut_allowed, pivot_allo
 use Rattle.geo_model.specs.Row.{unit_at}
 use Rattle.cut_pool.specs.Cut.{cover_of}
 use Rattle.bound_log.specs.declared.log_leaf.LogLeaf.TheVariants.{Dual}
-use Rattle.bound_log.specs.DualText.{text_or_none}
+use Rattle.bound_log.specs.DualText.{text_or_none, texts_of_shares}
 use Rattle.idle_splits.specs.Idle.{bound_by}
+use Rattle.branch_bound.specs.Explored.{CutsOff}
 use Rattle.branch_bound.specs.Found.{best_bound}
 use Rattle.branch_bound.proofs.DearLemmas.{above_past, not_idle, unit_allowed, unit_bound}
 use Rattle.branch_bound.specs.Cuts.{unit_text}
@@ -39,6 +40,15 @@ returns-in-Some-dear_share-clause-line c =
       done = IsDone-past c.args.network.now c.args.node.now (Dual c.in-Some-dear_share.share.d (unit_text c.in-Some-dear_share.share ∷ [])) price c.args.best.now c.in-Some-dear_share.ensures.bounds c.requires.kept allowed
           (unit_bound c.args.network.now c.args.node.now (best_bound c.args.network.now c.args.best.now) c.in-Some-dear_share.share shows)
           (above_past c.args.network.now c.args.best.now price shows.dear.above);
+    }
+
+pub returns-in-Some-2-clause-line : goal.returns-in-Some-2-clause-line
+returns-in-Some-2-clause-line c =
+    let off = rw c.in-Some-2.is at c.in_ok-dual.ensures.found in
+    let past : CutsOff c.args.network.now c.args.node.now c.args.best.now c.first_broken.new.self.pool c.in-Some-2.dual.d c.in-Some-2.dual.shares.items = off in
+    record {
+      allowed = past.allowed;
+      done = IsDone-past c.args.network.now c.args.node.now (Dual c.in-Some-2.dual.d (texts_of_shares c.first_broken.new.self.pool c.in-Some-2.dual.shares.items)) past.price c.args.best.now c.first_broken.ensures.bounds c.requires.kept past.allowed past.bound past.past;
     }
 
 pub returns-in-Some-branch_candidate-clause-line : goal.returns-in-Some-branch_candidate-clause-line
