@@ -46,7 +46,7 @@ named_by : (points candidates log : List ℕ) (q : Option ℕ) (sources : Source
     option_and_then (λ now. given_by (drop 3 (roles_of verb.Plan)) (log ∷ []) now) (option_map (λ n. with_redundancy n (with_name kind.Candidates candidates (with_name kind.Points points no_sources))) q) ≡ Some sources → HasNames sources
 named_by points candidates log None sources one two is = absurd (cc)
 named_by points candidates log (Some q) sources one two is =
-    let made : SourcesOf = record { points = points; candidates = candidates; redundancy = q; log = log } in
+    let made : SourcesOf = with_name kind.Log log (with_redundancy q (with_name kind.Candidates candidates (with_name kind.Points points no_sources))) in
     let e : made ≡ sources = cc in
     subst HasNames e (record { points = one; candidates = two })
 

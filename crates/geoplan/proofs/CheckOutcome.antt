@@ -1,14 +1,13 @@
 -- What stands once a log is replayed.
 use Rattle.std.proofs.Common.{◌≡◌, inl, inr, ℕ, List, [], refl, sym, ◌∙◌, subst}
 use Rattle.shelf_io.specs.States.{ShelfState}
-use Rattle.bound_log.specs.LogTree.{HasBound}
 use Rattle.bound_log.proofs.SoundLemmas.{HasBound-below}
 use Rattle.geoplan.specs.declared.status.Status.{Status}
 use Rattle.geoplan.specs.declared.verb.Verb.{Verb}
 use Rattle.geoplan.specs.declared.verb.Verb.TheVariants as verb
 use Rattle.geoplan.specs.CommandOf.{SourcesOf}
 use Rattle.geoplan.specs.Ends.{AreBytes}
-use Rattle.geoplan.specs.Loading.{LoadsTables, Loads, FailsLoad}
+use Rattle.geoplan.specs.Loading.{LoadsTables, Loads}
 use Rattle.geoplan.specs.Parts.{log_file, Checks}
 use Rattle.geoplan.specs.Reporting.{Replays}
 use Rattle.geoplan.specs.Standing.{IsOutcomeOf}

@@ -3,6 +3,7 @@ pub mod OwedFacts
 pub mod PlanFacts
 pub mod RowsFacts
 pub mod CheckFacts
+pub mod TrialFacts
 pub mod CommandFacts
 pub mod InputLemmas
 pub mod LoadLemmas
@@ -12,6 +13,7 @@ pub mod StandLemmas
 pub mod PlanOutcome
 pub mod RowsOutcome
 pub mod CheckOutcome
+pub mod TrialOutcome
 pub mod PrintLemmas
 pub mod CodeLemmas
 pub mod AnswerLemmas

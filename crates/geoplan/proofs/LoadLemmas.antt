@@ -1,9 +1,8 @@
 -- Laws of reading the files of a command and of what they give.
-use Rattle.std.proofs.Common.{◌≡◌, ap, Option, ◌+◌, ◌<◌, ◌≤◌, ℕ, Bool, true, false, if◌then◌else◌, List, [], ◌∷◌, ◌++◌, length, refl, sym, ◌∙◌, subst, arith, Some}
+use Rattle.std.proofs.Common.{◌≡◌, ap, ◌+◌, ◌<◌, ◌≤◌, ℕ, Bool, true, false, if◌then◌else◌, List, [], ◌∷◌, ◌++◌, length, refl, sym, ◌∙◌, subst, arith, Some}
 use Rattle.std.specs.Prelude.{All}
-use Rattle.std.specs.Option.{ForSome}
 use Rattle.shelf_io.specs.Files.{Files, bytes_of}
-use Rattle.shelf_io.specs.Faults.{Rose, KeepsFaults, read_of}
+use Rattle.shelf_io.specs.Faults.{Rose, KeepsFaults}
 use Rattle.std.specs.List.{AllByRecursion, enumerate_from, flat_map}
 use Rattle.std.proofs.lemmas.List.{append-nil, length-map}
 use Rattle.std.proofs.lemmas.List.Elements.{All-nil}
@@ -29,7 +28,7 @@ use Rattle.geoplan.specs.declared.load.LoadFault.TheVariants as load
 use Rattle.geoplan.specs.declared.refused_table.RefusedTable.{RefusedTable}
 use Rattle.geoplan.specs.CommandOf.{CommandOf, FileOf, file_of, files_read}
 use Rattle.geoplan.specs.Input.{InputOf, too_long_input, refused_input, built_input, refused_table, IsWithin, input_of}
-use Rattle.geoplan.specs.Loading.{IsGoodNetwork, refused_view, HasBytes, ReadsFile, HasReadFault, FailsRead, ReadsAll, tables_read, more_read, FailsMore, TablesGive, LoadsTables, Loads, FailsInOrder, HasLoadFault, FailsLoad, tables_input, IsRefusal}
+use Rattle.geoplan.specs.Loading.{IsGoodNetwork, refused_view, ReadsFile, HasReadFault, FailsRead, ReadsAll, tables_read, more_read, FailsMore, TablesGive, LoadsTables, Loads, HasLoadFault, FailsLoad, tables_input, IsRefusal}
 use Rattle.geoplan.specs.Tables.{TablesOf}
 use Rattle.geoplan.proofs.InputLemmas.{files_read-tables, input_of-long, input_of-short}
 

@@ -1,6 +1,5 @@
 -- What stands where the files of a command were not loaded, or memory ran out after they were.
 use Rattle.std.proofs.Common.{◌≡◌, inl, inr, ◌≤◌, ℕ, List, sym, subst, arith}
-use Rattle.geo_base.specs.declared.no_memory.NoMemory.{NoMemory}
 use Rattle.shelf_io.specs.States.{ShelfState}
 use Rattle.geoplan.specs.declared.load.LoadFault.{LoadFault}
 use Rattle.geoplan.specs.declared.load.LoadFault.TheVariants as load

@@ -20,6 +20,7 @@ pub record SourcesOf : Type 0 where
   pub candidates : List ℕ
   pub redundancy : ℕ
   pub log : List ℕ
+  pub script : List ℕ
 
 -- a command: which one, and what its words give
 pub record CommandOf : Type 0 where
@@ -39,31 +40,36 @@ verb_of word =
     if bytes_eq word (codes "plan") then Some verb.Plan
     else (if bytes_eq word (codes "rows") then Some verb.Rows
     else (if bytes_eq word (codes "check") then Some verb.Check
-    else None))
+    else (if bytes_eq word (codes "trial") then Some verb.Trial
+    else None)))
 
 -- what its further words stand for
 abbrev pub roles_of : Verb → List RoleOf
 roles_of verb.Plan = file_role kind.Points ∷ file_role kind.Candidates ∷ redundancy_role ∷ file_role kind.Log ∷ []
 roles_of verb.Rows = file_role kind.Points ∷ file_role kind.Candidates ∷ []
 roles_of verb.Check = file_role kind.Points ∷ file_role kind.Candidates ∷ redundancy_role ∷ file_role kind.Log ∷ []
+roles_of verb.Trial = file_role kind.Points ∷ file_role kind.Candidates ∷ redundancy_role ∷ file_role kind.Script ∷ []
 
 -- the files that it reads, in this order
 abbrev pub reads : Verb → List FileKind
 reads verb.Plan = kind.Points ∷ kind.Candidates ∷ []
 reads verb.Rows = kind.Points ∷ kind.Candidates ∷ []
 reads verb.Check = kind.Points ∷ kind.Candidates ∷ kind.Log ∷ []
+reads verb.Trial = kind.Points ∷ kind.Candidates ∷ kind.Script ∷ []
 
 -- the files that it may write
 abbrev pub writes : Verb → List FileKind
 writes verb.Plan = kind.Log ∷ []
 writes verb.Rows = []
 writes verb.Check = []
+writes verb.Trial = []
 
 -- the most bytes of a file that is read
 abbrev pub most_of : FileKind → ℕ
 most_of kind.Points = 1048576
 most_of kind.Candidates = 1048576
 most_of kind.Log = 268435456
+most_of kind.Script = 1048576
 
 -- ---- the words of a command line
 
@@ -85,16 +91,17 @@ names_among roles words = []
 
 -- no word gives anything
 abbrev pub no_sources : SourcesOf
-no_sources = record { points = []; candidates = []; redundancy = 0; log = [] }
+no_sources = record { points = []; candidates = []; redundancy = 0; log = []; script = [] }
 
 -- .. and what one word gives besides
 abbrev pub with_name : FileKind → List ℕ → SourcesOf → SourcesOf
-with_name kind.Points name given = record { points = name; candidates = given.candidates; redundancy = given.redundancy; log = given.log }
-with_name kind.Candidates name given = record { points = given.points; candidates = name; redundancy = given.redundancy; log = given.log }
-with_name kind.Log name given = record { points = given.points; candidates = given.candidates; redundancy = given.redundancy; log = name }
+with_name kind.Points name given = record { points = name; candidates = given.candidates; redundancy = given.redundancy; log = given.log; script = given.script }
+with_name kind.Candidates name given = record { points = given.points; candidates = name; redundancy = given.redundancy; log = given.log; script = given.script }
+with_name kind.Log name given = record { points = given.points; candidates = given.candidates; redundancy = given.redundancy; log = name; script = given.script }
+with_name kind.Script name given = record { points = given.points; candidates = given.candidates; redundancy = given.redundancy; log = given.log; script = name }
 
 abbrev pub with_redundancy : ℕ → SourcesOf → SourcesOf
-with_redundancy redundancy given = record { points = given.points; candidates = given.candidates; redundancy = redundancy; log = given.log }
+with_redundancy redundancy given = record { points = given.points; candidates = given.candidates; redundancy = redundancy; log = given.log; script = given.script }
 
 abbrev pub with_word : RoleOf → List ℕ → SourcesOf → Option SourcesOf
 with_word (file_role kind) word given = Some (with_name kind word given)
@@ -136,6 +143,7 @@ abbrev pub name_of : SourcesOf → FileKind → List ℕ
 name_of sources kind.Points = sources.points
 name_of sources kind.Candidates = sources.candidates
 name_of sources kind.Log = sources.log
+name_of sources kind.Script = sources.script
 
 -- .. with the most bytes that it may have
 abbrev pub file_of : SourcesOf → FileKind → FileOf

@@ -11,10 +11,10 @@ use Rattle.geoplan.specs.CommandOf.{RoleOf, file_role, redundancy_role, SourcesO
 -- what the further words of a command of this shape stand for
 abbrev pub roles_for : Shape → List RoleOf
 roles_for shape.Tables = file_role kind.Points ∷ file_role kind.Candidates ∷ []
-roles_for shape.Job = file_role kind.Points ∷ file_role kind.Candidates ∷ redundancy_role ∷ file_role kind.Log ∷ []
+roles_for (shape.Job last) = file_role kind.Points ∷ file_role kind.Candidates ∷ redundancy_role ∷ file_role last ∷ []
 
 abbrev pub sources_view : Sources → SourcesOf
-sources_view sources = record { points = sources.points.now; candidates = sources.candidates.now; redundancy = sources.redundancy; log = sources.log.now }
+sources_view sources = record { points = sources.points.now; candidates = sources.candidates.now; redundancy = sources.redundancy; log = sources.log.now; script = sources.script.now }
 
 abbrev pub command_view : Command → CommandOf
 command_view command = record { verb = command.verb; sources = sources_view command.sources }

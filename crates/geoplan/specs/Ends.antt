@@ -8,6 +8,7 @@ use Rattle.geoplan.specs.CommandOf.{SourcesOf, CommandOf, files_read, OnCommand}
 use Rattle.geoplan.specs.Input.{built_input, input_of}
 use Rattle.geoplan.specs.Outcomes.{FindsPlan, FindsNone, LeavesOpen, BeganLog, FailsToWrite, ListsRows, AcceptsLog, RefusesLog, IsCheckStatus, RefusesWords, RefusesTable, RefusesLength, FailsToRead}
 use Rattle.geoplan.specs.Tables.{TablesOf}
+use Rattle.geoplan.specs.Trials.{AnswersScript}
 
 -- What each command ends with: the outcomes, over the files that it reads and writes. This project's own.
 
@@ -69,6 +70,7 @@ ends_of verb.Plan sources tables = record {
   answers = λ files status. (status ≡ 0) ⊎ ((status ≡ 1) ⊎ ((status ≡ 4) ⊎ (status ≡ 7)));
 }
 ends_of verb.Rows sources tables = completing (ListsRows tables)
+ends_of verb.Trial sources tables = completing (λ before now text. OnBytes sources.script before.held (λ script. AnswersScript tables script before now text))
 ends_of verb.Check sources tables =
     reading_ends (λ before now text. OnBytes sources.log before.held (λ log. AcceptsLog tables log before now text))
     (λ before now text. OnBytes sources.log before.held (λ log. RefusesLog tables log before now text))

@@ -37,11 +37,12 @@ too_long_or files (file ∷ later) given =
 abbrev pub refused_table : TableName → ℕ × FaultKind → RefusedOf
 refused_table name fault = record { table = table_word name; number = fault.0; kind = kind_word fault.1 }
 
--- the first fault of a file that is a table, by the bytes of each file. A log is no table
+-- the first fault of a file that is a table, by the bytes of each file. A log and a script are no tables
 abbrev pub fault_of : (FileKind → List ℕ) → FileKind → Option RefusedOf
 fault_of bytes kind.Points = option_map (refused_table fault_table.Points) (points_fault (bytes kind.Points))
 fault_of bytes kind.Candidates = option_map (refused_table fault_table.Candidates) (candidates_fault (points_of (bytes kind.Points)) (bytes kind.Candidates))
 fault_of bytes kind.Log = None
+fault_of bytes kind.Script = None
 
 -- a refusal, and where there is none what is given then
 abbrev pub refused_or : Option RefusedOf → InputOf → InputOf

@@ -1,6 +1,6 @@
 use Rattle.std.specs.Prelude.{◌≡◌, ◌⊎◌, ℕ, ◌<◌, ℤ, Bool, List, ◌∷◌, ◌++◌, All, Option, Some, None}
 use Rattle.std.specs.Option.{ForSome}
-use Rattle.shelf_io.specs.Files.{Files, bytes_of, with_bytes}
+use Rattle.shelf_io.specs.Files.{Files, with_bytes}
 use Rattle.shelf_io.specs.Faults.{Rose, KeepsFaults, read_of, write_of}
 use Rattle.shelf_io.specs.States.{ShelfState}
 use Rattle.geo_model.specs.Prices.{price_of}
@@ -8,7 +8,6 @@ use Rattle.geo_model.specs.Meeting.{MeetsLimits}
 use Rattle.covariance_words.specs.Meaning.{HoldsAndIsPrecise}
 use Rattle.geo_model.specs.Network.{IsNetwork}
 use Rattle.geo_model.specs.declared.answer.Counts.{Counts}
-use Rattle.bound_log.specs.declared.bound.Bound.{Bound}
 use Rattle.bound_log.specs.declared.bound.Bound.TheVariants.{NoPlan, AtLeast}
 use Rattle.bound_log.specs.LogText.{log_text}
 use Rattle.bound_log.specs.LogTree.{root_of, IsAllowed, IsLog}
@@ -21,7 +20,7 @@ use Rattle.log_check.specs.declared.replaying.Replayed.{Replayed}
 use Rattle.log_check.specs.FirstFault.{IsFirstFault}
 use Rattle.log_check.specs.Replayed.{IsReplayed}
 use Rattle.idle_splits.specs.NoIdle.{NoSplitIsIdle}
-use Rattle.geoplan.specs.CommandOf.{CommandOf, FileOf, files_read, command_of}
+use Rattle.geoplan.specs.CommandOf.{CommandOf, FileOf, command_of}
 use Rattle.geoplan.specs.Input.{InputOf, too_long_input, refused_input, IsWithin, input_of}
 use Rattle.geoplan.specs.Tables.{TablesOf, RefusedOf}
 use Rattle.plan_report.specs.ReportText.{no_plan_text}

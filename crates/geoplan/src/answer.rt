@@ -10,6 +10,7 @@ use crate::outcome::Outcome;
 use crate::plan::answer_plan;
 use crate::refusal::refuse;
 use crate::rows::answer_rows;
+use crate::script::answer_script;
 use crate::verb::Verb;
 use shelf_io::Shelf;
 use std::alloc::Global;
@@ -29,5 +30,6 @@ pub fn answer<H: Shelf>(alloc: Global, command: &Command<'_>, shelf: &mut H) -> 
         Verb::Plan => answer_plan(alloc, &tables, shelf, log),
         Verb::Rows => answer_rows(alloc, &tables),
         Verb::Check => answer_check(alloc, &tables, shelf, log),
+        Verb::Trial => answer_script(alloc, &tables, shelf, &command.sources),
     }
 }

@@ -54,11 +54,11 @@ fn sources_of<'a>(shape: Shape, words: &'a Words) -> Option<Sources<'a>>
     ensures within { IfSome result (λ sources. sources.redundancy ≤ 999) }
 {
     match shape {
-        Shape::Job => {
+        Shape::Job(last) => {
             if words.len() != 6 {
                 return None;
             }
-            Sources::of_job(words.get(2), words.get(3), words.get(4), words.get(5))
+            Sources::of_job(words.get(2), words.get(3), words.get(4), last, words.get(5))
         }
         Shape::Tables => {
             if words.len() != 4 {

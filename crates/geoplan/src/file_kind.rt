@@ -7,6 +7,7 @@ pub enum FileKind {
     Points,
     Candidates,
     Log,
+    Script,
 }
 
 impl FileKind {
@@ -15,7 +16,7 @@ impl FileKind {
         ensures { result ≡ most_of self }
     {
         match self {
-            FileKind::Points | FileKind::Candidates => 1048576,
+            FileKind::Points | FileKind::Candidates | FileKind::Script => 1048576,
             FileKind::Log => 268435456,
         }
     }

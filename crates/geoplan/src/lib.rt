@@ -18,6 +18,7 @@ mod refusal_text;
 mod refused_table;
 mod rows;
 mod run;
+mod script;
 mod shape;
 mod solve;
 mod sources;

@@ -32,7 +32,7 @@ pub enum LoadFault<'a> {
 }
 
 /// The bytes of a file.
-fn read_file<'a, H: Shelf>(
+pub fn read_file<'a, H: Shelf>(
     alloc: Global,
     sources: &Sources<'a>,
     kind: FileKind,

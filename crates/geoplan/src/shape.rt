@@ -1,8 +1,10 @@
+use crate::file_kind::FileKind;
+
 /// What the further words of a command stand for.
 #[derive(Clone, Copy, Debug, PartialEq, Eq)]
 pub enum Shape {
     /// Two tables.
     Tables,
-    /// Two tables, a redundancy and a log.
-    Job,
+    /// Two tables, a redundancy, and a file of this kind.
+    Job(FileKind),
 }

@@ -1,5 +1,5 @@
 ghost use Rattle.std.specs.Prelude.{◌≡◌, ◌≤◌, [], ◌∷◌, option_map, IfSome};
-ghost use Rattle.geoplan.specs.CommandOf.{name_of, sources_from};
+ghost use Rattle.geoplan.specs.CommandOf.{name_of, sources_from, with_name};
 ghost use Rattle.geoplan.specs.CommandView.{roles_for, sources_view};
 ghost use Rattle.geoplan.specs.declared.shape.Shape.TheVariants as shape;
 
@@ -15,6 +15,7 @@ pub struct Sources<'a> {
     pub candidates: &'a str,
     pub redundancy: u32,
     pub log: &'a str,
+    pub script: &'a str,
 }
 
 impl<'a> Sources<'a> {
@@ -32,32 +33,53 @@ impl<'a> Sources<'a> {
             candidates,
             redundancy: 0,
             log: "",
+            script: "",
         })
     }
 
-    /// Two tables, a redundancy of 1 to 3 digits, and a log.
+    /// Two tables, a redundancy of 1 to 3 digits, and a file of a kind.
     pub fn of_job(
         points: &'a str,
         candidates: &'a str,
         redundancy: &str,
-        log: &'a str,
+        kind: FileKind,
+        file: &'a str,
     ) -> Option<Sources<'a>>
-        ensures sources { option_map sources_view result ≡ sources_from (roles_for shape.Job)
-            (points.entry.now ∷ candidates.entry.now ∷ redundancy.now ∷ log.entry.now ∷ []) }
+        ensures sources { option_map sources_view result ≡ sources_from (roles_for (shape.Job kind))
+            (points.entry.now ∷ candidates.entry.now ∷ redundancy.now ∷ file.entry.now ∷ []) }
         ensures within { IfSome result (λ sources. sources.redundancy ≤ 999) }
     {
-        if is_same(points, candidates) || is_same(points, log) || is_same(candidates, log) {
+        if is_same(points, candidates) || is_same(points, file) || is_same(candidates, file) {
             return None;
         }
         match read_digits(redundancy.as_bytes(), 3) {
             None => None,
-            Some(redundancy) => Some(Sources {
-                points,
-                candidates,
-                redundancy: redundancy as u32,
-                log,
-            }),
+            Some(redundancy) => {
+                let given = Sources {
+                    points,
+                    candidates,
+                    redundancy: redundancy as u32,
+                    log: "",
+                    script: "",
+                };
+                Some(given.with_name(kind, file))
+            }
         }
+    }
+
+    /// With the name of a file.
+    fn with_name(self, kind: FileKind, name: &'a str) -> Sources<'a>
+        ensures sources { sources_view result ≡ with_name kind name.entry.now (sources_view self.entry) }
+        ensures same { result.redundancy ≡ self.entry.redundancy }
+    {
+        let mut given = self;
+        match kind {
+            FileKind::Points => given.points = name,
+            FileKind::Candidates => given.candidates = name,
+            FileKind::Log => given.log = name,
+            FileKind::Script => given.script = name,
+        }
+        given
     }
 
     /// The name of a file.
@@ -68,6 +90,7 @@ impl<'a> Sources<'a> {
             FileKind::Points => self.points,
             FileKind::Candidates => self.candidates,
             FileKind::Log => self.log,
+            FileKind::Script => self.script,
         }
     }
 }

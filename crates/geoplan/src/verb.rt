@@ -16,6 +16,8 @@ pub enum Verb {
     Rows,
     /// Replays a log.
     Check,
+    /// Answers a script of trials.
+    Trial,
 }
 
 impl Verb {
@@ -29,6 +31,8 @@ impl Verb {
             Some(Verb::Rows)
         } else if is_same(word, "check") {
             Some(Verb::Check)
+        } else if is_same(word, "trial") {
+            Some(Verb::Trial)
         } else {
             None
         }
@@ -38,8 +42,9 @@ impl Verb {
         ensures { roles_of self ≡ roles_for result }
     {
         match self {
-            Verb::Plan | Verb::Check => Shape::Job,
+            Verb::Plan | Verb::Check => Shape::Job(FileKind::Log),
             Verb::Rows => Shape::Tables,
+            Verb::Trial => Shape::Job(FileKind::Script),
         }
     }
 
@@ -50,6 +55,7 @@ impl Verb {
         match self {
             Verb::Plan | Verb::Rows => None,
             Verb::Check => Some(FileKind::Log),
+            Verb::Trial => Some(FileKind::Script),
         }
     }
 }

@@ -28,4 +28,6 @@ mod points;
 #[cfg(test)]
 mod rows;
 #[cfg(test)]
+mod scripts;
+#[cfg(test)]
 mod words;

@@ -3,6 +3,7 @@ use Rattle.geoplan.proofs.StandLemmas.{IsOutcomeOf-refused}
 use Rattle.geoplan.proofs.PlanOutcome.{IsOutcomeOf-plan}
 use Rattle.geoplan.proofs.RowsOutcome.{IsOutcomeOf-rows}
 use Rattle.geoplan.proofs.CheckOutcome.{IsOutcomeOf-check}
+use Rattle.geoplan.proofs.TrialOutcome.{IsOutcomeOf-trial}
 use Rattle.geoplan.proofs.answer.answer.Goals as goal
 
 pub returns-in-Err : goal.returns-in-Err
@@ -22,8 +23,14 @@ returns-in-Rows g c =
     (g.H.Shelf.state c.args.shelf.now) (g.H.Shelf.state c.load.new.shelf)
     c.answer_rows.result.status c.answer_rows.result.text.items c.in-Rows.is c.in-Ok.ensures.loaded c.answer_rows.ensures
 
-pub returns : goal.returns
-returns g c =
+pub returns-in-Check : goal.returns-in-Check
+returns-in-Check g c =
     IsOutcomeOf-check c.args.command.now.verb (sources_view c.args.command.now.sources) c.in-Ok.tables
     (g.H.Shelf.state c.args.shelf.now) (g.H.Shelf.state c.load.new.shelf) (g.H.Shelf.state c.answer_check.new.shelf)
     c.answer_check.result.status c.answer_check.result.text.items c.in-Check.is c.in-Ok.ensures.loaded c.answer_check.ensures
+
+pub returns : goal.returns
+returns g c =
+    IsOutcomeOf-trial c.args.command.now.verb (sources_view c.args.command.now.sources) c.in-Ok.tables
+    (g.H.Shelf.state c.args.shelf.now) (g.H.Shelf.state c.load.new.shelf) (g.H.Shelf.state c.answer_script.new.shelf)
+    c.answer_script.result.status c.answer_script.result.text.items c.in-Trial.is c.in-Ok.ensures.loaded c.answer_script.ensures

@@ -1,0 +1,31 @@
+-- The facts of `trial`.
+use Rattle.std.proofs.Common.{◌≡◌, ℕ, List, [], refl}
+use Rattle.shelf_io.specs.States.{ShelfState}
+use Rattle.geoplan.specs.declared.file_kind.FileKind.{FileKind}
+use Rattle.geoplan.specs.declared.file_kind.FileKind.TheVariants as kind
+use Rattle.geoplan.specs.declared.verb.Verb.TheVariants as verb
+use Rattle.geoplan.specs.CommandOf.{SourcesOf, reads}
+use Rattle.geoplan.specs.Ends.{OnBytes}
+use Rattle.geoplan.specs.Input.{judged_input}
+use Rattle.geoplan.specs.Loading.{tables_input}
+use Rattle.geoplan.specs.Tables.{TablesOf}
+use Rattle.geoplan.specs.Trials.{AnswersScript}
+use Rattle.geoplan.proofs.OwedFacts.{OwedFacts, completing_keeps, completing_answers}
+
+module _ (sources : SourcesOf) (tables : TablesOf) where
+  abbrev Answers : ShelfState → ShelfState → List ℕ → Type 0
+  Answers before now text = OnBytes sources.script before.held (λ script. AnswersScript tables script before now text)
+
+  answered_held : (before now : ShelfState) (text : List ℕ) → Answers before now text → now.held ≡ before.held
+  answered_held before now text (script, are, answered) = answered.held
+
+judged : (redundancy : ℕ) (bytes : FileKind → List ℕ) → judged_input redundancy bytes (reads verb.Trial) ≡ tables_input redundancy (bytes kind.Points) (bytes kind.Candidates)
+unfolding judged_input tables_input
+judged redundancy bytes = refl
+
+pub facts : OwedFacts verb.Trial
+facts = record {
+  reads_tables = record { first = refl; judged = judged };
+  keeps = λ sources tables. completing_keeps (Answers sources tables) [] (answered_held sources tables);
+  answers = λ sources tables. completing_answers (Answers sources tables);
+}
