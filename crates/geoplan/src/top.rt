@@ -23,7 +23,8 @@ pub fn geoplan<H: Shelf, O: Sink>(alloc: Global, words: &Words, shelf: &mut H, o
     // 0: the command is done, and its text was printed. Of `plan`: the printed plan meets every limit
     // for all whole-number displacements, and every plan that meets them costs at least as much, which
     // the log proves. Of `check`: the text under the log's name is a log of the network, and every plan
-    // that meets the limits costs at least its bound. Of `rows`: unknowns and rows.
+    // that meets the limits costs at least its bound. Of `rows`: unknowns and rows. Of `trial`: the
+    // answers to the script.
     ensures done { result ≡ 0 → OnCommand words.now (λ command. PrintsAll
         (Completes command (H.state shelf.old) (H.state shelf.new)) (O.state out.old) (O.state out.new)) }
 
