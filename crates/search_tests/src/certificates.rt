@@ -1,10 +1,13 @@
-//! Certificates of forms of one and two unknowns.
-ghost use Rattle.std.specs.Prelude.{◌≡◌, ◌≤◌, ◌^◌, List, [], ◌∷◌, unsigned_abs, IfOk};
+//! Certificates of forms of two unknowns, reckoned by hand.
+ghost use Rattle.std.specs.Prelude.{◌≡◌, ◌≤◌, ◌^◌, List, [], ◌∷◌, length, unsigned_abs, IfOk};
 
 use geo_base::NoMemory;
 use lent_parts::Tri;
 use psd_cert::{SquareCert, fits, holds, step_holds};
 use std::alloc::Global;
+
+// The greatest size of an entry.
+const GREATEST: i128 = 0x2000_0000_0000_0000;
 
 fn one_row(alloc: Global, a: i128) -> Result<Tri, NoMemory>
     ensures { IfOk result (λ tri. tri ≡ (a ∷ []) ∷ []) }
@@ -14,9 +17,12 @@ fn one_row(alloc: Global, a: i128) -> Result<Tri, NoMemory>
     Ok(tri)
 }
 
-fn two_rows(alloc: Global, a: i128, b: i128, d: i128) -> Result<Tri, NoMemory>
-    ensures { IfOk result (λ tri. tri ≡ (a ∷ b ∷ []) ∷ ((d ∷ []) ∷ [])) }
+// The matrix with the first and the last number on its diagonal, and the other one beside it. A proof
+// here need know no more than its size.
+fn two_rows(alloc: Global, matrix: [i128; 3]) -> Result<Tri, NoMemory>
+    ensures { IfOk result (λ tri. length tri ≡ 2) }
 {
+    let [a, b, d] = matrix;
     let mut tri = Tri::new(alloc, 2)?;
     let row = tri.row_mut(0);
     row[0] = a;
@@ -28,70 +34,84 @@ fn two_rows(alloc: Global, a: i128, b: i128, d: i128) -> Result<Tri, NoMemory>
 // The certificate of two steps with this number as its first remainder.
 fn one_remainder(alloc: Global, a: i128) -> Result<SquareCert, NoMemory>
     requires { unsigned_abs a ≤ 2 ^ 61 }
-    ensures { IfOk result (λ cert. cert ≡ ((a ∷ []) ∷ []) ∷ ([] ∷ [])) }
+    ensures { IfOk result (λ cert. length cert ≡ 2) }
 {
     let remainder = one_row(alloc, a)?;
     let last = Tri::new(alloc, 0)?;
     Ok(SquareCert::new(vec![in alloc; remainder, last]?))
 }
 
-#[test]
-fn remainders_of_two_unknowns(rt: HostRuntime) -> Result<(), NoMemory> {
-    let first = two_rows(rt.alloc(), 2, -1, 2)?;
-    let good = one_row(rt.alloc(), 1)?;
-    let bad = one_row(rt.alloc(), 2)?;
-    assert!(rt; fits(&first));
-    assert!(rt; fits(&good));
-    assert!(rt; fits(&bad));
-    assert!(rt; step_holds(&first, &good));
-    assert!(rt; !step_holds(&first, &bad));
-    Ok(())
-}
-
-#[test]
-fn certificates_of_one_remainder(rt: HostRuntime) -> Result<(), NoMemory> {
-    let first = two_rows(rt.alloc(), 2, -1, 2)?;
-    let good = one_remainder(rt.alloc(), 1)?;
-    let bad = one_remainder(rt.alloc(), 2)?;
-    assert!(rt; fits(&first));
-    assert!(rt; holds(&first, &good));
-    assert!(rt; !holds(&first, &bad));
-    Ok(())
+// Whether the entries of a matrix are small enough.
+fn is_small(alloc: Global, matrix: [i128; 3]) -> Result<bool, NoMemory> {
+    let first = two_rows(alloc, matrix)?;
+    Ok(fits(&first))
 }
 
 #[test]
 fn entries_of_the_greatest_size(rt: HostRuntime) -> Result<(), NoMemory> {
-    let most = one_row(rt.alloc(), 0x2000_0000_0000_0000)?;
-    let least = one_row(rt.alloc(), -0x2000_0000_0000_0000)?;
-    let larger = one_row(rt.alloc(), 0x2000_0000_0000_0001)?;
-    let beside = two_rows(rt.alloc(), 1, -0x2000_0000_0000_0001, 1)?;
-    assert!(rt; fits(&most));
-    assert!(rt; fits(&least));
-    assert!(rt; !fits(&larger));
-    assert!(rt; !fits(&beside));
+    for (matrix, small) in [
+        ([GREATEST, -GREATEST, GREATEST], true),
+        ([GREATEST + 1, 0, 1], false),
+        ([1, -GREATEST - 1, 1], false),
+        ([1, 0, -GREATEST - 1], false),
+    ] {
+        assert_eq!(rt; is_small(rt.alloc(), matrix)?, small, "{matrix:?}");
+    }
     Ok(())
 }
 
-#[test]
-fn no_certificate_where_the_chain_stops(rt: HostRuntime) -> Result<(), NoMemory> {
-    let first_step = two_rows(rt.alloc(), 0, 1, 1)?;
-    let second_step = two_rows(rt.alloc(), 1, 2, 1)?;
-    assert!(rt; fits(&first_step));
-    assert!(rt; fits(&second_step));
-    assert!(rt; SquareCert::make(rt.alloc(), &first_step)?.is_none());
-    assert!(rt; SquareCert::make(rt.alloc(), &second_step)?.is_none());
-    Ok(())
+// Whether the step from a matrix to this remainder holds.
+fn step_to(alloc: Global, matrix: [i128; 3], remainder: i128) -> Result<bool, NoMemory> {
+    let first = two_rows(alloc, matrix)?;
+    let left = one_row(alloc, remainder)?;
+    Ok(fits(&first) && fits(&left) && step_holds(&first, &left))
+}
+
+// Whether the certificate with this first remainder holds for a matrix.
+fn is_certified(alloc: Global, matrix: [i128; 3], remainder: i128) -> Result<bool, NoMemory>
+    requires { unsigned_abs remainder ≤ 2 ^ 61 }
+{
+    let first = two_rows(alloc, matrix)?;
+    let cert = one_remainder(alloc, remainder)?;
+    Ok(fits(&first) && holds(&first, &cert))
+}
+
+// The remainder of the certificate that is made for a matrix, where there is one and it holds.
+fn made_remainder(alloc: Global, matrix: [i128; 3]) -> Result<Option<i128>, NoMemory> {
+    let first = two_rows(alloc, matrix)?;
+    if !fits(&first) {
+        return Ok(None);
+    }
+    let Some(cert) = SquareCert::make(alloc, &first)? else {
+        return Ok(None);
+    };
+    if !holds(&first, &cert) {
+        return Ok(None);
+    }
+    Ok(cert.remainder(1).row(0).first().copied())
 }
 
 #[test]
-fn certificate_of_two_unknowns(rt: HostRuntime) -> Result<(), NoMemory> {
-    let first = two_rows(rt.alloc(), 2, -1, 2)?;
-    assert!(rt; fits(&first));
-    let made = SquareCert::make(rt.alloc(), &first)?;
-    assert!(rt; made.is_some());
-    if let Some(cert) = made {
-        assert!(rt; holds(&first, &cert));
-        assert_eq!(rt; cert.remainder(1).row(0), [1i128].as_slice());
+fn remainders_of_two_unknowns(rt: HostRuntime) -> Result<(), NoMemory> {
+    let matrix = [2, -1, 2];
+    assert!(rt; step_to(rt.alloc(), matrix, 1)?);
+    assert!(rt; is_certified(rt.alloc(), matrix, 1)?);
+    assert!(rt; !step_to(rt.alloc(), matrix, 2)?);
+    assert!(rt; !is_certified(rt.alloc(), matrix, 2)?);
+    Ok(())
+}
+
+// Matrices, and the first remainder of their certificates: none where the chain stops.
+const MADE: [([i128; 3], Option<i128>); 3] = [
+    ([2, -1, 2], Some(1)),
+    ([0, 1, 1], None),
+    ([1, 2, 1], None),
+];
+
+#[test]
+fn certificates_are_made_where_the_chain_goes_on(rt: HostRuntime) -> Result<(), NoMemory> {
+    for (matrix, remainder) in MADE {
+        assert_eq!(rt; made_remainder(rt.alloc(), matrix)?, remainder);
     }
     Ok(())
 }

@@ -1,9 +1,12 @@
 //! Normal matrices, and forms of limits on their grids.
-ghost use Rattle.std.specs.Prelude.{◌≡◌, ◌∷◌, [], pos, IfOk};
+ghost use Rattle.std.specs.Prelude.{◌≡◌, ◌+◌, ◌<◌, ◌∷◌, [], pos, length, IfOk};
+ghost use Rattle.geo_model.specs.Limit.{IsLoad};
+ghost use Rattle.normal_matrix.specs.Normal.{IsNormalOf};
+ghost use Rattle.limit_forms.specs.Grid.{grid_of};
 
 use crate::networks::{Tables, network_of};
 use geo_base::NoMemory;
-use geo_model::Square;
+use geo_model::{Network, Square};
 use limit_forms::{LimitGrid, form_entry, grid_row};
 use normal_matrix::Normal;
 use std::alloc::Global;
@@ -59,12 +62,41 @@ fn square_of_both(alloc: Global) -> Result<Vec<Square>, NoMemory>
     Ok(vec![in alloc; Square { beta: 1, entries }]?)
 }
 
+// The normal matrix of both levels.
+fn both_levels(alloc: Global, network: &Network) -> Result<Normal, NoMemory>
+    requires { length network.now.candidates ≡ 2 }
+    ensures { IfOk result (IsNormalOf network.now) }
+{
+    let mut normal = Normal::new(alloc, network)?;
+    normal.add(network, 0);
+    normal.add(network, 1);
+    Ok(normal)
+}
+
+// Writes row `k` of both grid matrices of a limit of alpha 1000000. A proof here need know nothing of it.
+fn put_row(
+    network: &Network,
+    normal: &Normal,
+    grid: &LimitGrid,
+    squares: &[Square],
+    k: u32,
+    lower: &mut [i128],
+    upper: &mut [i128],
+)
+    requires normal { IsNormalOf network.now normal.now }
+    requires limit { IsLoad (length network.now.unknowns) network.now.candidates (pos 1000000) squares.now }
+    requires grid { grid.now ≡ grid_of network.now (pos 1000000) squares.now }
+    requires inside { k < length network.now.unknowns }
+    requires lower_room { length lower.old + k ≡ length network.now.unknowns }
+    requires upper_room { length upper.old + k ≡ length network.now.unknowns }
+{
+    grid_row(network, normal, grid, 1000000, squares, k, lower, upper);
+}
+
 #[test]
 fn a_grid_of_two_unknowns(rt: HostRuntime) -> Result<(), Fail> {
     let network = network_of(&rt, rt.alloc(), &TWO_LEVELS)?;
-    let mut normal = Normal::new(rt.alloc(), &network)?;
-    normal.add(&network, 0);
-    normal.add(&network, 1);
+    let normal = both_levels(rt.alloc(), &network)?;
     let squares = square_of(rt.alloc(), 1)?;
     let limit = squares.as_slice();
     let grid = LimitGrid::new(rt.alloc(), &network, 1000000, limit)?;
@@ -77,9 +109,7 @@ fn a_grid_of_two_unknowns(rt: HostRuntime) -> Result<(), Fail> {
     );
     let mut lower = [0i128; 2];
     let mut upper = [0i128; 2];
-    grid_row(
-        &network, &normal, &grid, 1000000, limit, 0, &mut lower, &mut upper,
-    );
+    put_row(&network, &normal, &grid, limit, 0, &mut lower, &mut upper);
     assert_eq!(rt; lower, [390624999999999999, -390625000000000000]);
     assert_eq!(rt; upper, [390625000000000000, -390625000000000000]);
     Ok(())
@@ -90,26 +120,21 @@ fn a_grid_of_two_unknowns(rt: HostRuntime) -> Result<(), Fail> {
 #[test]
 fn a_grid_with_slack(rt: HostRuntime) -> Result<(), Fail> {
     let network = network_of(&rt, rt.alloc(), &TWO_LEVELS)?;
-    let mut normal = Normal::new(rt.alloc(), &network)?;
-    normal.add(&network, 0);
-    normal.add(&network, 1);
+    let normal = both_levels(rt.alloc(), &network)?;
     let squares = square_of_both(rt.alloc())?;
     let limit = squares.as_slice();
     let grid = LimitGrid::new(rt.alloc(), &network, 1000000, limit)?;
     let mut lower = [0i128; 2];
     let mut upper = [0i128; 2];
-    grid_row(
-        &network, &normal, &grid, 1000000, limit, 0, &mut lower, &mut upper,
-    );
+    put_row(&network, &normal, &grid, limit, 0, &mut lower, &mut upper);
     assert_eq!(rt; lower, [781249999999999998, -390625000000000001]);
     assert_eq!(rt; upper, [781250000000000001, -390625000000000001]);
     let mut last_lower = [0i128; 1];
     let mut last_upper = [0i128; 1];
-    grid_row(
+    put_row(
         &network,
         &normal,
         &grid,
-        1000000,
         limit,
         1,
         &mut last_lower,

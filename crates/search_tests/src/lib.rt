@@ -17,11 +17,15 @@ mod moves;
 #[cfg(test)]
 mod networks;
 #[cfg(test)]
+mod pieces;
+#[cfg(test)]
 mod plans;
 #[cfg(test)]
 mod replays;
 #[cfg(test)]
 mod searches;
+#[cfg(test)]
+mod stacks;
 #[cfg(test)]
 mod tight_networks;
 #[cfg(test)]

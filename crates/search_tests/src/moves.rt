@@ -1,5 +1,5 @@
 //! Displacements that break a limit of a height with a level of 1.00 mm.
-ghost use Rattle.std.specs.Prelude.{◌<◌, ◌≤◌};
+ghost use Rattle.std.specs.Prelude.{◌<◌};
 
 use crate::networks::{CLOSER_LEVEL, ONE_LEVEL, Tables, network_of};
 use displacements::{breaks, energy, load, propose};
@@ -25,8 +25,7 @@ fn the_widest_move_breaks_the_narrow_limit_alone(rt: HostRuntime) -> Result<(), 
 
 // What is proposed for the plan of all candidates and the first limit of a network.
 fn proposed(rt: &impl Abort, alloc: Global, tables: &Tables) -> Result<Option<Displacement>, Fail>
-    requires redundancy { tables.now.redundancy ≤ 999 }
-    requires limits { 0 < tables.now.limits }
+    requires { 0 < tables.now.limits }
 {
     let network = network_of(rt, alloc, tables)?;
     let plan = Plan::full(alloc, network.candidates().len() as u32)?;

@@ -1,10 +1,10 @@
 //! Networks of small tables, which the tests share.
-ghost use Rattle.std.specs.Prelude.{◌≡◌, ◌≤◌, length, IfOk};
+ghost use Rattle.std.specs.Prelude.{◌≡◌, length, IfOk};
 
 use candidate_tables::read_candidates;
 use geo_model::Network;
 use net_build::build;
-use point_tables::read_points;
+use point_tables::{Points, read_points};
 use std::alloc::Global;
 use std::process::Abort;
 use std::test::Fail;
@@ -70,20 +70,58 @@ pub const TOO_REDUNDANT: Tables = Tables {
     limits: 3,
 };
 
+const LINE: &str =
+    "l1,level,A,H1,,0.50,,5\nl2,level,H1,H2,,0.50,,5\nl3,level,H2,H3,,0.50,,5\nl4,level,H3,H4,,0.50,,5\n";
+
+/// A line of four heights with levels of 0.50 mm, with a limit of 1.0 mm on the last one.
+pub const LEVELLING_LINE: Tables = Tables {
+    points: "A,,,0.000,,fixed\nH1,,,0.000,,5.0\nH2,,,0.000,,5.0\nH3,,,0.000,,5.0\nH4,,,0.000,,1.0\n",
+    candidates: LINE,
+    redundancy: 0,
+    unknowns: 4,
+    choices: 4,
+    limits: 4,
+};
+
+/// The same with a limit of 1.1 mm on the last one.
+pub const WIDER_LINE: Tables = Tables {
+    points: "A,,,0.000,,fixed\nH1,,,0.000,,5.0\nH2,,,0.000,,5.0\nH3,,,0.000,,5.0\nH4,,,0.000,,1.1\n",
+    candidates: LINE,
+    redundancy: 0,
+    unknowns: 4,
+    choices: 4,
+    limits: 4,
+};
+
+// The points of these records, of which a proof here need know nothing.
+fn points_of(alloc: Global, records: &str) -> Result<Points, Fail> {
+    let mut bytes = b"name,x,y,z,plane,height\n".to_vec(alloc)?;
+    bytes.extend_from_slice(records.as_bytes())?;
+    Ok(read_points(alloc, bytes.as_slice())?)
+}
+
+// The network of these points and of a table's candidates, of which a proof here need know nothing.
+fn built(
+    rt: &impl Abort,
+    alloc: Global,
+    points: &Points,
+    tables: &Tables,
+) -> Result<Network, Fail> {
+    assert!(rt; tables.redundancy <= 999);
+    let mut bytes = b"name,kind,from,to,to2,sd,sdh,price\n".to_vec(alloc)?;
+    bytes.extend_from_slice(tables.candidates.as_bytes())?;
+    let candidates = read_candidates(alloc, bytes.as_slice(), points)?;
+    Ok(build(alloc, points, &candidates, tables.redundancy)?)
+}
+
 /// The network of these tables.
 pub fn network_of(rt: &impl Abort, alloc: Global, tables: &Tables) -> Result<Network, Fail>
-    requires { tables.now.redundancy ≤ 999 }
     ensures unknowns { IfOk result (λ network. length network.unknowns ≡ tables.now.unknowns) }
     ensures candidates { IfOk result (λ network. length network.candidates ≡ tables.now.choices) }
     ensures limits { IfOk result (λ network. length network.limits ≡ tables.now.limits) }
 {
-    let mut bytes = b"name,x,y,z,plane,height\n".to_vec(alloc)?;
-    bytes.extend_from_slice(tables.points.as_bytes())?;
-    let points = read_points(alloc, bytes.as_slice())?;
-    let mut records = b"name,kind,from,to,to2,sd,sdh,price\n".to_vec(alloc)?;
-    records.extend_from_slice(tables.candidates.as_bytes())?;
-    let candidates = read_candidates(alloc, records.as_slice(), &points)?;
-    let network = build(alloc, &points, &candidates, tables.redundancy)?;
+    let points = points_of(alloc, tables.points)?;
+    let network = built(rt, alloc, &points, tables)?;
     assert!(rt; network.unknowns().len() == tables.unknowns);
     assert!(rt; network.candidates().len() == tables.choices);
     assert!(rt; network.limits().len() == tables.limits);

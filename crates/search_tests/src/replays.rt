@@ -6,16 +6,18 @@ use log_check::{Bound, LogFault, LogKind, ReplayAnswer, Replayed, replay};
 use std::alloc::Global;
 use std::test::Fail;
 
-// A replay, of which a proof here need know nothing.
-fn replayed(alloc: Global, network: &Network, log: &[u8]) -> Result<Replayed, ReplayAnswer> {
+/// A replay, of which a proof here need know nothing.
+pub fn replayed(alloc: Global, network: &Network, log: &[u8]) -> Result<Replayed, ReplayAnswer> {
     replay(alloc, network, log)
 }
 
-fn fault(line: u64, kind: LogKind) -> Result<Replayed, ReplayAnswer> {
+/// The first fault of a text.
+pub fn fault(line: u64, kind: LogKind) -> Result<Replayed, ReplayAnswer> {
     Err(ReplayAnswer::Fault(LogFault { line, kind }))
 }
 
-fn accepted(
+/// The bound of a log, and how many splits, cost, pivot and cut leaves it has.
+pub fn accepted(
     bound: Bound,
     [splits, costs, pivots, cuts]: [u64; 4],
 ) -> Result<Replayed, ReplayAnswer> {
@@ -34,8 +36,8 @@ fn accepted(
 // A log of two levels.
 const WHOLE: &[u8] = b"geoplan-log 1\ns 0\np 1\ns 1\np 2\np 0\n";
 
-// Logs of two levels, what each proves, and how many splits, cost, pivot and cut leaves it has.
-const LOGS: [(&[u8], Bound, [u64; 4]); 4] = [
+/// Logs of two levels, what each proves, and how many splits, cost, pivot and cut leaves it has.
+pub const LOGS: [(&[u8], Bound, [u64; 4]); 4] = [
     (WHOLE, Bound::NoPlan, [2, 0, 3, 0]),
     (
         b"geoplan-log 1\ns 0\nc\ns 1\nc\np 0\n",
@@ -84,8 +86,8 @@ fn logs_that_are_cut_off(rt: HostRuntime) -> Result<(), Fail> {
     Ok(())
 }
 
-// Texts that are no log of two levels: the line and the kind of the first fault.
-const FAULTS: [(&[u8], u64, LogKind); 30] = [
+/// Texts that are no log of two levels: the line and the kind of the first fault.
+pub const FAULTS: [(&[u8], u64, LogKind); 30] = [
     (b"", 1, LogKind::Form),
     (b"geoplan-log 1", 1, LogKind::Form),
     (b"geoplan-log 1\n", 2, LogKind::Short),

@@ -1,22 +1,25 @@
-//! Searches over networks of one new height, whose answers and logs were reckoned by an independent
-//! program.
-ghost use Rattle.std.specs.Prelude.{◌<◌, length};
-
-use crate::networks::{HALF_REDUNDANT, TOO_REDUNDANT, network_of};
+//! Searches over networks of levels, whose answers were reckoned by an independent program. The
+//! log of each is replayed.
+use crate::networks::{
+    CLOSER_LEVEL, HALF_REDUNDANT, LEVELLING_LINE, ONE_LEVEL, TOO_REDUNDANT, Tables, network_of,
+};
+use crate::replays::replayed;
 use crate::tight_networks::missed;
 use branch_bound::{SearchFault, search};
-use geo_model::{Answer, Counts, Network};
+use geo_model::{Answer, Counts, Network, cost};
+use log_check::{Bound, Replayed};
 use shelf_io::{MemShelf, Shelf, SureShelf};
 use std::alloc::Global;
+use std::process::Abort;
 use std::test::Fail;
 
-// What a search answers: whether it takes the first and the last candidate, where it has a plan, and
-// the open limit with its step and interval, where it is undecided.
+// What a search answers: the price of the plan, where it has one, and the open limit with its step and
+// interval, where it is undecided.
 #[derive(Clone, Copy, Debug, PartialEq, Eq)]
 enum Found {
-    Best(bool, bool),
+    Best(u64),
     NoPlan,
-    Undecided(bool, bool, u32, u32, i128, i128),
+    Undecided(u64, u32, u32, i128, i128),
 }
 
 // A search: what it answers, the counts of the lines of its log, and the shelf with the log.
@@ -28,15 +31,12 @@ struct SearchEnd {
 }
 
 // A search over a sure shelf, of which a proof here need know nothing.
-fn searched(alloc: Global, network: &Network) -> Result<SearchEnd, Fail>
-    requires { 0 < length network.now.candidates }
-{
+fn searched(alloc: Global, network: &Network) -> Result<SearchEnd, Fail> {
     let mut shelf = SureShelf::new(alloc);
     shelf.start("log")?;
     let done = search(alloc, network, &mut shelf, "log")?;
-    let last = network.candidates().len() as u32 - 1;
     let found = match &done.answer {
-        Answer::Best(plan) => Found::Best(plan.has(0), plan.has(last)),
+        Answer::Best(plan) => Found::Best(cost(network, plan)),
         Answer::NoPlan => Found::NoPlan,
         Answer::Undecided {
             plan,
@@ -44,7 +44,7 @@ fn searched(alloc: Global, network: &Network) -> Result<SearchEnd, Fail>
             step,
             lo,
             hi,
-        } => Found::Undecided(plan.has(0), plan.has(last), *limit, *step, *lo, *hi),
+        } => Found::Undecided(cost(network, plan), *limit, *step, *lo, *hi),
     };
     Ok(SearchEnd {
         found,
@@ -53,47 +53,52 @@ fn searched(alloc: Global, network: &Network) -> Result<SearchEnd, Fail>
     })
 }
 
-fn counts(splits: u64, costs: u64, pivots: u64) -> Counts {
-    Counts {
-        splits,
-        costs,
-        pivots,
-        cuts: 0,
-        duals: 0,
+// Searches a network, asserts what is found, and replays the log.
+fn expect_search(
+    rt: &impl Abort,
+    alloc: Global,
+    network: &Network,
+    found: Found,
+    bound: Bound,
+) -> Result<(), Fail> {
+    let done = searched(alloc, network)?;
+    assert_eq!(rt; done.found, found);
+    let log = done.shelf.file("log").ok_or("no log")?;
+    let counts = done.counts;
+    assert_eq!(rt;
+        replayed(alloc, network, log),
+        Ok(Replayed { bound, counts })
+    );
+    Ok(())
+}
+
+// Tables, what a search of their network finds, and the bound of its log.
+const SEARCHES: [(Tables, Found, Bound); 5] = [
+    (ONE_LEVEL, Found::Best(5), Bound::AtLeast(5)),
+    (CLOSER_LEVEL, Found::NoPlan, Bound::NoPlan),
+    (HALF_REDUNDANT, Found::Best(12), Bound::AtLeast(12)),
+    (TOO_REDUNDANT, Found::NoPlan, Bound::NoPlan),
+    (
+        LEVELLING_LINE,
+        Found::Undecided(20, 3, 4, -1, 1),
+        Bound::AtLeast(20),
+    ),
+];
+
+#[test]
+fn levels_to_heights(rt: HostRuntime) -> Result<(), Fail> {
+    for (tables, found, bound) in &SEARCHES {
+        let network = network_of(&rt, rt.alloc(), tables)?;
+        expect_search(&rt, rt.alloc(), &network, *found, *bound)?;
     }
-}
-
-#[test]
-fn a_redundancy_of_a_half_takes_both_levels(rt: HostRuntime) -> Result<(), Fail> {
-    let network = network_of(&rt, rt.alloc(), &HALF_REDUNDANT)?;
-    let done = searched(rt.alloc(), &network)?;
-    assert_eq!(rt; done.found, Found::Best(true, true));
-    assert_eq!(rt; done.counts, counts(3, 1, 3));
-    let log = b"geoplan-log 1\ns 0\ns 1\nc\np 1\ns 1\np 2\np 0\n".as_slice();
-    assert_eq!(rt; done.shelf.file("log"), Some(log));
     Ok(())
 }
 
+// No verdict settles this limit, but the displacement by 1 breaks it.
 #[test]
-fn too_much_redundancy_has_no_plan(rt: HostRuntime) -> Result<(), Fail> {
-    let network = network_of(&rt, rt.alloc(), &TOO_REDUNDANT)?;
-    let done = searched(rt.alloc(), &network)?;
-    assert_eq!(rt; done.found, Found::NoPlan);
-    assert_eq!(rt; done.counts, counts(2, 0, 3));
-    let log = b"geoplan-log 1\ns 0\np 1\ns 1\np 2\np 0\n".as_slice();
-    assert_eq!(rt; done.shelf.file("log"), Some(log));
-    Ok(())
-}
-
-#[test]
-fn a_limit_missed_by_less_than_the_grid_is_open(rt: HostRuntime) -> Result<(), Fail> {
+fn a_limit_missed_by_less_than_the_grid_has_no_plan(rt: HostRuntime) -> Result<(), Fail> {
     let network = missed(rt.alloc())?;
-    let done = searched(rt.alloc(), &network)?;
-    assert_eq!(rt; done.found, Found::Undecided(true, true, 0, 1, -1, 0));
-    assert_eq!(rt; done.counts, counts(1, 1, 1));
-    let log = b"geoplan-log 1\ns 0\nc\np 0\n".as_slice();
-    assert_eq!(rt; done.shelf.file("log"), Some(log));
-    Ok(())
+    expect_search(&rt, rt.alloc(), &network, Found::NoPlan, Bound::NoPlan)
 }
 
 // Each line is one append: the third one fails, halfway.

@@ -1,11 +1,13 @@
 //! Verdicts that were reckoned by hand, or by another program over the definitions.
-ghost use Rattle.std.specs.Prelude.{◌≡◌, ◌<◌, length};
+ghost use Rattle.std.specs.Prelude.{◌≡◌, ◌<◌, length, IfOk};
 ghost use Rattle.pivot_chain.specs.Room.{IsRoomOf};
 
-use crate::networks::{CLOSER_LEVEL, ONE_LEVEL, Tables, network_of};
+use crate::networks::{CLOSER_LEVEL, LEVELLING_LINE, ONE_LEVEL, Tables, WIDER_LINE, network_of};
 use crate::tight_networks::two_heights;
 use geo_model::{Network, Plan, Verdict};
 use pivot_chain::{ChainRoom, verdict};
+use std::alloc::Global;
+use std::process::Abort;
 use std::test::Fail;
 
 // A verdict, of which a proof here need know no more than that its room serves again.
@@ -18,94 +20,77 @@ fn judged(room: &mut ChainRoom, network: &Network, plan: &Plan, limit: u32) -> V
     verdict(room, network, plan, limit)
 }
 
-#[test]
-fn an_equality_is_met(rt: HostRuntime) -> Result<(), Fail> {
-    let network = network_of(&rt, rt.alloc(), &ONE_LEVEL)?;
-    let mut room = ChainRoom::new(rt.alloc(), &network)?;
-    let full = Plan::full(rt.alloc(), 1)?;
-    let none = Plan::empty(rt.alloc(), 1)?;
-    assert_eq!(rt; judged(&mut room, &network, &full, 0), Verdict::Met);
-    assert_eq!(rt; judged(&mut room, &network, &none, 0), Verdict::Refuted);
-    assert_eq!(rt; judged(&mut room, &network, &full, 0), Verdict::Met);
+// The plan of so many candidates but for one, where one is left out.
+fn plan_without(
+    rt: &impl Abort,
+    alloc: Global,
+    count: u32,
+    left_out: Option<u32>,
+) -> Result<Plan, Fail>
+    ensures { IfOk result (λ plan. length plan ≡ count) }
+{
+    let mut plan = Plan::full(alloc, count)?;
+    if let Some(candidate) = left_out {
+        assert!(rt; candidate < count);
+        plan.set(candidate, false);
+    }
+    Ok(plan)
+}
+
+// Asserts the verdict on a limit under the plan of all candidates but for one, twice in the same room.
+fn expect_verdict(
+    rt: &impl Abort,
+    alloc: Global,
+    network: &Network,
+    (left_out, limit): (Option<u32>, u32),
+    expected: Verdict,
+) -> Result<(), Fail> {
+    assert!(rt; (limit as usize) < network.limits().len());
+    let count = network.candidates().len() as u32;
+    let plan = plan_without(rt, alloc, count, left_out)?;
+    let mut room = ChainRoom::new(alloc, network)?;
+    assert_eq!(rt; judged(&mut room, network, &plan, limit), expected);
+    assert_eq!(rt; judged(&mut room, network, &plan, limit), expected);
     Ok(())
 }
 
-#[test]
-fn a_narrower_limit_is_refuted(rt: HostRuntime) -> Result<(), Fail> {
-    let network = network_of(&rt, rt.alloc(), &CLOSER_LEVEL)?;
-    let mut room = ChainRoom::new(rt.alloc(), &network)?;
-    let full = Plan::full(rt.alloc(), 1)?;
-    assert_eq!(rt; judged(&mut room, &network, &full, 0), Verdict::Refuted);
-    Ok(())
-}
-
-const LINE: &str =
-    "l1,level,A,H1,,0.50,,5\nl2,level,H1,H2,,0.50,,5\nl3,level,H2,H3,,0.50,,5\nl4,level,H3,H4,,0.50,,5\n";
-
-// A line of four heights with levels of 0.50 mm, with a limit of 1.0 mm on the last one.
-const LEVELLING_LINE: Tables = Tables {
-    points: "A,,,0.000,,fixed\nH1,,,0.000,,5.0\nH2,,,0.000,,5.0\nH3,,,0.000,,5.0\nH4,,,0.000,,1.0\n",
-    candidates: LINE,
-    redundancy: 0,
-    unknowns: 4,
-    choices: 4,
-    limits: 4,
+const OPEN_AT_THE_LAST_HEIGHT: Verdict = Verdict::Open {
+    step: 4,
+    lo: -1,
+    hi: 1,
 };
 
-// The same with a limit of 1.1 mm on the last one.
-const WIDER_LINE: Tables = Tables {
-    points: "A,,,0.000,,fixed\nH1,,,0.000,,5.0\nH2,,,0.000,,5.0\nH3,,,0.000,,5.0\nH4,,,0.000,,1.1\n",
-    candidates: LINE,
-    redundancy: 0,
-    unknowns: 4,
-    choices: 4,
-    limits: 4,
-};
+// Tables, the candidate that a plan leaves out, a limit, and the verdict. No level reaches the last
+// height of a line whose last level is left out, but the limit on the first one is met.
+const VERDICTS: [(Tables, Option<u32>, u32, Verdict); 7] = [
+    (ONE_LEVEL, None, 0, Verdict::Met),
+    (ONE_LEVEL, Some(0), 0, Verdict::Refuted),
+    (CLOSER_LEVEL, None, 0, Verdict::Refuted),
+    (LEVELLING_LINE, None, 3, OPEN_AT_THE_LAST_HEIGHT),
+    (LEVELLING_LINE, Some(3), 3, Verdict::Refuted),
+    (LEVELLING_LINE, Some(3), 0, Verdict::Met),
+    (WIDER_LINE, None, 3, Verdict::Met),
+];
 
 #[test]
-fn a_levelling_line_is_open(rt: HostRuntime) -> Result<(), Fail> {
-    let network = network_of(&rt, rt.alloc(), &LEVELLING_LINE)?;
-    let mut room = ChainRoom::new(rt.alloc(), &network)?;
-    let full = Plan::full(rt.alloc(), 4)?;
-    let mut short = Plan::full(rt.alloc(), 4)?;
-    short.set(3, false);
-    let open = Verdict::Open {
-        step: 4,
-        lo: -1,
-        hi: 1,
-    };
-    assert_eq!(rt; judged(&mut room, &network, &full, 3), open);
-    assert_eq!(rt; judged(&mut room, &network, &short, 3), Verdict::Refuted);
-    assert_eq!(rt; judged(&mut room, &network, &full, 3), open);
-    // no level reaches the last height, but the limit on the first one is met
-    assert_eq!(rt; judged(&mut room, &network, &short, 0), Verdict::Met);
-    Ok(())
-}
-
-#[test]
-fn a_wider_limit_on_a_levelling_line_is_met(rt: HostRuntime) -> Result<(), Fail> {
-    let network = network_of(&rt, rt.alloc(), &WIDER_LINE)?;
-    let mut room = ChainRoom::new(rt.alloc(), &network)?;
-    let full = Plan::full(rt.alloc(), 4)?;
-    assert_eq!(rt; judged(&mut room, &network, &full, 3), Verdict::Met);
+fn verdicts_on_levels(rt: HostRuntime) -> Result<(), Fail> {
+    for (tables, left_out, limit, expected) in &VERDICTS {
+        let network = network_of(&rt, rt.alloc(), tables)?;
+        expect_verdict(&rt, rt.alloc(), &network, (*left_out, *limit), *expected)?;
+    }
     Ok(())
 }
 
 #[test]
 fn a_free_step_ends_an_open_interval(rt: HostRuntime) -> Result<(), Fail> {
     let network = two_heights(rt.alloc())?;
-    let mut room = ChainRoom::new(rt.alloc(), &network)?;
-    let full = Plan::full(rt.alloc(), 2)?;
-    let mut first = Plan::full(rt.alloc(), 2)?;
-    first.set(1, false);
     let open = Verdict::Open {
         step: 2,
         lo: -1,
         hi: 0,
     };
-    assert_eq!(rt; judged(&mut room, &network, &full, 0), open);
-    assert_eq!(rt; judged(&mut room, &network, &first, 0), Verdict::Refuted);
-    Ok(())
+    expect_verdict(&rt, rt.alloc(), &network, (None, 0), open)?;
+    expect_verdict(&rt, rt.alloc(), &network, (Some(1), 0), Verdict::Refuted)
 }
 
 #[test]

@@ -37,9 +37,9 @@ limit_of n candidates two = record {
   diagonal = λ i lt. below_greater (pos (2 ^ 50)) (pos (2 ^ 12) *ℤ (pos 1000000 *ℤ full_energy candidates (unit_at i))) (load (one ∷ []) (unit_at i)) (few_units (1 == i));
 }
 
-pub grid_row-requires-clause-limit : goal.grid_row-requires-clause-limit
+pub put_row-requires-clause-limit : goal.put_row-requires-clause-limit
 unfolding one
-grid_row-requires-clause-limit g c =
+put_row-requires-clause-limit g c =
     let is : c.as_slice-limit.result.now ≡ one ∷ [] = c.as_slice-limit.ensures.value ∙ c.in_ok-squares.ensures in
     subst (λ (squares : List SquareOf). IsLoad (length c.in_ok-network.network.unknowns) c.in_ok-network.network.candidates (pos 1000000) squares) (sym is)
     (limit_of (length c.in_ok-network.network.unknowns) c.in_ok-network.network.candidates c.in_ok-network.ensures.unknowns)
