@@ -34,7 +34,7 @@ fn read_and_put(alloc: Global, line: &[u8]) -> Result<Vec<u8>, NoMemory> {
 
 #[test]
 fn lines_are_read(rt: HostRuntime) -> Result<(), Fail> {
-    let within: [&[u8]; 11] = [
+    let within: [&[u8]; 13] = [
         b"s 0\n",
         b"s 255\n",
         b"c\n",
@@ -46,12 +46,14 @@ fn lines_are_read(rt: HostRuntime) -> Result<(), Fail> {
         b"x 9999999999999999999 1 9999999999999999999 -9999999999999999999\n",
         b"x 0 1 0 32769\n",
         b"x 1 2 5 1 4 -1\n",
+        b"d 1 0\n",
+        b"d 9655953 1 50 0 1 0 1\n",
     ];
     for line in within {
         let put = read_and_put(rt.alloc(), &line[..line.len().saturating_sub(1)])?;
         assert_eq!(rt; put.as_slice(), line);
     }
-    let outside: [&[u8]; 28] = [
+    let outside: [&[u8]; 30] = [
         b"p 10000000000000000000",
         b"s 00",
         b"s  0",
@@ -62,7 +64,7 @@ fn lines_are_read(rt: HostRuntime) -> Result<(), Fail> {
         b" c",
         b"s -0",
         b"s +1",
-        b"d 1 0",
+        b"d 1",
         b"",
         b"S 0",
         b"p 0\r",
@@ -80,6 +82,8 @@ fn lines_are_read(rt: HostRuntime) -> Result<(), Fail> {
         b"x 0 0 ",
         b"x 0 1 0 10000000000000000000",
         b"x 0 1 0 -",
+        b"d 1 65",
+        b"d 1 1 50 0 1 0",
     ];
     for line in outside {
         let put = read_and_put(rt.alloc(), line)?;
