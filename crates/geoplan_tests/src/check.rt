@@ -59,8 +59,13 @@ fn second_lines_are_refused(rt: HostRuntime) -> Result<(), Fail> {
 }
 
 // Whole logs of two levels, the status, and what is printed.
-const LOGS: [(&[u8], u8, &str); 6] = [
-    (REDUNDANCY_LOG, 0, "accepted\nlog,2,0,3,0,0\nbound none\n"),
+const LOGS: [(&[u8], u8, &str); 7] = [
+    (REDUNDANCY_LOG, 0, "accepted\nlog,2,0,0,3,0\nbound none\n"),
+    (
+        b"geoplan-log 1\ns 0\np 1\ns 1\np 2\np 0\n",
+        0,
+        "accepted\nlog,2,0,3,0,0\nbound none\n",
+    ),
     (
         b"geoplan-log 1\nc\n",
         0,

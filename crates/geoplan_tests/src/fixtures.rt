@@ -30,8 +30,8 @@ pub const ONE_LEVEL_REPORT: &str =
 /// What stands under a log's name before a run.
 pub const OLD_LOG: &[u8] = b"old";
 
-/// The whole log of two levels that miss a redundancy of 0.501.
-pub const REDUNDANCY_LOG: &[u8] = b"geoplan-log 1\ns 0\np 1\ns 1\np 2\np 0\n";
+/// The whole log of two levels that miss a redundancy of 0.501, with cuts of displacements by 1.
+pub const REDUNDANCY_LOG: &[u8] = b"geoplan-log 1\ns 0\nx 1 1 0 1\ns 1\nx 2 1 0 1\nx 0 1 0 1\n";
 
 pub const PLAN: &str = "geoplan plan p.csv c.csv 0 l.log";
 
@@ -82,6 +82,11 @@ pub fn shelf_with(alloc: Global, points: &str, candidates: &str) -> Result<MemSh
     shelf_of(alloc, (points.as_slice(), candidates.as_slice()), OLD_LOG)
 }
 
+/// The status of a run, of which a proof here need know nothing.
+pub fn answered(alloc: Global, words: &Words, shelf: &mut MemShelf, out: &mut MemSink) -> u8 {
+    geoplan(alloc, words, shelf, out)
+}
+
 /// Runs a command line, and answers its status.
 pub fn run(
     rt: &impl Abort,
@@ -90,7 +95,7 @@ pub fn run(
     line: &str,
     out: &mut MemSink,
 ) -> u8 {
-    geoplan(alloc, &words_of(rt, alloc, line), shelf, out)
+    answered(alloc, &words_of(rt, alloc, line), shelf, out)
 }
 
 /// Runs a command line, and asserts what it prints and its status.

@@ -1,6 +1,6 @@
 //! Command lines that are accepted and refused.
-use crate::fixtures::{HEIGHTS, ONE_LEVEL, expect_reading, expect_report, shelf_with};
-use geoplan::{Words, geoplan};
+use crate::fixtures::{HEIGHTS, ONE_LEVEL, answered, expect_reading, expect_report, shelf_with};
+use geoplan::Words;
 use shelf_io::MemSink;
 use std::test::Fail;
 
@@ -39,7 +39,7 @@ fn no_words_are_refused(rt: HostRuntime) -> Result<(), Fail> {
     let alloc = rt.alloc();
     let mut shelf = shelf_with(alloc, HEIGHTS, ONE_LEVEL)?;
     let mut out = MemSink::new(alloc, Vec::new(alloc));
-    let status = geoplan(alloc, &Words::new(alloc), &mut shelf, &mut out);
+    let status = answered(alloc, &Words::new(alloc), &mut shelf, &mut out);
     assert_eq!(rt; status, 2);
     assert_eq!(rt; out.bytes(), b"words not understood\n".as_slice());
     Ok(())
