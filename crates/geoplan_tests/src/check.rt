@@ -11,7 +11,7 @@ use std::test::Fail;
 const REDUNDANT_CHECK: &str = "geoplan check p.csv c.csv 501 l.log";
 
 // Second lines of a log of two levels, behind its head, and what is printed.
-const SECOND_LINES: [(&str, &str); 23] = [
+const SECOND_LINES: [(&str, &str); 28] = [
     ("s 2\n", "refused,2,Range\n"),
     ("s 9999999999999999999\n", "refused,2,Range\n"),
     ("p 3\n", "refused,2,Range\n"),
@@ -27,7 +27,12 @@ const SECOND_LINES: [(&str, &str); 23] = [
     ("x 0 1 1 1\n", "refused,2,Range\n"),
     ("x 1 1 0 1\n", "refused,2,Owner\n"),
     ("x 0 1 0\n", "refused,2,Form\n"),
-    ("d 1 0\n", "refused,2,Form\n"),
+    ("x 0 1 0 0\n", "refused,2,Range\n"),
+    ("x 0 2 0 1 0 1\n", "refused,2,Range\n"),
+    ("d 0 0\n", "refused,2,Range\n"),
+    ("d 17592186044417 0\n", "refused,2,Range\n"),
+    ("x 0 1 0 -0\n", "refused,2,Form\n"),
+    ("d 1 65\n", "refused,2,Form\n"),
     ("p 1\n", "refused,2,Owner\n"),
     ("p 2\n", "refused,2,Owner\n"),
     ("p 0\n", "refused,2,NotRefuted\n"),
@@ -59,7 +64,7 @@ fn second_lines_are_refused(rt: HostRuntime) -> Result<(), Fail> {
 }
 
 // Whole logs of two levels, the status, and what is printed.
-const LOGS: [(&[u8], u8, &str); 7] = [
+const LOGS: [(&[u8], u8, &str); 8] = [
     (REDUNDANCY_LOG, 0, "accepted\nlog,2,0,0,3,0\nbound none\n"),
     (
         b"geoplan-log 1\ns 0\np 1\ns 1\np 2\np 0\n",
@@ -70,6 +75,11 @@ const LOGS: [(&[u8], u8, &str); 7] = [
         b"geoplan-log 1\nc\n",
         0,
         "accepted\nlog,0,1,0,0,0\nbound 0\n",
+    ),
+    (
+        b"geoplan-log 1\nd 1 0\n",
+        0,
+        "accepted\nlog,0,0,0,0,1\nbound 0\n",
     ),
     (
         b"geoplan-log 1\ns 0\np 1\ns 1\np 2\np 0\nc\n",
