@@ -108,7 +108,7 @@ const PLANS: [Failure; 9] = [
         failing: Failing::Sink(1),
         status: 6,
         printed: "plan\ncost 5\ntake,l1\nheight,H,1.0,1.0\nredund",
-        log: b"geoplan-log 1\ns 0\nc\nx 0 1 0 1\n",
+        log: b"geoplan-log 1\nd 17592186044416 1 7378698 0 1 0 1\n",
     },
 ];
 

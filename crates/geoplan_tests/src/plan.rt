@@ -169,8 +169,8 @@ const ONLY_LOGS: [(&str, &str, [&[u8]; 2]); 4] = [
         HEIGHTS,
         ONE_LEVEL,
         [
-            b"geoplan-log 1\ns 0\nc\np 0\n",
             b"geoplan-log 1\ns 0\nc\nx 0 1 0 1\n",
+            b"geoplan-log 1\nd 17592186044416 1 7378698 0 1 0 1\n",
         ],
     ),
     (

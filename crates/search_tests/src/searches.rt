@@ -109,7 +109,7 @@ fn a_failed_append_leaves_whole_lines_before_it(rt: HostRuntime) -> Result<(), F
     shelf.start("log")?;
     let refused = search(rt.alloc(), &network, &mut shelf, "log").err();
     assert_eq!(rt; refused, Some(SearchFault::WriteFault));
-    let log = b"geoplan-log 1\ns 0\ns ".as_slice();
+    let log = b"geoplan-log 1\ns 0\nd 17592186044416 1".as_slice();
     assert_eq!(rt; shelf.file("log"), Some(log));
     Ok(())
 }
