@@ -1,7 +1,7 @@
 //! Runs in which one call of the shelf or of the sink fails.
 use crate::fixtures::{
-    CANDIDATE_HEADER, CLOSER_HEIGHTS, HEIGHTS, OLD_LOG, ONE_LEVEL, POINT_HEADER, REDUNDANCY_LOG,
-    ROWS, TWO_LEVELS, failing_shelf, run, table_of,
+    CANDIDATE_HEADER, CLOSER_HEIGHTS, HEIGHTS, OLD_LOG, ONE_LEVEL, ONE_LEVEL_REPORT, POINT_HEADER,
+    REDUNDANCY_LOG, ROWS, TWO_LEVELS, expect_report, failing_shelf, run, shelf_with, table_of,
 };
 use shelf_io::MemSink;
 use std::alloc::Global;
@@ -28,7 +28,7 @@ struct Failure {
 
 const PLAN: &str = "geoplan plan p.csv c.csv 501 l.log";
 
-const PLANS: [Failure; 9] = [
+const PLANS: [Failure; 8] = [
     Failure {
         points: HEIGHTS,
         candidates: TWO_LEVELS,
@@ -100,15 +100,6 @@ const PLANS: [Failure; 9] = [
         status: 6,
         printed: "",
         log: b"geoplan",
-    },
-    Failure {
-        points: HEIGHTS,
-        candidates: ONE_LEVEL,
-        words: "geoplan plan p.csv c.csv 0 l.log",
-        failing: Failing::Sink(1),
-        status: 6,
-        printed: "plan\ncost 5\ntake,l1\nheight,H,1.0,1.0\nredund",
-        log: b"geoplan-log 1\nd 17592186044416 1 7378698 0 1 0 1\n",
     },
 ];
 
@@ -211,6 +202,23 @@ fn calls_of_a_plan_fail(rt: HostRuntime) -> Result<(), Fail> {
     for failure in &PLANS {
         expect_failure(&rt, rt.alloc(), failure)?;
     }
+    Ok(())
+}
+
+// Half of the report of one level is printed: the log is the one that stands where all of it is.
+#[test]
+fn a_log_is_whole_where_its_report_is_not(rt: HostRuntime) -> Result<(), Fail> {
+    let alloc = rt.alloc();
+    let plan = "geoplan plan p.csv c.csv 0 l.log";
+    let mut planned = shelf_with(alloc, HEIGHTS, ONE_LEVEL)?;
+    let answer = (0, ONE_LEVEL_REPORT, "\nbound 5\n");
+    expect_report(&rt, alloc, &mut planned, plan, answer);
+    let mut shelf = shelf_with(alloc, HEIGHTS, ONE_LEVEL)?;
+    let mut out = MemSink::new(alloc, vec![in alloc; 1]?);
+    assert_eq!(rt; run(&rt, alloc, &mut shelf, plan, &mut out), 6);
+    let printed = b"plan\ncost 5\ntake,l1\nheight,H,1.0,1.0\nredund".as_slice();
+    assert_eq!(rt; out.bytes(), printed);
+    assert!(rt; shelf.file("l.log") == planned.file("l.log"));
     Ok(())
 }
 

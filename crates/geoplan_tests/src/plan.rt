@@ -164,15 +164,7 @@ fn networks_are_planned(rt: HostRuntime) -> Result<(), Fail> {
 
 // Records of two tables, and the logs of which `plan` may leave one: a refuted node is a leaf of a
 // verdict or of a cut.
-const ONLY_LOGS: [(&str, &str, [&[u8]; 2]); 4] = [
-    (
-        HEIGHTS,
-        ONE_LEVEL,
-        [
-            b"geoplan-log 1\ns 0\nc\nx 0 1 0 1\n",
-            b"geoplan-log 1\nd 17592186044416 1 7378698 0 1 0 1\n",
-        ],
-    ),
+const ONLY_LOGS: [(&str, &str, [&[u8]; 2]); 3] = [
     (
         CLOSER_HEIGHTS,
         ONE_LEVEL,

@@ -3,10 +3,11 @@ use crate::fixtures::{
     CANDIDATE_HEADER, HEIGHTS, ONE_LEVEL, POINT_HEADER, ROWS, SPACE_POINTS, expect_reading,
     shelf_with, table_of,
 };
-use candidate_tables::read_candidates;
+use candidate_tables::{Candidates, read_candidates};
+use geo_model::Network;
 use net_build::build;
 use plan_report::rows_text;
-use point_tables::read_points;
+use point_tables::{Points, read_points};
 use std::alloc::Global;
 use std::process::Abort;
 use std::test::Fail;
@@ -55,18 +56,31 @@ fn unknowns_and_rows_are_listed(rt: HostRuntime) -> Result<(), Fail> {
     Ok(())
 }
 
-/// Asserts the text of the unknowns and rows of two tables.
-fn expect_rows(
+// The points of these records, of which a proof here need know nothing.
+fn points_of(alloc: Global, records: &str) -> Result<Points, Fail> {
+    let bytes = table_of(alloc, POINT_HEADER, records)?;
+    Ok(read_points(alloc, bytes.as_slice())?)
+}
+
+// The candidates of these records, of which a proof here need know nothing.
+fn candidates_of(alloc: Global, records: &str, points: &Points) -> Result<Candidates, Fail> {
+    let bytes = table_of(alloc, CANDIDATE_HEADER, records)?;
+    Ok(read_candidates(alloc, bytes.as_slice(), points)?)
+}
+
+// The network of both, of which a proof here need know nothing.
+fn built(alloc: Global, points: &Points, candidates: &Candidates) -> Result<Network, Fail> {
+    Ok(build(alloc, points, candidates, 0)?)
+}
+
+// The text of their unknowns and rows, of which a proof here need know nothing.
+fn spelled(
     rt: &impl Abort,
     alloc: Global,
-    (points, candidates): (&str, &str),
-    expected: &str,
-) -> Result<(), Fail> {
-    let bytes = table_of(alloc, POINT_HEADER, points)?;
-    let points = read_points(alloc, bytes.as_slice())?;
-    let records = table_of(alloc, CANDIDATE_HEADER, candidates)?;
-    let candidates = read_candidates(alloc, records.as_slice(), &points)?;
-    let network = build(alloc, &points, &candidates, 0)?;
+    points: &Points,
+    candidates: &Candidates,
+    network: &Network,
+) -> Result<Vec<u8>, Fail> {
     let count = points.len();
     assert!(rt; network.candidates().len() as u32 == candidates.len());
     assert!(rt;
@@ -75,7 +89,20 @@ fn expect_rows(
             .iter()
             .all(|unknown| unknown.point < count)
     );
-    let text = rows_text(alloc, &points, &candidates, &network)?;
+    Ok(rows_text(alloc, points, candidates, network)?)
+}
+
+/// Asserts the text of the unknowns and rows of two tables.
+fn expect_rows(
+    rt: &impl Abort,
+    alloc: Global,
+    (points, candidates): (&str, &str),
+    expected: &str,
+) -> Result<(), Fail> {
+    let points = points_of(alloc, points)?;
+    let candidates = candidates_of(alloc, candidates, &points)?;
+    let network = built(alloc, &points, &candidates)?;
+    let text = spelled(rt, alloc, &points, &candidates, &network)?;
     assert_eq!(rt; text.as_slice(), expected.as_bytes());
     Ok(())
 }

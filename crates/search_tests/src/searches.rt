@@ -101,15 +101,26 @@ fn a_limit_missed_by_less_than_the_grid_has_no_plan(rt: HostRuntime) -> Result<(
     expect_search(&rt, rt.alloc(), &network, Found::NoPlan, Bound::NoPlan)
 }
 
-// Each line is one append: the third one fails, halfway.
+// Two levels, both of which the limit of 0.9 mm asks for.
+const BOTH_LEVELS: Tables = Tables {
+    points: "A,,,100.000,,fixed\nH,,,101.000,,0.9\n",
+    candidates: "l1,level,A,H,,1.00,,5\nl2,level,A,H,,1.00,,7\n",
+    redundancy: 0,
+    unknowns: 1,
+    choices: 2,
+    limits: 1,
+};
+
+// Each line is one append: the third one fails, halfway. Neither a plan nor a dual bound ends the
+// first two nodes, so that they are splits.
 #[test]
 fn a_failed_append_leaves_whole_lines_before_it(rt: HostRuntime) -> Result<(), Fail> {
-    let network = network_of(&rt, rt.alloc(), &HALF_REDUNDANT)?;
+    let network = network_of(&rt, rt.alloc(), &BOTH_LEVELS)?;
     let mut shelf = MemShelf::new(rt.alloc(), vec![in rt.alloc(); 4]?);
     shelf.start("log")?;
     let refused = search(rt.alloc(), &network, &mut shelf, "log").err();
     assert_eq!(rt; refused, Some(SearchFault::WriteFault));
-    let log = b"geoplan-log 1\ns 0\nd 17592186044416 1".as_slice();
+    let log = b"geoplan-log 1\ns 0\ns ".as_slice();
     assert_eq!(rt; shelf.file("log"), Some(log));
     Ok(())
 }
