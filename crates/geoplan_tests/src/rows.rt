@@ -62,15 +62,13 @@ fn points_of(alloc: Global, records: &str) -> Result<Points, Fail> {
     Ok(read_points(alloc, bytes.as_slice())?)
 }
 
-// The candidates of these records, of which a proof here need know nothing.
-fn candidates_of(alloc: Global, records: &str, points: &Points) -> Result<Candidates, Fail> {
+// The candidates of these records with the network of both tables, of which a proof here need know
+// nothing.
+fn built(alloc: Global, points: &Points, records: &str) -> Result<(Candidates, Network), Fail> {
     let bytes = table_of(alloc, CANDIDATE_HEADER, records)?;
-    Ok(read_candidates(alloc, bytes.as_slice(), points)?)
-}
-
-// The network of both, of which a proof here need know nothing.
-fn built(alloc: Global, points: &Points, candidates: &Candidates) -> Result<Network, Fail> {
-    Ok(build(alloc, points, candidates, 0)?)
+    let candidates = read_candidates(alloc, bytes.as_slice(), points)?;
+    let network = build(alloc, points, &candidates, 0)?;
+    Ok((candidates, network))
 }
 
 // The text of their unknowns and rows, of which a proof here need know nothing.
@@ -100,8 +98,7 @@ fn expect_rows(
     expected: &str,
 ) -> Result<(), Fail> {
     let points = points_of(alloc, points)?;
-    let candidates = candidates_of(alloc, candidates, &points)?;
-    let network = built(alloc, &points, &candidates)?;
+    let (candidates, network) = built(alloc, &points, candidates)?;
     let text = spelled(rt, alloc, &points, &candidates, &network)?;
     assert_eq!(rt; text.as_slice(), expected.as_bytes());
     Ok(())
