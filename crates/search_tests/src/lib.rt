@@ -7,6 +7,8 @@ mod certificates;
 #[cfg(test)]
 mod cuts;
 #[cfg(test)]
+mod dual_bounds;
+#[cfg(test)]
 mod dual_replays;
 #[cfg(test)]
 mod grids;

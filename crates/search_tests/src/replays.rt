@@ -1,6 +1,7 @@
 //! Logs of small networks of one new height, with levels of 1.00 mm to it. What they prove, and where
 //! they are wrong, was reckoned by an independent program.
-use crate::networks::{CLOSER_LEVEL, ONE_LEVEL, TOO_REDUNDANT, network_of};
+use crate::networks::{CLOSER_LEVEL, LEVELLING_LINE, ONE_LEVEL, TOO_REDUNDANT, network_of};
+use geo_base::NoMemory;
 use geo_model::{Counts, Network};
 use log_check::{Bound, LogFault, LogKind, ReplayAnswer, Replayed, replay};
 use std::alloc::Global;
@@ -171,5 +172,93 @@ fn logs_of_a_level_that_misses_its_limit(rt: HostRuntime) -> Result<(), Fail> {
     ] {
         assert_eq!(rt; replayed(rt.alloc(), &network, log), expected);
     }
+    Ok(())
+}
+
+// First lines of logs of a line of four heights, and what is wrong with each, by hand. All levels
+// meet each limit, the last one with equality: the moves by 1 to 4 are those that come closest.
+const DISPLACEMENTS: [(&[u8], LogKind); 12] = [
+    (b"geoplan-log 1\nx 3 2 1 1 0 1\n", LogKind::Range),
+    (b"geoplan-log 1\nx 3 2 0 1 0 1\n", LogKind::Range),
+    (b"geoplan-log 1\nx 3 3 0 1 2 1 1 1\n", LogKind::Range),
+    (b"geoplan-log 1\nx 3 1 4 1\n", LogKind::Range),
+    (b"geoplan-log 1\nx 3 1 0 -32769\n", LogKind::Range),
+    (b"geoplan-log 1\nx 3 2 0 1 1 0\n", LogKind::Range),
+    (
+        b"geoplan-log 1\nx 3 5 0 1 1 1 2 1 3 1 4 1\n",
+        LogKind::Range,
+    ),
+    (b"geoplan-log 1\nx 4 1 0 1\n", LogKind::Range),
+    (b"geoplan-log 1\nx 3 4 0 1 1 2 2 3 3 4\n", LogKind::CutHolds),
+    (
+        b"geoplan-log 1\nx 3 4 0 32768 1 -32768 2 1 3 -1\n",
+        LogKind::CutHolds,
+    ),
+    (b"geoplan-log 1\nx 3 2 0 1 1 -0\n", LogKind::Form),
+    (b"geoplan-log 1\nx 3 2 0 1\n", LogKind::Form),
+];
+
+#[test]
+fn displacements_with_a_fault(rt: HostRuntime) -> Result<(), Fail> {
+    let network = network_of(&rt, rt.alloc(), &LEVELLING_LINE)?;
+    for (log, kind) in DISPLACEMENTS {
+        assert_eq!(rt; replayed(rt.alloc(), &network, log), fault(2, kind));
+    }
+    Ok(())
+}
+
+// Where the last level is left out, by hand: its height moves alone; or all move, where the energy
+// of three levels whose ends move apart by 2 each is 48 times the load of a move of the last height
+// by 1, the load of a move by 7 is 49 times as much, and that of one by 6 only 36 times.
+#[test]
+fn displacements_without_a_level(rt: HostRuntime) -> Result<(), Fail> {
+    let network = network_of(&rt, rt.alloc(), &LEVELLING_LINE)?;
+    for (log, expected) in [
+        (
+            b"geoplan-log 1\ns 3\nc\nx 3 1 3 -1\n".as_slice(),
+            accepted(Bound::AtLeast(5), [1, 1, 0, 1]),
+        ),
+        (
+            b"geoplan-log 1\ns 3\nc\nx 3 4 0 2 1 4 2 6 3 7\n".as_slice(),
+            accepted(Bound::AtLeast(5), [1, 1, 0, 1]),
+        ),
+        (
+            b"geoplan-log 1\ns 3\nc\nx 3 4 0 2 1 4 2 6 3 -6\n".as_slice(),
+            fault(4, LogKind::CutHolds),
+        ),
+    ] {
+        assert_eq!(rt; replayed(rt.alloc(), &network, log), expected);
+    }
+    Ok(())
+}
+
+// A head, so many times the same part, and the end of a line.
+fn repeated(alloc: Global, head: &[u8], part: &[u8], count: u32) -> Result<Vec<u8>, NoMemory> {
+    let mut log = head.to_vec(alloc)?;
+    for _ in 0..count {
+        log.extend_from_slice(part)?;
+    }
+    log.push(b'\n')?;
+    Ok(log)
+}
+
+// 64 shares of 1 are as one of 64, where the divisor is 16 times each coefficient and bound: both
+// levels cost more than they take off, and the dual bound is 64 / 16, by hand.
+#[test]
+fn lines_of_64_shares_and_of_64_pairs(rt: HostRuntime) -> Result<(), Fail> {
+    let alloc = rt.alloc();
+    let network = network_of(&rt, alloc, &TOO_REDUNDANT)?;
+    let share = b" 1 0 1 0 1".as_slice();
+    let log = repeated(alloc, b"geoplan-log 1\nd 190734848 64", share, 64)?;
+    let mut counts = Counts::none();
+    counts.duals = 1;
+    let bound = Bound::AtLeast(4);
+    let accepted = Ok(Replayed { bound, counts });
+    assert_eq!(rt; replayed(alloc, &network, log.as_slice()), accepted);
+    let log = repeated(alloc, b"geoplan-log 1\nd 190734848 65", share, 65)?;
+    let range = fault(2, LogKind::Range);
+    assert_eq!(rt; replayed(alloc, &network, log.as_slice()), range);
+    let log = repeated(alloc, b"geoplan-log 1\nx 0 64", b" 0 1", 64)?;
+    assert_eq!(rt; replayed(alloc, &network, log.as_slice()), range);
     Ok(())
 }
