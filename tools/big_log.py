@@ -5,15 +5,15 @@
 
 FOLDER gets points.csv and candidates.csv, a new height whose limit no plan of its DEPTH levels
 meets, and big.log: the whole tree that splits on each level in turn, with 2^DEPTH leaves, a quarter
-of each kind (`c`, `p`, `x`, and `d` with twelve shares). Each leaf holds, since the limit is missed
-by all levels together. DEPTH is at most 30; 22 gives some 220 MB.
+of each kind (`c`, `p`, `x`, and `d` with seventeen shares). Each leaf holds, since the limit is missed
+by all levels together. DEPTH is at most 30; 22 gives 247 MB.
 """
 import os
 import sys
 
 POINTS = "name,x,y,z,plane,height\nA,,,100.000,,fixed\nH,,,101.000,,0.1\n"
 HEADER = "name,kind,from,to,to2,sd,sdh,price\n"
-DUAL = b"d 9655953 12" + b" 50 0 1 0 1" * 12 + b"\n"
+DUAL = b"d 9655953 17" + b" 50 0 1 0 1" * 17 + b"\n"
 LEAVES = (b"c\n", b"p 0\n", b"x 0 1 0 1\n", DUAL)
 
 
