@@ -30,4 +30,6 @@ mod rows;
 #[cfg(test)]
 mod scripts;
 #[cfg(test)]
+mod wide_lines;
+#[cfg(test)]
 mod words;
