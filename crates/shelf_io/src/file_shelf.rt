@@ -7,11 +7,13 @@ use crate::access::Access;
 use crate::faults::Faults;
 use crate::part_answer::PartAnswer;
 use crate::read_answer::ReadAnswer;
+use crate::seen_files::SeenFiles;
 use crate::shelf::Shelf;
 use crate::transfer::{read_most, read_up_to, write_whole};
 use crate::write_answer::WriteAnswer;
 use std::alloc::Global;
 use std::fs;
+use std::fs::OpenFile;
 use std::io::{Read, Seek, SeekFrom};
 use std::rt::Files;
 
@@ -31,7 +33,9 @@ struct ReadFile<F> {
     at: u64,
 }
 
-/// The files of the system. It doesn't tell what they hold. A file that isn't there is a fault.
+/// The files of the system. It doesn't tell what they hold. A file that isn't there is a fault, and so
+/// is a start of a regular file that this shelf opened under another name: a link to a table, given as
+/// the name of a log, would lose the table.
 #[derive(Drop)]
 pub struct FileShelf<'r, R: Files> {
     rt: &'r R,
@@ -39,6 +43,7 @@ pub struct FileShelf<'r, R: Files> {
     faults: Faults,
     opened: Option<OpenedFile<R::File>>,
     reading: Option<ReadFile<R::File>>,
+    seen: SeenFiles,
 }
 
 impl<'r, R: Files> Shelf for FileShelf<'r, R> {
@@ -53,7 +58,7 @@ impl<'r, R: Files> Shelf for FileShelf<'r, R> {
 
     fn read_whole(&mut self, name: &str, limit: u64, into: &mut Vec<u8>) -> Result<(), ReadAnswer> {
         let kept = String::from_str(self.alloc, name)?;
-        match read_file(self.rt, name, limit, into) {
+        match read_file(self.rt, self.alloc, &mut self.seen, name, limit, into) {
             Err(ReadAnswer::Failed) => {
                 self.faults.add(Access::Read, kept);
                 Err(ReadAnswer::Failed)
@@ -71,9 +76,13 @@ impl<'r, R: Files> Shelf for FileShelf<'r, R> {
     ) -> Result<u64, PartAnswer> {
         let kept = String::from_str(self.alloc, name)?;
         let before = self.reading.take();
-        let Some(mut file) = file_at(self.rt, before, name, at) else {
-            self.faults.add(Access::Read, kept);
-            return Err(PartAnswer::Failed);
+        let mut file = match file_at(self.rt, self.alloc, &mut self.seen, before, name, at) {
+            Ok(file) => file,
+            Err(PartAnswer::Failed) => {
+                self.faults.add(Access::Read, kept);
+                return Err(PartAnswer::Failed);
+            }
+            Err(PartAnswer::NoMemory) => return Err(PartAnswer::NoMemory),
         };
         match read_file_part(&mut file, limit, into) {
             Ok(count) => {
@@ -96,7 +105,7 @@ impl<'r, R: Files> Shelf for FileShelf<'r, R> {
         self.opened = None;
         self.reading = None;
         let name_kept = String::from_str(self.alloc, name)?;
-        match fs::create(self.rt, name) {
+        match create_seen(self.rt, self.alloc, &mut self.seen, name) {
             Ok(file) => {
                 self.opened = Some(OpenedFile {
                     name: name_kept,
@@ -104,10 +113,11 @@ impl<'r, R: Files> Shelf for FileShelf<'r, R> {
                 });
                 Ok(())
             }
-            Err(_) => {
+            Err(WriteAnswer::Failed) => {
                 self.faults.add(Access::Write, name_kept);
                 Err(WriteAnswer::Failed)
             }
+            Err(WriteAnswer::NoMemory) => Err(WriteAnswer::NoMemory),
         }
     }
 
@@ -134,20 +144,29 @@ impl<'r, R: Files> FileShelf<'r, R> {
             faults: Faults::none(),
             opened: None,
             reading: None,
+            seen: SeenFiles::none(alloc),
         }
     }
 }
 
 /// Opens the file and appends its bytes to `into`, which stays as it was after a refusal.
-fn read_file<R: Files>(rt: &R, name: &str, limit: u64, into: &mut Vec<u8>) -> Result<(), ReadAnswer>
+fn read_file<R: Files>(
+    rt: &R,
+    alloc: Global,
+    seen: &mut SeenFiles,
+    name: &str,
+    limit: u64,
+    into: &mut Vec<u8>,
+) -> Result<(), ReadAnswer>
     requires { limit ≤ 2 ^ 28 }
     ensures appends { OnOk result ((bytes : List ℕ) × (length bytes ≤ limit)
         × (into.new.items ≡ into.old.items ++ bytes)) }
     ensures unread { OnErr result (into.new.items ≡ into.old.items) }
 {
-    let mut file = match fs::open(rt, name) {
+    let mut file = match open_seen(rt, alloc, seen, name) {
         Ok(file) => file,
-        Err(_) => return Err(ReadAnswer::Failed),
+        Err(PartAnswer::Failed) => return Err(ReadAnswer::Failed),
+        Err(PartAnswer::NoMemory) => return Err(ReadAnswer::NoMemory),
     };
     let start = into.len();
     match read_up_to(&mut file, limit, into) {
@@ -162,23 +181,57 @@ fn read_file<R: Files>(rt: &R, name: &str, limit: u64, into: &mut Vec<u8>) -> Re
 /// The file, to be read from `at` on: the one that was read up to there, else opened anew.
 fn file_at<R: Files>(
     rt: &R,
+    alloc: Global,
+    seen: &mut SeenFiles,
     before: Option<ReadFile<R::File>>,
     name: &str,
     at: u64,
-) -> Option<R::File> {
+) -> Result<R::File, PartAnswer> {
     if let Some(kept) = before {
         if kept.at == at && kept.name.as_str() == name {
-            return Some(kept.file);
+            return Ok(kept.file);
         }
     }
-    let mut file = match fs::open(rt, name) {
-        Ok(file) => file,
-        Err(_) => return None,
-    };
+    let mut file = open_seen(rt, alloc, seen, name)?;
     if at > 0 && file.seek(SeekFrom::Start(at)).is_err() {
-        return None;
+        return Err(PartAnswer::Failed);
     }
-    Some(file)
+    Ok(file)
+}
+
+/// Opens the file for reading, and keeps which one it is.
+fn open_seen<R: Files>(
+    rt: &R,
+    alloc: Global,
+    seen: &mut SeenFiles,
+    name: &str,
+) -> Result<R::File, PartAnswer> {
+    let Ok(file) = fs::open(rt, name) else {
+        return Err(PartAnswer::Failed);
+    };
+    if let Ok(known) = file.metadata() {
+        seen.add(alloc, name, &known)?;
+    }
+    Ok(file)
+}
+
+/// Makes the file hold no bytes, unless it was opened under another name, and keeps which one it is.
+fn create_seen<R: Files>(
+    rt: &R,
+    alloc: Global,
+    seen: &mut SeenFiles,
+    name: &str,
+) -> Result<R::File, WriteAnswer> {
+    if seen.has_another_name(rt, name) {
+        return Err(WriteAnswer::Failed);
+    }
+    let Ok(file) = fs::create(rt, name) else {
+        return Err(WriteAnswer::Failed);
+    };
+    if let Ok(known) = file.metadata() {
+        seen.add(alloc, name, &known)?;
+    }
+    Ok(file)
 }
 
 /// Appends the next bytes of a file to `into`, which stays as it was after a refusal.

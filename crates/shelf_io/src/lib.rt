@@ -21,6 +21,7 @@ mod mem_sink;
 mod out_sink;
 mod part_answer;
 mod read_answer;
+mod seen_files;
 mod shelf;
 mod sink;
 mod stored_file;

@@ -2,8 +2,9 @@ ghost use Rattle.std.specs.Prelude.{◌≡◌, None};
 ghost use Rattle.shelf_io.specs.States.{new_sink};
 
 use crate::sink::Sink;
-use crate::transfer::print_whole;
+use crate::transfer::write_whole;
 use crate::write_answer::WriteAnswer;
+use std::io;
 
 /// The standard output. It doesn't tell what was written.
 #[derive(Drop)]
@@ -16,7 +17,7 @@ impl<'r, R: Print> Sink for OutSink<'r, R> {
     ghost state = { λ sink. record { written = None; faults = sink.faults } };
 
     fn put(&mut self, piece: &[u8]) -> Result<(), WriteAnswer> {
-        if print_whole(self.rt, piece) {
+        if write_whole(&mut io::writer(self.rt), piece) {
             return Ok(());
         }
         self.faults = self.faults.saturating_add(1);

@@ -86,15 +86,3 @@ pub(crate) fn write_whole<W: Write>(writer: &mut W, piece: &[u8]) -> bool
     }
     true
 }
-
-/// Prints the whole piece, and says whether that was done. It isn't where nothing is taken.
-pub(crate) fn print_whole<R: Print>(rt: &R, piece: &[u8]) -> bool {
-    let mut rest = piece;
-    while !rest.is_empty() {
-        match rt.write_some(rest) {
-            Ok(taken) if taken > 0 => rest = &rest[taken..],
-            _ => return false,
-        }
-    }
-    true
-}

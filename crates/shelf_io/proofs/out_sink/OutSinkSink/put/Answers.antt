@@ -3,9 +3,9 @@ use Rattle.shelf_io.specs.Written.{with_written}
 use Rattle.shelf_io.proofs.out_sink.OutSinkSink.put.Goals as goal
 
 -- nothing is told before or after
-pub returns-then-print_whole-clause-added : goal.returns-then-print_whole-clause-added
+pub returns-then-write_whole-clause-added : goal.returns-then-write_whole-clause-added
 unfolding with_written
-returns-then-print_whole-clause-added g c = refl
+returns-then-write_whole-clause-added g c = refl
 
 pub returns-clause-refused : goal.returns-clause-refused
 unfolding with_written
