@@ -14,7 +14,7 @@ use Rattle.lent_parts.specs.Triangle.{tri_row}
 use Rattle.chain_step.specs.Step.{over_of}
 use Rattle.chain_step.specs.declared.side.Side.TheVariants.{Lower, Upper}
 use Rattle.pivot_chain.specs.Chain.{StopsAt}
-use Rattle.pivot_chain.specs.Verdict.{verdict_from, verdict_of}
+use Rattle.pivot_chain.specs.Verdict.{verdict_from, verdict_of, verdict_on}
 use Rattle.pivot_chain.specs.declared.chain.Stop.{Stop}
 use Rattle.pivot_chain.proofs.ChainSteps.{outcome_open, pivot_read}
 use Rattle.pivot_chain.proofs.Judged.{step_range, tall_lower, tall_upper}
@@ -52,7 +52,7 @@ held_told network limit held image e is = e ∙ (is.exact ∙ ap (λ (i : ImageO
 -- ---- the three verdicts
 pub met_told : (network : NetworkOf) (limit : LimitOf) (held : Held) → held_image held ≡ image_of network limit held.plan → held.factors.lower.stop ≡ None
     → Met ≡ verdict_of network held.plan limit
-unfolding verdict_of
+unfolding verdict_of verdict_on
 met_told network limit held e none =
     let low = lower_grid network held.plan limit.alpha limit.squares in
     let high = upper_grid network held.plan limit.alpha limit.squares in
@@ -67,7 +67,7 @@ low_stop network limit held low e some =
 
 pub refuted_told : (network : NetworkOf) (limit : LimitOf) (held : Held) (first second : Stop) → held_image held ≡ image_of network limit held.plan → held.factors.lower.stop ≡ Some first
     → held.factors.upper.stop ≡ Some second → Refuted ≡ verdict_of network held.plan limit
-unfolding verdict_of
+unfolding verdict_of verdict_on
 refuted_told network limit held first second e some other =
     let low = lower_grid network held.plan limit.alpha limit.squares in
     let high = upper_grid network held.plan limit.alpha limit.squares in
@@ -89,7 +89,7 @@ upper_row m chain k e none lt inside = by chain.rows chain.stop e none inside
 pub open_told : (network : NetworkOf) (limit : LimitOf) (held : Held) (low : Stop) (row : List ℤ) → held_image held ≡ image_of network limit held.plan → held.factors.lower.stop ≡ Some low
     → held.factors.upper.stop ≡ None → row ≡ tri_row held.factors.upper.rows (low.step - 1) → low.step ≤ length held.factors.upper.rows
     → Open low.step low.value (at row 0) ≡ verdict_of network held.plan limit
-unfolding verdict_of
+unfolding verdict_of verdict_on
 open_told network limit held low row e some none is inside =
     let lower = lower_grid network held.plan limit.alpha limit.squares in
     let upper = upper_grid network held.plan limit.alpha limit.squares in

@@ -18,7 +18,7 @@ use Rattle.chain_step.specs.Step.{over_of}
 use Rattle.pivot_chain.specs.Chain.{chain_of, StopsAt, IsSmall}
 use Rattle.pivot_chain.specs.Judging.{lower_of, upper_of, IsMade}
 use Rattle.pivot_chain.specs.declared.grids.Grids.{Grids}
-use Rattle.pivot_chain.specs.Verdict.{verdict_from, verdict_of}
+use Rattle.pivot_chain.specs.Verdict.{verdict_from, verdict_of, verdict_on}
 use Rattle.chain_step.specs.declared.side.Side.{Side}
 use Rattle.pivot_chain.specs.declared.chain.Stop.{Stop}
 
@@ -115,14 +115,17 @@ load_of network form alpha squares bounded e f =
     subst (λ a. IsLoad (length network.unknowns) network.candidates a squares) (sym e) (subst (λ s. IsLoad (length network.unknowns) network.candidates form.alpha s) (sym f) bounded.bounded)
 
 -- ---- the verdict
-pub verdict_is : (network : NetworkOf) (plan held : List Bool) (form l : LimitOf) (alpha : ℤ) (squares : List SquareOf) (lower upper : List (List ℤ))
-    → lower ≡ lower_grid network held alpha squares → upper ≡ upper_grid network held alpha squares → held ≡ plan → alpha ≡ form.alpha → squares ≡ form.squares → form ≡ l
-    → verdict_from (outcome_on lower upper) ≡ verdict_of network plan l
+pub verdict_is : (network : NetworkOf) (plan held : List Bool) (alpha : ℤ) (squares : List SquareOf) → held ≡ plan
+    → verdict_from (outcome_on (lower_grid network held alpha squares) (upper_grid network held alpha squares)) ≡ verdict_on network plan alpha squares
+unfolding verdict_on
+verdict_is network plan held alpha squares e =
+    ap (λ h. verdict_from (outcome_on (lower_grid network h alpha squares) (upper_grid network h alpha squares))) e
+
+-- that of a limit with this factor and these squares
+pub verdict_on_limit : (network : NetworkOf) (plan : List Bool) (alpha : ℤ) (squares : List SquareOf) (l : LimitOf) → l.alpha ≡ alpha → l.squares ≡ squares
+    → verdict_on network plan alpha squares ≡ verdict_of network plan l
 unfolding verdict_of
-verdict_is network plan held form l alpha squares lower upper e1 e2 e3 e4 e5 e6 =
-    ap₂ (λ p q. verdict_from (outcome_on p q))
-    (e1 ∙ ap₂ (λ h a. lower_grid network h a squares) e3 (e4 ∙ ap (λ (v : LimitOf). v.alpha) e6) ∙ ap (lower_grid network plan l.alpha) (e5 ∙ ap (λ (v : LimitOf). v.squares) e6))
-    (e2 ∙ ap₂ (λ h a. upper_grid network h a squares) e3 (e4 ∙ ap (λ (v : LimitOf). v.alpha) e6) ∙ ap (upper_grid network plan l.alpha) (e5 ∙ ap (λ (v : LimitOf). v.squares) e6))
+verdict_on_limit network plan alpha squares l e f = ap₂ (verdict_on network plan) (sym e) (sym f)
 
 -- ---- the step at which a chain stops
 pub step_range : (side : Side) (m : List (List ℤ)) (stop : Stop) → StopsAt (chain_of side m) stop → (1 ≤ stop.step) × (stop.step ≤ length m)

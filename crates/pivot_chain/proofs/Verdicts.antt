@@ -16,7 +16,7 @@ use Rattle.geo_model.proofs.EnergyLemmas.{MeetsLimit-grows}
 use Rattle.limit_forms.specs.Grid.{lower_grid, upper_grid}
 use Rattle.limit_forms.proofs.GridEntries.{lower_triangle}
 use Rattle.limit_forms.proofs.GridVerdicts.{met_everywhere, refuted_somewhere}
-use Rattle.pivot_chain.specs.Verdict.{verdict_from, verdict_of}
+use Rattle.pivot_chain.specs.Verdict.{verdict_from, verdict_of, verdict_on}
 
 -- ---- a verdict comes from one outcome
 pub from_met : (o : Outcome) → verdict_from o ≡ Met → o ≡ met
@@ -58,21 +58,21 @@ from_open (open_at s l h) step lo hi e = same
 -- ---- the laws
 pub met_sound : (network : NetworkOf) (plan : List Bool) (limit : LimitOf) → IsNetwork network → IsLimit network limit
     → verdict_of network plan limit ≡ Met → MeetsLimit network plan limit
-unfolding verdict_of
+unfolding verdict_of verdict_on
 met_sound network plan limit bounds is_limit e x =
     met_everywhere network plan limit.alpha limit.squares x bounds is_limit.bounded
     (from_met (outcome_on (lower_grid network plan limit.alpha limit.squares) (upper_grid network plan limit.alpha limit.squares)) e)
 
 pub refuted_sound : (network : NetworkOf) (plan : List Bool) (limit : LimitOf) → IsNetwork network → IsLimit network limit
     → verdict_of network plan limit ≡ Refuted → (x : Displaced) × Breaks network plan limit x
-unfolding verdict_of
+unfolding verdict_of verdict_on
 refuted_sound network plan limit bounds is_limit e =
     refuted_somewhere network plan limit.alpha limit.squares bounds is_limit.bounded
     (from_refuted (outcome_on (lower_grid network plan limit.alpha limit.squares) (upper_grid network plan limit.alpha limit.squares)) e)
 
 open_sound : (network : NetworkOf) (plan : List Bool) (limit : LimitOf) (step : ℕ) (lo hi : ℤ) → verdict_of network plan limit ≡ Open step lo hi
     → (lo ≤ℤ pos 0) × (pos 0 ≤ℤ hi) × (1 ≤ step) × (step ≤ length network.unknowns)
-unfolding verdict_of
+unfolding verdict_of verdict_on
 open_sound network plan limit step lo hi e =
     let lower = lower_grid network plan limit.alpha limit.squares in
     let upper = upper_grid network plan limit.alpha limit.squares in

@@ -9,7 +9,7 @@ ghost use Rattle.geo_model.specs.Values.{factor_at, with_value, row_limit, IsVal
 ghost use Rattle.geo_model.specs.declared.verdict.Verdict.TheVariants.{Met, Refuted, Open};
 ghost use Rattle.pivot_chain.specs.Judging.{lower_of, upper_of, IsMade};
 ghost use Rattle.pivot_chain.specs.Room.{IsRoomOf, IsChainsOf};
-ghost use Rattle.pivot_chain.specs.Verdict.{verdict_from, verdict_of};
+ghost use Rattle.pivot_chain.specs.Verdict.{verdict_from, verdict_of, verdict_on};
 
 use crate::grids::Grids;
 use crate::plan::bring_to;
@@ -144,7 +144,7 @@ fn verdict_on(
     requires chains { IsChainsOf network.now chains.old }
     requires plan { length plan.now ≡ length network.now.candidates }
     requires bounds { IsLoad (length network.now.unknowns) network.now.candidates factor squares.now }
-    ensures exact { (l : LimitOf) → l.alpha ≡ factor → l.squares ≡ squares.now → result ≡ verdict_of network.now plan.now l }
+    ensures exact { result ≡ verdict_on network.now plan.now factor squares.now }
     ensures kept { IsChainsOf network.now chains.new }
 {
     bring_to(&mut chains.normal, network, plan);

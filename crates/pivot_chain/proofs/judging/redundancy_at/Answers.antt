@@ -9,6 +9,7 @@ use Rattle.geo_model.specs.Values.{row_square, row_limit}
 use Rattle.geo_model.proofs.RowLoads.{network-row-load}
 use Rattle.pivot_chain.specs.Room.{RoomOf}
 use Rattle.pivot_chain.specs.Verdict.{verdict_of}
+use Rattle.pivot_chain.proofs.Judged.{verdict_on_limit}
 use Rattle.pivot_chain.proofs.Values.{found_at, load_along, read_at, same_found, read_square, row_limit_bounded, met_there, refuted_there}
 use Rattle.pivot_chain.proofs.Verdicts.{open_interval}
 use Rattle.pivot_chain.proofs.judging.redundancy_at.Goals as goal
@@ -48,7 +49,8 @@ judged c =
     let square = read_square c.write_row.new.squares (length c.entries.result.now) (length row.entries) _ c.index.result.now row (rw kept at c.index.ensures) (ap length c.entries.ensures) c.write_row.ensures.square in
     let squares = c.from_ref-square.ensures.value ∙ ap (λ (q : SquareOf). q ∷ []) square in
     let known = simp (to_z-of_z, g) at c.verdict_on.ensures.exact in
-    known (row_limit c.args.candidate c.args.row row c.args.value) (sym c.redundancy_factor-factor.ensures) (sym squares)
+    known
+    ∙ verdict_on_limit c.args.network.now c.args.plan.now c.redundancy_factor-factor.result c.from_ref-square.result.now (row_limit c.args.candidate c.args.row row c.args.value) (sym c.redundancy_factor-factor.ensures) (sym squares)
 
 is_limit : (c : goal.After-verdict_on) → IsLimit c.args.network.now (row_limit c.args.candidate c.args.row c.index-observed.result.now c.args.value)
 is_limit c =

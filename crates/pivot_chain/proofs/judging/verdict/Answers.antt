@@ -3,7 +3,7 @@ use Rattle.std.proofs.lemmas.Int.{to_z-of_z}
 use Rattle.std.proofs.lemmas.Option.{slice_get-get_or}
 use Rattle.geo_model.specs.Limit.{LimitOf}
 use Rattle.pivot_chain.specs.Room.{RoomOf, IsChainsOf, HasEachLength}
-use Rattle.pivot_chain.proofs.Judged.{limit_at, same_limit, load_of}
+use Rattle.pivot_chain.proofs.Judged.{limit_at, same_limit, load_of, verdict_on_limit}
 use Rattle.pivot_chain.proofs.Verdicts.{open_interval, met_holds, refuted_breaks, met_grows}
 use Rattle.pivot_chain.proofs.judging.verdict.Goals as goal
 
@@ -26,7 +26,9 @@ exact c = λ l e.
     let squares : c.as_slice.result.now ≡ c.index-limits-limit.result.squares = c.as_slice.ensures.value ∙ ap (λ (v : LimitOf). v.squares) c.form.view_is in
     let same = same_limit c.limits.result.now c.args.limit c.index-limits-limit.result l c.index-limits-limit.is (rw c.limits.ensures.value e) in
     let judged = simp (to_z-of_z, f) at c.verdict_on.ensures.exact in
-    judged l (ap (λ (v : LimitOf). v.alpha) (sym same) ∙ sym alpha) (ap (λ (v : LimitOf). v.squares) (sym same) ∙ sym squares)
+    judged
+    ∙ verdict_on_limit c.args.network.now c.args.plan.now c.form.inside.alpha c.as_slice.result.now l
+    (ap (λ (v : LimitOf). v.alpha) (sym same) ∙ sym alpha) (ap (λ (v : LimitOf). v.squares) (sym same) ∙ sym squares)
 
 pub returns-clause-exact : goal.returns-clause-exact
 returns-clause-exact c = exact c

@@ -6,7 +6,7 @@ use Rattle.geo_model.specs.Values.{with_value, IsValueOf}
 use Rattle.geo_model.specs.declared.limit.LimitKind.{LimitKind}
 use Rattle.pivot_chain.specs.Verdict.{verdict_of}
 use Rattle.pivot_chain.specs.Room.{RoomOf, IsChainsOf, HasEachLength}
-use Rattle.pivot_chain.proofs.Judged.{limit_at}
+use Rattle.pivot_chain.proofs.Judged.{limit_at, verdict_on_limit}
 use Rattle.pivot_chain.proofs.Values.{found_at, same_found, factor_is, bears, value_limit, met_there, refuted_there}
 use Rattle.pivot_chain.proofs.Verdicts.{open_interval}
 use Rattle.pivot_chain.proofs.judging.verdict_at.Goals as goal
@@ -41,7 +41,8 @@ judged c =
     let form = c.index-limits-limit.result in
     let made = factor_is form c.form.inside.kind c.form.inside.alpha c.factor_of-factor.result c.args.value (ap (λ (v : LimitOf). v.kind) c.form.view_is) (ap (λ (v : LimitOf). v.alpha) c.form.view_is) (simp (to_z-of_z, f) at c.factor_of-factor.ensures) in
     let known = simp (to_z-of_z, g) at c.verdict_on.ensures.exact in
-    known (with_value form c.args.value) made (sym (c.as_slice.ensures.value ∙ ap (λ (v : LimitOf). v.squares) c.form.view_is))
+    known
+    ∙ verdict_on_limit c.args.network.now c.args.plan.now c.factor_of-factor.result c.as_slice.result.now (with_value form c.args.value) made (sym (c.as_slice.ensures.value ∙ ap (λ (v : LimitOf). v.squares) c.form.view_is))
 
 is_limit : (c : goal.After-verdict_on) → IsLimit c.args.network.now (with_value c.index-limits-limit.result c.args.value)
 is_limit c =

@@ -1,8 +1,7 @@
-use Rattle.std.proofs.Common.{◌≡◌, length, refl, sym, ◌∙◌, ap, subst}
+use Rattle.std.proofs.Common.{◌≡◌, length, sym, ◌∙◌, ap, subst}
 use Rattle.std.proofs.lemmas.Int.{to_z-of_z}
 use Rattle.limit_forms.proofs.GridReads.{length-grid_of}
 use Rattle.limit_forms.specs.Form.{IsFullDiagonal}
-use Rattle.limit_forms.specs.Grid.{lower_grid, upper_grid}
 use Rattle.pivot_chain.specs.Room.{ChainsOf}
 use Rattle.pivot_chain.proofs.Judged.{verdict_is}
 use Rattle.pivot_chain.proofs.judging.verdict_on.Goals as goal
@@ -17,11 +16,9 @@ judge-requires-clause-made c =
     (record { normal_made = c.bring_to.ensures.sum; load = c.requires.bounds; grid_made = simp (to_z-of_z, c.ranges.factor) at c.retake_known.ensures })
 
 pub returns-clause-exact : goal.returns-clause-exact
-returns-clause-exact c = λ l same_factor same_squares.
+returns-clause-exact c =
     simp (to_z-of_z, c.ranges.factor) at c.judge.ensures.exact
-    ∙ verdict_is c.args.network.now c.args.plan.now c.bring_to.new.normal.plan l l c.args.factor c.args.squares.now
-    (lower_grid c.args.network.now c.bring_to.new.normal.plan c.args.factor c.args.squares.now) (upper_grid c.args.network.now c.bring_to.new.normal.plan c.args.factor c.args.squares.now)
-    refl refl c.bring_to.ensures.plan (sym same_factor) (sym same_squares) refl
+    ∙ verdict_is c.args.network.now c.args.plan.now c.bring_to.new.normal.plan c.args.factor c.args.squares.now c.bring_to.ensures.plan
 
 pub returns-clause-kept : goal.returns-clause-kept
 returns-clause-kept c = record {
