@@ -1,0 +1,136 @@
+"""Measures searches on networks of several kinds: the built program, and beside it in the same run others, where they are
+told.
+
+    python3 tools/bench_plans.py PROGRAM [--other NAME=COMMAND].. [--rows WORD] [--seconds N] [--runs N]
+
+PROGRAM is crates/geoplan_cli/out/geoplan_cli after `rt run` there. COMMAND is a program with its arguments, in which
+{points}, {candidates}, {redundancy} and {log} stand for the files and the number; what it prints has the word `cost` or
+`NOPLAN` or `no plan` in it, and may have `nodes`. WORD is `small` (the default), `middle` or `all`; each run is ended
+after N seconds (60), and the least time of so many runs (1) counts. Seconds are of the processor, the log included.
+"""
+import argparse
+import math
+import os
+import re
+import resource
+import shlex
+import subprocess
+import tempfile
+
+import plan_networks
+
+# Kind, size, factor of the limits, redundancy in thousandths. The seed is 1.
+SMALL = [("level", 8, 1.5), ("trilat", 8, 1.5), ("gnss", 8, 1.5), ("mixed", 4, 1.5)]
+MIDDLE = [("level", 12, 1.5), ("trilat", 12, 1.5), ("gnss", 10, 1.5), ("gnss", 12, 1.5), ("mixed", 6, 1.5)]
+LARGE = [("level", 16, 1.2), ("level", 16, 1.5), ("trilat", 16, 1.5), ("gnss", 15, 1.2), ("gnss", 15, 1.5)]
+LARGE += [("mixed", 8, 1.2), ("mixed", 8, 1.5)]
+ROWS = {"small": SMALL, "middle": SMALL + MIDDLE, "all": SMALL + MIDDLE + LARGE}
+
+
+class Run:
+    """What a program said of a network: its cost (`no plan`, or none at the end of its time), nodes, lines, seconds."""
+
+    def __init__(self, cost, nodes, lines, seconds, is_ended):
+        self.cost, self.nodes, self.lines, self.seconds, self.is_ended = cost, nodes, lines, seconds, is_ended
+
+    def cells(self):
+        sign = "" if self.is_ended else ">"
+        words = [self.cost or "?", self.nodes or "-", self.lines or "-"]
+        return " | ".join([str(word) for word in words] + [sign + "%.2f" % self.seconds])
+
+
+def processor_seconds(command, seconds, folder):
+    """The processor time of a run, what it printed, and whether it ended by itself."""
+    before = resource.getrusage(resource.RUSAGE_CHILDREN)
+    is_ended, out = True, b""
+    try:
+        out = subprocess.run(command, stdout=subprocess.PIPE, stderr=subprocess.DEVNULL, timeout=seconds, cwd=folder).stdout
+    except subprocess.TimeoutExpired:
+        is_ended = False
+    after = resource.getrusage(resource.RUSAGE_CHILDREN)
+    spent = after.ru_utime + after.ru_stime - before.ru_utime - before.ru_stime
+    return spent, out.decode(errors="replace"), is_ended
+
+
+def log_counts(path):
+    """How many nodes and lines a log has, but for the names of cuts: a node is a split or a leaf."""
+    if not os.path.exists(path):
+        return None, None
+    with open(path, "rb") as file:
+        kinds = [line[:1] for line in file]
+    return sum(kind in (b"s", b"c", b"p", b"x", b"d") for kind in kinds), len(kinds)
+
+
+def answer_of(text):
+    """The cost that a program printed, or that there is no plan."""
+    found = re.search(r"\bcost (\d+)", text)
+    if found:
+        return found.group(1)
+    return "no plan" if re.search(r"no plan|NOPLAN", text) else None
+
+
+def measured(command, seconds, runs, folder):
+    """The least of several runs in a folder with both tables."""
+    log, best = os.path.join(folder, "out.log"), None
+    for _ in range(runs):
+        if os.path.exists(log):
+            os.remove(log)
+        spent, text, is_ended = processor_seconds(command, seconds, folder)
+        nodes, lines = log_counts(log)
+        told = re.search(r"\bnodes (\d+)", text)
+        run = Run(answer_of(text), told.group(1) if told else nodes, lines, spent, is_ended)
+        if best is None or run.seconds < best.seconds:
+            best = run
+    return best
+
+
+def commands_of(program, others, redundancy):
+    """The commands by their names; they run in the folder of the tables."""
+    names = {"points": "points.csv", "candidates": "candidates.csv", "redundancy": str(redundancy), "log": "out.log"}
+    own = [os.path.abspath(program), "plan", names["points"], names["candidates"], names["redundancy"], names["log"]]
+    told = [other.split("=", 1) for other in others]
+    return [("geoplan", own)] + [(name, [word.format(**names) for word in shlex.split(text)]) for name, text in told]
+
+
+def print_row(row, redundancy, words):
+    """Measures a network and prints its row; answers the seconds by the name of the program, of runs that ended."""
+    kind, size, factor = row
+    with tempfile.TemporaryDirectory() as folder:
+        count = plan_networks.write_tables(kind, size, 1, factor, folder)
+        commands = commands_of(words.program, words.other, redundancy)
+        runs = [(name, measured(command, words.seconds, words.runs, folder)) for name, command in commands]
+    cells = " | ".join(run.cells() for _name, run in runs)
+    costs = {run.cost for _name, run in runs if run.cost}
+    doubt = " | COSTS DIFFER" if len(costs) > 1 else ""
+    print("| %s-%d-%s | %d | %d | %s |%s" % (kind, size, factor, redundancy, count, cells, doubt), flush=True)
+    return {name: run.seconds for name, run in runs if run.is_ended and run.cost}
+
+
+def print_means(rows, names):
+    """For each kind and other program the geometric mean of the seconds of geoplan over its own, where both ended."""
+    for name in names[1:]:
+        for kind in plan_networks.KINDS:
+            pairs = [(spent["geoplan"], spent[name]) for of, spent in rows if of == kind and len({"geoplan", name} & set(spent)) == 2]
+            if pairs:
+                mean = math.exp(sum(math.log(max(a, 0.005) / max(b, 0.005)) for a, b in pairs) / len(pairs))
+                print("%s: geoplan takes %.2f times the seconds of %s (%d networks)" % (kind, mean, name, len(pairs)))
+
+
+def main():
+    parser = argparse.ArgumentParser(description=__doc__, formatter_class=argparse.RawDescriptionHelpFormatter)
+    parser.add_argument("program")
+    parser.add_argument("--other", action="append", default=[])
+    parser.add_argument("--rows", choices=sorted(ROWS), default="small")
+    parser.add_argument("--seconds", type=float, default=60)
+    parser.add_argument("--runs", type=int, default=1)
+    words = parser.parse_args()
+    names = ["geoplan"] + [other.split("=", 1)[0] for other in words.other]
+    heads = " | ".join("%s: cost | nodes | lines | seconds" % name for name in names)
+    print("| network | redundancy | candidates | %s |" % heads)
+    print("|---" * (3 + 4 * len(names)) + "|")
+    rows = [(row[0], print_row(row, redundancy, words)) for row in ROWS[words.rows] for redundancy in (0, 200)]
+    print_means(rows, names)
+
+
+if __name__ == "__main__":
+    main()
