@@ -21,9 +21,9 @@ use Rattle.bound_log.specs.declared.log_line.LogLine.TheVariants.{Split, Leaf}
 use Rattle.bound_log.specs.CutText.{CutTextOf, cut_numbers, displaced_by, pair_numbers}
 use Rattle.bound_log.specs.DualText.{dual_numbers, share_numbers}
 use Rattle.bound_log.specs.Grammar.{HasNumbersBelow, number_bound}
-use Rattle.bound_log.specs.LogTree.{IsBrokenBy, IsDualAt, IsOpenAt, IsRefutedBy, IsShareAt, IsWeight}
+use Rattle.bound_log.specs.LogTree.{IsBrokenBy, IsDualLineAt, IsOpenAt, IsNodeRefutedBy, IsLineShareAt, IsWeight}
 use Rattle.bound_log.specs.Numbers.{AreShort}
-use Rattle.bound_log.specs.Rules.{LineRule, first_broken, chooses, is_refuted, limit_passes, is_in_range, is_open_for, is_owned, is_refuting, is_breaking, is_broken_at, is_displacement, are_few, are_moves, is_move, is_weight, line_rules, IsAllowedLine}
+use Rattle.bound_log.specs.Rules.{LineRule, first_unkept, chooses_if_any, is_refuted, limit_passes, is_in_range, is_open_for, is_owned, is_refuting, is_breaking, is_broken_at, is_displacement, are_few, are_moves, is_move, is_weight, line_rules, IsAllowedLine}
 use Rattle.bound_log.proofs.ItemLemmas.{short_both}
 
 -- ---- the rules in their order
@@ -40,7 +40,7 @@ record Keeps (range open_one owned refuting breaking : Bool) : Type 0 where
   is_refuting : refuting ≡ true
   is_breaking : breaking ≡ true
 
-none_broken : (a b c d e : Bool) → first_broken (ordered a b c d e) ≡ None → Keeps a b c d e
+none_broken : (a b c d e : Bool) → first_unkept (ordered a b c d e) ≡ None → Keeps a b c d e
 none_broken false b c d e is = absurd (cc)
 none_broken true false c d e is = absurd (cc)
 none_broken true true false d e is = absurd (cc)
@@ -48,13 +48,13 @@ none_broken true true true false e is = absurd (cc)
 none_broken true true true true false is = absurd (cc)
 none_broken true true true true true is = record { in_range = refl; is_open = refl; is_owned = refl; is_refuting = refl; is_breaking = refl }
 
-all_kept : (a b c d e : Bool) → a ≡ true → b ≡ true → c ≡ true → d ≡ true → e ≡ true → first_broken (ordered a b c d e) ≡ None
+all_kept : (a b c d e : Bool) → a ≡ true → b ≡ true → c ≡ true → d ≡ true → e ≡ true → first_unkept (ordered a b c d e) ≡ None
 all_kept a b c d e one two three four five =
-    ap (λ x. first_broken (ordered x b c d e)) one
-    ∙ ap (λ x. first_broken (ordered true x c d e)) two
-    ∙ ap (λ x. first_broken (ordered true true x d e)) three
-    ∙ ap (λ x. first_broken (ordered true true true x e)) four
-    ∙ ap (λ x. first_broken (ordered true true true true x)) five
+    ap (λ x. first_unkept (ordered x b c d e)) one
+    ∙ ap (λ x. first_unkept (ordered true x c d e)) two
+    ∙ ap (λ x. first_unkept (ordered true true x d e)) three
+    ∙ ap (λ x. first_unkept (ordered true true true x e)) four
+    ∙ ap (λ x. first_unkept (ordered true true true true x)) five
 
 keeps : (network : NetworkOf) (node : Node) (line : LogLine) → IsAllowedLine network node line →
     Keeps (is_in_range network line) (is_open_for node line) (is_owned network node line) (is_refuting network node line) (is_breaking network node line)
@@ -69,7 +69,7 @@ allowed_where network node line one two three four five =
     all_kept (is_in_range network line) (is_open_for node line) (is_owned network node line) (is_refuting network node line) (is_breaking network node line) one two three four five
 
 -- a line that keeps all rules breaks none
-unbroken : (a b c d e : Bool) → list_all (λ rule. rule.kept) (ordered a b c d e) ≡ true → first_broken (ordered a b c d e) ≡ None
+unbroken : (a b c d e : Bool) → list_all (λ rule. rule.kept) (ordered a b c d e) ≡ true → first_unkept (ordered a b c d e) ≡ None
 unbroken false b c d e all = absurd (cc)
 unbroken true false c d e all = absurd (cc)
 unbroken true true false d e all = absurd (cc)
@@ -77,7 +77,7 @@ unbroken true true true false e all = absurd (cc)
 unbroken true true true true false all = absurd (cc)
 unbroken true true true true true all = refl
 
-each_kept : (a b c d e : Bool) → first_broken (ordered a b c d e) ≡ None → list_all (λ rule. rule.kept) (ordered a b c d e) ≡ true
+each_kept : (a b c d e : Bool) → first_unkept (ordered a b c d e) ≡ None → list_all (λ rule. rule.kept) (ordered a b c d e) ≡ true
 each_kept false b c d e none = absurd (cc)
 each_kept true false c d e none = absurd (cc)
 each_kept true true false d e none = absurd (cc)
@@ -123,11 +123,11 @@ entry_false (x ∷ plan) zero is = ap Some (not_true x is)
 entry_false (x ∷ plan) (suc i) is = entry_false plan i is
 
 -- an owner is chosen
-pub chooses_owner : (plan : List Bool) (owner : Option ℕ) → ForSome owner (λ o. slice_get plan o ≡ Some true) → chooses plan owner ≡ true
+pub chooses_owner : (plan : List Bool) (owner : Option ℕ) → ForSome owner (λ o. slice_get plan o ≡ Some true) → chooses_if_any plan owner ≡ true
 chooses_owner plan None chosen = refl
 chooses_owner plan (Some o) chosen = get_or_from_slice_get plan o true false (chosen o refl)
 
-pub owner_chosen : (plan : List Bool) (owner : Option ℕ) → chooses plan owner ≡ true → ForSome owner (λ o. slice_get plan o ≡ Some true)
+pub owner_chosen : (plan : List Bool) (owner : Option ℕ) → chooses_if_any plan owner ≡ true → ForSome owner (λ o. slice_get plan o ≡ Some true)
 owner_chosen plan None is = λ o none. absurd (cc)
 owner_chosen plan (Some k) is = λ o some. let same : k ≡ o = cc in subst (λ (n : ℕ). slice_get plan n ≡ Some true) same (entry_true plan k is)
 
@@ -165,12 +165,12 @@ pub cost_allowed : (network : NetworkOf) (node : Node) → IsAllowedLine network
 cost_allowed network node = allowed_where network node (Leaf Cost) refl refl refl refl refl
 
 abbrev pub owner_test : Node → LimitOf → Bool
-owner_test node limit = chooses node.inside limit.owner
+owner_test node limit = chooses_if_any node.inside limit.owner
 
 abbrev pub verdict_test : NetworkOf → Node → LimitOf → Bool
 verdict_test network node limit = is_refuted (verdict_of network node.upper limit)
 
-pub pivot_allowed : (network : NetworkOf) (node : Node) (number : ℕ) → IsRefutedBy network node number → IsAllowedLine network node (Leaf (Pivot number))
+pub pivot_allowed : (network : NetworkOf) (node : Node) (number : ℕ) → IsNodeRefutedBy network node number → IsAllowedLine network node (Leaf (Pivot number))
 pivot_allowed network node number by =
     allowed_where network node (Leaf (Pivot number))
     (ap (λ b. true && ((b && true) && true)) (lt-ltb number (length network.limits) (slice_get_within network.limits number by.limit by.named)))
@@ -192,18 +192,18 @@ item_at (x ∷ xs) (suc i) inside =
     let found = item_at xs i below in
     record { item = found.item; named = found.named }
 
-pub pivot_refuted : (network : NetworkOf) (node : Node) (number : ℕ) → IsAllowedLine network node (Leaf (Pivot number)) → IsRefutedBy network node number
+pub pivot_refuted : (network : NetworkOf) (node : Node) (number : ℕ) → IsAllowedLine network node (Leaf (Pivot number)) → IsNodeRefutedBy network node number
 pivot_refuted network node number allowed =
     let kept = keeps network node (Leaf (Pivot number)) allowed in
     let below = both_true (ltb number (length network.limits) && true) true kept.in_range in
     let within = both_true (ltb number (length network.limits)) true below.left in
     let found = item_at network.limits number (ltb-true number (length network.limits) within.left) in
-    let owner : (chooses node.inside found.item.owner && true) ≡ true = sym (ap (λ o. limit_passes (owner_test node) o && true) found.named) ∙ kept.is_owned in
+    let owner : (chooses_if_any node.inside found.item.owner && true) ≡ true = sym (ap (λ o. limit_passes (owner_test node) o && true) found.named) ∙ kept.is_owned in
     let verdict : (verdict_test network node found.item && true) ≡ true = sym (ap (λ o. limit_passes (verdict_test network node) o && true) found.named) ∙ kept.is_refuting in
     record {
       limit = found.item;
       named = found.named;
-      owned = owner_chosen node.inside found.item.owner (both_true (chooses node.inside found.item.owner) true owner).left;
+      owned = owner_chosen node.inside found.item.owner (both_true (chooses_if_any node.inside found.item.owner) true owner).left;
       refuted = verdict_refuted (verdict_of network node.upper found.item) (both_true (verdict_test network node found.item) true verdict).left;
     }
 
@@ -236,13 +236,13 @@ cut_broken network node cut allowed =
     let parts = both_true (ltb cut.limit (length network.limits) && true) (is_displacement (length network.unknowns) cut.pairs && true) kept.in_range in
     let within = both_true (ltb cut.limit (length network.limits)) true parts.left in
     let found = item_at network.limits cut.limit (ltb-true cut.limit (length network.limits) within.left) in
-    let owner : (chooses node.inside found.item.owner && true) ≡ true = sym (ap (λ o. limit_passes (owner_test node) o && true) found.named) ∙ kept.is_owned in
+    let owner : (chooses_if_any node.inside found.item.owner && true) ≡ true = sym (ap (λ o. limit_passes (owner_test node) o && true) found.named) ∙ kept.is_owned in
     let breaking : (breaking_test network node cut found.item && true) ≡ true = sym (ap (λ o. limit_passes (breaking_test network node cut) o && true) found.named) ∙ kept.is_breaking in
     record {
       limit = found.item;
       named = found.named;
       displacement = (both_true (is_displacement (length network.unknowns) cut.pairs) true parts.right).left;
-      owned = owner_chosen node.inside found.item.owner (both_true (chooses node.inside found.item.owner) true owner).left;
+      owned = owner_chosen node.inside found.item.owner (both_true (chooses_if_any node.inside found.item.owner) true owner).left;
       breaks = where_less (found.item.alpha *ℤ energy network.candidates node.upper (displaced_by cut.pairs)) (load found.item.squares (displaced_by cut.pairs))
           (both_true (breaking_test network node cut found.item) true breaking).left;
     }
@@ -282,11 +282,11 @@ record SharesPass (network : NetworkOf) (node : Node) (shares : List (ℕ × Cut
 both_pass : (a b : Bool) → a ≡ true → b ≡ true → (a && b) ≡ true
 both_pass a b one two = ap (λ x. x && b) one ∙ two
 
-shares_pass : (network : NetworkOf) (node : Node) (shares : List (ℕ × CutTextOf)) → All (IsShareAt network node) shares → SharesPass network node shares
+shares_pass : (network : NetworkOf) (node : Node) (shares : List (ℕ × CutTextOf)) → All (IsLineShareAt network node) shares → SharesPass network node shares
 shares_pass network node [] each = record { weights = refl; limits = refl; displacements = refl; owned = refl }
 shares_pass network node (share ∷ shares) each =
-    let one = All-head (IsShareAt network node) share shares each in
-    let later = shares_pass network node shares (All-tail (IsShareAt network node) share shares each) in
+    let one = All-head (IsLineShareAt network node) share shares each in
+    let later = shares_pass network node shares (All-tail (IsLineShareAt network node) share shares each) in
     let within : share.1.limit < length network.limits = slice_get_within network.limits share.1.limit one.limit one.named in
     record {
       weights = both_pass (is_weight share.0) (list_all is_weight (map multiplier_of shares)) (weight_passes share.0 one.multiplier) later.weights;
@@ -297,10 +297,10 @@ shares_pass network node (share ∷ shares) each =
     }
 
 share_at : (network : NetworkOf) (node : Node) (share : ℕ × CutTextOf) → is_weight share.0 ≡ true → below_limits network share.1.limit ≡ true → is_displacement (length network.unknowns) share.1.pairs ≡ true →
-    owned_at network node share.1.limit ≡ true → IsShareAt network node share
+    owned_at network node share.1.limit ≡ true → IsLineShareAt network node share
 share_at network node share weight limit displacement owned =
     let found = item_at network.limits share.1.limit (ltb-true share.1.limit (length network.limits) limit) in
-    let owner : chooses node.inside found.item.owner ≡ true = sym (ap (limit_passes (owner_test node)) found.named) ∙ owned in
+    let owner : chooses_if_any node.inside found.item.owner ≡ true = sym (ap (limit_passes (owner_test node)) found.named) ∙ owned in
     record {
       multiplier = weight_passed share.0 weight;
       limit = found.item;
@@ -309,17 +309,17 @@ share_at network node share weight limit displacement owned =
       owned = owner_chosen node.inside found.item.owner owner;
     }
 
-shares_at : (network : NetworkOf) (node : Node) (shares : List (ℕ × CutTextOf)) → SharesPass network node shares → All (IsShareAt network node) shares
-shares_at network node [] pass = All-nil (IsShareAt network node)
+shares_at : (network : NetworkOf) (node : Node) (shares : List (ℕ × CutTextOf)) → SharesPass network node shares → All (IsLineShareAt network node) shares
+shares_at network node [] pass = All-nil (IsLineShareAt network node)
 shares_at network node (share ∷ shares) pass =
     let weights = both_true (is_weight share.0) (list_all is_weight (map multiplier_of shares)) pass.weights in
     let limits = both_true (below_limits network share.1.limit) (list_all (below_limits network) (map limit_of shares)) pass.limits in
     let displacements = both_true (is_displacement (length network.unknowns) share.1.pairs) (list_all (is_displacement (length network.unknowns)) (map pairs_of shares)) pass.displacements in
     let owned = both_true (owned_at network node share.1.limit) (list_all (owned_at network node) (map limit_of shares)) pass.owned in
-    All-cons (IsShareAt network node) share shares (share_at network node share weights.left limits.left displacements.left owned.left)
+    All-cons (IsLineShareAt network node) share shares (share_at network node share weights.left limits.left displacements.left owned.left)
     (shares_at network node shares (record { weights = weights.right; limits = limits.right; displacements = displacements.right; owned = owned.right }))
 
-pub dual_allowed : (network : NetworkOf) (node : Node) (divisor : ℕ) (shares : List (ℕ × CutTextOf)) → IsDualAt network node divisor shares → IsAllowedLine network node (Leaf (Dual divisor shares))
+pub dual_allowed : (network : NetworkOf) (node : Node) (divisor : ℕ) (shares : List (ℕ × CutTextOf)) → IsDualLineAt network node divisor shares → IsAllowedLine network node (Leaf (Dual divisor shares))
 dual_allowed network node divisor shares here =
     let pass = shares_pass network node shares here.each in
     let weights = list_all is_weight (divisor ∷ map multiplier_of shares) in
@@ -331,7 +331,7 @@ dual_allowed network node divisor shares here =
     (both_pass (are_few (length shares) && true) (limits && displacements) (ap (λ b. b && true) (le-leb (length shares) 64 here.few)) (both_pass limits displacements pass.limits pass.displacements)))
     refl pass.owned refl refl
 
-pub dual_at : (network : NetworkOf) (node : Node) (divisor : ℕ) (shares : List (ℕ × CutTextOf)) → IsAllowedLine network node (Leaf (Dual divisor shares)) → IsDualAt network node divisor shares
+pub dual_at : (network : NetworkOf) (node : Node) (divisor : ℕ) (shares : List (ℕ × CutTextOf)) → IsAllowedLine network node (Leaf (Dual divisor shares)) → IsDualLineAt network node divisor shares
 dual_at network node divisor shares allowed =
     let kept = keeps network node (Leaf (Dual divisor shares)) allowed in
     let limits = list_all (below_limits network) (map limit_of shares) in
@@ -368,16 +368,16 @@ cut_short network cut bounds inside displacement =
     let narrow : length network.unknowns ≤ 64 = bounds.unknowns in
     (omega (arith, inside, few), (omega (arith, count, narrow), moves_short (length network.unknowns) 0 cut.pairs narrow parts.right))
 
-shares_short : (network : NetworkOf) (node : Node) (shares : List (ℕ × CutTextOf)) → IsNetwork network → All (IsShareAt network node) shares → AreShort (flat_map share_numbers shares)
+shares_short : (network : NetworkOf) (node : Node) (shares : List (ℕ × CutTextOf)) → IsNetwork network → All (IsLineShareAt network node) shares → AreShort (flat_map share_numbers shares)
 shares_short network node [] bounds each = tt
 shares_short network node (share ∷ shares) bounds each =
-    let one = All-head (IsShareAt network node) share shares each in
+    let one = All-head (IsLineShareAt network node) share shares each in
     let high : share.0 ≤ 2 ^ 44 = one.multiplier.high in
     short_both (share_numbers share) (flat_map share_numbers shares)
     (omega (arith, high), cut_short network share.1 bounds (slice_get_within network.limits share.1.limit one.limit one.named) one.displacement)
-    (shares_short network node shares bounds (All-tail (IsShareAt network node) share shares each))
+    (shares_short network node shares bounds (All-tail (IsLineShareAt network node) share shares each))
 
-dual_short : (network : NetworkOf) (node : Node) (divisor : ℕ) (shares : List (ℕ × CutTextOf)) → IsNetwork network → IsDualAt network node divisor shares → AreShort (dual_numbers divisor shares)
+dual_short : (network : NetworkOf) (node : Node) (divisor : ℕ) (shares : List (ℕ × CutTextOf)) → IsNetwork network → IsDualLineAt network node divisor shares → AreShort (dual_numbers divisor shares)
 dual_short network node divisor shares bounds here =
     let high : divisor ≤ 2 ^ 44 = here.divides.high in
     let few : length shares ≤ 64 = here.few in

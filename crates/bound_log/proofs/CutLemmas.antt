@@ -10,7 +10,7 @@ use Rattle.std.proofs.lemmas.List.Elements.{All-nil, All-cons, All-weaker}
 use Rattle.std.proofs.lemmas.Str.Parse.{digit_from_value}
 use Rattle.bound_log.specs.CutReading.{PairBegins, CutBegins, after_cut, after_pair, cut_in, pair_in, signed_value}
 use Rattle.bound_log.specs.CutText.{CutTextOf, cut_numbers, cut_words, pair_numbers, pair_words, pairs_words}
-use Rattle.bound_log.specs.Numbers.{AreShort, IsNumber, IsSigned, number_bound}
+use Rattle.bound_log.specs.Numbers.{AreShort, IsNumberText, IsSigned, number_bound}
 use Rattle.bound_log.proofs.ItemLemmas.{Kind, head_reads, some_words}
 use Rattle.bound_log.proofs.NumberLemmas.{decimal-apart, decimal-bytes, decimal-digits, decimal-value}
 
@@ -85,19 +85,19 @@ cut_reads front cut rest begins =
 
 -- ---- numbers below 0
 
-pub not_minus_zero : (digits : List ℕ) (value : ℤ) → IsNumber digits 0 → IsSigned (45 ∷ digits) value → ⊥
+pub not_minus_zero : (digits : List ℕ) (value : ℤ) → IsNumberText digits 0 → IsSigned (45 ∷ digits) value → ⊥
 not_minus_zero digits (pos n) is signed = no_minus n digits signed.size (sym signed.spelled)
 not_minus_zero digits (negsuc n) is signed =
     let text : digits ≡ decimal (suc n) = after_first 45 digits (decimal (suc n)) signed.spelled in
     let none : 0 ≡ suc n = decimal-apart 0 (suc n) is.size signed.size (sym is.spelled ∙ text) in
     absurd (omega arith)
 
-pub not_negative : (digits : List ℕ) (value : ℤ) → ((number : ℕ) → IsNumber digits number → ⊥) → IsSigned (45 ∷ digits) value → ⊥
+pub not_negative : (digits : List ℕ) (value : ℤ) → ((number : ℕ) → IsNumberText digits number → ⊥) → IsSigned (45 ∷ digits) value → ⊥
 not_negative digits (pos n) other signed = no_minus n digits signed.size (sym signed.spelled)
 not_negative digits (negsuc n) other signed = other (suc n) (record { spelled = after_first 45 digits (decimal (suc n)) signed.spelled; size = signed.size })
 
 -- a text without `-` at its front is that of no number below 0
-pub not_plain : (text : List ℕ) (value : ℤ) → ((0 < length text) × (get_or text 0 0 ≡ 45) → ⊥) → ((number : ℕ) → IsNumber text number → ⊥) → IsSigned text value → ⊥
+pub not_plain : (text : List ℕ) (value : ℤ) → ((0 < length text) × (get_or text 0 0 ≡ 45) → ⊥) → ((number : ℕ) → IsNumberText text number → ⊥) → IsSigned text value → ⊥
 not_plain text (pos n) plain other signed = other n (record { spelled = signed.spelled; size = signed.size })
 not_plain text (negsuc n) plain other signed =
     let some : 0 < length text = subst (λ (t : List ℕ). 0 < length t) (sym signed.spelled) (omega arith) in

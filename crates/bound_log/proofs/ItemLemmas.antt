@@ -5,9 +5,9 @@ use Rattle.std.proofs.lemmas.Grind.{flat_map-append}
 use Rattle.std.specs.Fmt.{decimal}
 use Rattle.std.specs.Str.Parse.{digits_value}
 use Rattle.lent_parts.specs.Pieces.{TokenOf}
-use Rattle.bound_log.specs.LogWords.{words_of}
-use Rattle.bound_log.specs.Numbers.{AreShort, IsNumber, number_bound}
-use Rattle.bound_log.specs.Reading.{Begins, ManyBegin, after_items, items_in}
+use Rattle.lent_parts.specs.Pieces.{words_of}
+use Rattle.bound_log.specs.Numbers.{AreShort, IsNumberText, number_bound}
+use Rattle.bound_log.specs.Reading.{BeginsWithItem, ManyBegin, after_items, items_in}
 use Rattle.bound_log.proofs.NumberLemmas.{decimal-apart, decimal-value}
 
 -- ---- short numbers
@@ -37,11 +37,11 @@ pub record Kind (X : Type 0) : Type 0 where
   pub numbers : X → List ℕ
   pub read : List (List ℕ) → X
   pub after : List (List ℕ) → List (List ℕ)
-  pub reads : (front : List (List ℕ)) (item : X) (rest : List (List ℕ)) → Begins words numbers front item rest → (item ≡ read front) × (rest ≡ after front)
+  pub reads : (front : List (List ℕ)) (item : X) (rest : List (List ℕ)) → BeginsWithItem words numbers front item rest → (item ≡ read front) × (rest ≡ after front)
   pub some : (item : X) (rest : List (List ℕ)) → words item ++ rest ≡ [] → ⊥
 
 abbrev pub OneBegins : {X : Type 0} → Kind X → List (List ℕ) → X → List (List ℕ) → Type 0
-OneBegins kind front item rest = Begins kind.words kind.numbers front item rest
+OneBegins kind front item rest = BeginsWithItem kind.words kind.numbers front item rest
 
 abbrev pub SomeBegin : {X : Type 0} → Kind X → ℕ → List (List ℕ) → List X → List (List ℕ) → Type 0
 SomeBegin kind count front items rest = ManyBegin kind.words kind.numbers count front items rest
@@ -274,7 +274,7 @@ head_reads kind number items rest short =
       after_is = reads.after_is ∙ ap (λ (n : ℕ). after_read kind n front) (sym count);
     }
 
-pub head_begins : {X : Type 0} (kind : Kind X) (words first second rest : List (List ℕ)) (l m : List ℕ) (number count : ℕ) (items : List X) → IsNumber l number → words ≡ l ∷ first → IsNumber m count → first ≡ m ∷ second →
+pub head_begins : {X : Type 0} (kind : Kind X) (words first second rest : List (List ℕ)) (l m : List ℕ) (number count : ℕ) (items : List X) → IsNumberText l number → words ≡ l ∷ first → IsNumberText m count → first ≡ m ∷ second →
     SomeBegin kind count second items rest → HeadBegins kind words number items rest
 head_begins kind words first second rest l m number count items is_number front is_count middle begins = record {
   spelled = front ∙ ap₂ (λ (w : List ℕ) (ws : List (List ℕ)). w ∷ ws) is_number.spelled
@@ -283,7 +283,7 @@ head_begins kind words first second rest l m number count items is_number front 
 }
 
 -- the number that a word writes is the only one
-pub one_number : (text : List ℕ) (a b : ℕ) → IsNumber text a → IsNumber text b → a ≡ b
+pub one_number : (text : List ℕ) (a b : ℕ) → IsNumberText text a → IsNumberText text b → a ≡ b
 one_number text a b is also = decimal-apart a b is.size also.size (sym is.spelled ∙ also.spelled)
 
 -- the first two of more words
@@ -296,7 +296,7 @@ two_words : (a b c d : List ℕ) (x y : List (List ℕ)) → a ∷ b ∷ x ≡ c
 two_words a b c d x y same = record { first = cc; second = cc; rest = cc }
 
 -- where the items aren't there, nothing of the kind is
-pub no_head : {X : Type 0} (kind : Kind X) (words first second : List (List ℕ)) (l m : List ℕ) (number count : ℕ) → IsNumber l number → words ≡ l ∷ first → IsNumber m count → first ≡ m ∷ second →
+pub no_head : {X : Type 0} (kind : Kind X) (words first second : List (List ℕ)) (l m : List ℕ) (number count : ℕ) → IsNumberText l number → words ≡ l ∷ first → IsNumberText m count → first ≡ m ∷ second →
     ((items : List X) (rest : List (List ℕ)) → SomeBegin kind count second items rest → ⊥) → (other : ℕ) (items : List X) (rest : List (List ℕ)) → HeadBegins kind words other items rest → ⊥
 no_head kind words first second l m number count is_number front is_count middle missing other items rest begins =
     let both = two_words l m (decimal other) (decimal (length items)) second (flat_map kind.words items ++ rest) (sym (front ∙ ap (λ (ws : List (List ℕ)). l ∷ ws) middle) ∙ begins.spelled) in

@@ -11,7 +11,7 @@ use Rattle.std.proofs.lemmas.Str.{digit_value_digit}
 use Rattle.std.proofs.lemmas.Str.Parse.{digit_from_value}
 use Rattle.text_num.specs.Decimal.{IsNumeralUpTo}
 use Rattle.text_num.proofs.Digits.{digits_model, test-from_AllDigits, digits_value-below}
-use Rattle.bound_log.specs.Grammar.{number_bound, IsNumber, IsShortNumeral}
+use Rattle.bound_log.specs.Grammar.{number_bound, IsNumberText, IsShortNumeral}
 
 -- a number of at most 19 digits fits the code's numbers
 fits : (n : ℕ) → n < number_bound → n < 2 ^ 64
@@ -51,14 +51,14 @@ numeral_parts c rest (suc n) same small =
     inr ((omega arith, digit.1), digits.1, omega arith)
 
 -- the text of a number is a numeral
-pub numeral_of : (text : List ℕ) (n : ℕ) → IsNumber text n → IsShortNumeral text
+pub numeral_of : (text : List ℕ) (n : ℕ) → IsNumberText text n → IsShortNumeral text
 numeral_of [] n number =
     let some : 0 < length (decimal n) = decimal_nonempty n (fits n number.size) in
     let none : 0 ≡ length (decimal n) = ap length number.spelled in
     absurd (omega arith)
 numeral_of (c ∷ rest) n number = numeral_parts c rest n number.spelled number.size
 
-pub value_of_number : (text : List ℕ) (n : ℕ) → IsNumber text n → n ≡ digits_value 10 text
+pub value_of_number : (text : List ℕ) (n : ℕ) → IsNumberText text n → n ≡ digits_value 10 text
 value_of_number text n number = sym (decimal-value n number.size) ∙ ap (digits_value 10) (sym number.spelled)
 
 -- a numeral is digits, at most 19 of them
@@ -72,7 +72,7 @@ numeral_digits (c ∷ rest) (inr more) =
     ((omega (arith, more.0), more.1), omega arith, omega (arith, more.2), λ is. absurd (omega (arith, more.0)))
 
 -- a numeral is the text of its value
-pub number_of_numeral : (text : List ℕ) → IsShortNumeral text → IsNumber text (digits_value 10 text)
+pub number_of_numeral : (text : List ℕ) → IsShortNumeral text → IsNumberText text (digits_value 10 text)
 number_of_numeral text numeral =
     let parts = numeral_digits text numeral in
     let size : digits_value 10 text < 10 ^ 19 = digits_value-below text 19 parts.0 parts.2 in
@@ -100,19 +100,19 @@ numeral_from (c ∷ d ∷ rest) digits alone =
     ]
 
 -- what is read is the number
-pub number_read : (text : List ℕ) (found : Option ℕ) → IfSome found (λ value. IsNumeralUpTo 19 text × (value ≡ digits_value 10 text)) → ((1 < length text) × (get_or text 0 0 ≡ 48) → ⊥) → IfSome found (λ number. IsNumber text number)
+pub number_read : (text : List ℕ) (found : Option ℕ) → IfSome found (λ value. IsNumeralUpTo 19 text × (value ≡ digits_value 10 text)) → ((1 < length text) × (get_or text 0 0 ≡ 48) → ⊥) → IfSome found (λ number. IsNumberText text number)
 number_read text None is alone = tt
-number_read text (Some value) is alone = subst (IsNumber text) (sym is.1) (number_of_numeral text (numeral_from text is.0 alone))
+number_read text (Some value) is alone = subst (IsNumberText text) (sym is.1) (number_of_numeral text (numeral_from text is.0 alone))
 
 -- what isn't read is no number
-pub no_number : (text : List ℕ) (found : Option ℕ) → IfNone found (IsNumeralUpTo 19 text → ⊥) → IfNone found ((number : ℕ) → IsNumber text number → ⊥)
+pub no_number : (text : List ℕ) (found : Option ℕ) → IfNone found (IsNumeralUpTo 19 text → ⊥) → IfNone found ((number : ℕ) → IsNumberText text number → ⊥)
 no_number text (Some value) other = tt
 no_number text None other = λ number is.
     let parts = numeral_digits text (numeral_of text number is) in
     other (record { only_digits = parts.0; some = omega (arith, parts.1); few = parts.2 })
 
 -- a zero before other digits begins no number
-pub no_leading_zero : (text : List ℕ) → (1 < length text) × (get_or text 0 0 ≡ 48) → (number : ℕ) → IsNumber text number → ⊥
+pub no_leading_zero : (text : List ℕ) → (1 < length text) × (get_or text 0 0 ≡ 48) → (number : ℕ) → IsNumberText text number → ⊥
 no_leading_zero text zero_first number is =
     let parts = numeral_digits text (numeral_of text number is) in
     let one : length text ≡ 1 = parts.3 zero_first.1 in

@@ -16,9 +16,9 @@ use Rattle.bound_log.specs.CutText.{CutTextOf, text_of_cut}
 use Rattle.bound_log.specs.DualText.{cover_at, share_numbers, text_of_share, text_or_none, texts_of_shares, weighed_text}
 use Rattle.bound_log.specs.Grammar.{IsLine}
 use Rattle.bound_log.specs.LogText.{line_body}
-use Rattle.bound_log.specs.LogTree.{IsShareAt, IsWeight}
+use Rattle.bound_log.specs.LogTree.{IsLineShareAt, IsWeight}
 use Rattle.bound_log.specs.Numbers.{AreShort}
-use Rattle.bound_log.specs.PoolShares.{IsSpelled, MayBeNamed}
+use Rattle.bound_log.specs.PoolShares.{IsSpelled, IsPoolShareAt}
 use Rattle.bound_log.specs.Rules.{IsAllowedLine}
 use Rattle.bound_log.specs.declared.log_leaf.LogLeaf.TheVariants.{Dual}
 use Rattle.bound_log.specs.declared.log_line.LogLine.TheVariants.{Leaf}
@@ -65,9 +65,9 @@ dual_line_read d shares pool low few each =
 
 -- ---- lines that are allowed
 
-named_share : (network : NetworkOf) (node : Node) (pool : List CutOf) (share : Share) → MayBeNamed network node pool share → IsShareAt network node (text_of_share pool share)
+named_share : (network : NetworkOf) (node : Node) (pool : List CutOf) (share : Share) → IsPoolShareAt network node pool share → IsLineShareAt network node (text_of_share pool share)
 named_share network node pool share may =
-    subst (IsShareAt network node) (sym (text_is pool share may.cut may.named)) (record {
+    subst (IsLineShareAt network node) (sym (text_is pool share may.cut may.named)) (record {
       multiplier = may.multiplier;
       limit = may.limit;
       named = may.limited;
@@ -75,14 +75,14 @@ named_share network node pool share may =
       owned = may.owned;
     })
 
-named_shares : (network : NetworkOf) (node : Node) (pool : List CutOf) (shares : List Share) → All (MayBeNamed network node pool) shares → All (IsShareAt network node) (texts_of_shares pool shares)
-named_shares network node pool [] each = All-nil (IsShareAt network node)
+named_shares : (network : NetworkOf) (node : Node) (pool : List CutOf) (shares : List Share) → All (IsPoolShareAt network node pool) shares → All (IsLineShareAt network node) (texts_of_shares pool shares)
+named_shares network node pool [] each = All-nil (IsLineShareAt network node)
 named_shares network node pool (share ∷ shares) each =
-    All-cons (IsShareAt network node) (text_of_share pool share) (texts_of_shares pool shares)
-    (named_share network node pool share (All-head (MayBeNamed network node pool) share shares each))
-    (named_shares network node pool shares (All-tail (MayBeNamed network node pool) share shares each))
+    All-cons (IsLineShareAt network node) (text_of_share pool share) (texts_of_shares pool shares)
+    (named_share network node pool share (All-head (IsPoolShareAt network node pool) share shares each))
+    (named_shares network node pool shares (All-tail (IsPoolShareAt network node pool) share shares each))
 
-pub dual_line_allowed : (network : NetworkOf) (node : Node) (d : ℕ) (shares : List Share) (pool : List CutOf) → IsWeight d → length shares ≤ 64 → All (MayBeNamed network node pool) shares →
+pub dual_line_allowed : (network : NetworkOf) (node : Node) (d : ℕ) (shares : List Share) (pool : List CutOf) → IsWeight d → length shares ≤ 64 → All (IsPoolShareAt network node pool) shares →
     IsAllowedLine network node (Leaf (Dual d (texts_of_shares pool shares)))
 dual_line_allowed network node d shares pool divides few each =
     let long : length (texts_of_shares pool shares) ≡ length shares = length-map shares (text_of_share pool) in

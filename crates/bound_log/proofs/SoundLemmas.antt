@@ -24,7 +24,7 @@ use Rattle.bound_log.specs.declared.bound.Bound.TheVariants.{NoPlan, AtLeast}
 use Rattle.bound_log.specs.Bound.{lesser, IsAtMost}
 use Rattle.bound_log.specs.CutText.{CutTextOf, displaced_by}
 use Rattle.bound_log.specs.DualText.{cover_at, weighed_text}
-use Rattle.bound_log.specs.LogTree.{root_of, with_chosen, without_chosen, IsAllowed, IsShareAt, leaf_bound_for, bound_for, HasBoundFor, HasBound}
+use Rattle.bound_log.specs.LogTree.{root_of, with_chosen, without_chosen, IsAllowed, IsLineShareAt, leaf_bound_for, bound_for, HasBoundFor, HasBound}
 use Rattle.bound_log.specs.Sound.{IsLowerBoundFor, IsLowerBound}
 use Rattle.bound_log.specs.declared.log_leaf.LogLeaf.TheVariants.{Cost, Pivot, Cut, Dual}
 use Rattle.bound_log.specs.Tree.{Tree, fork, tip}
@@ -71,7 +71,7 @@ broken_fails network plan upper limit x bounds kept within breaks meets =
     clash p q h g = omega (arith, ints)
 
 -- a plan of the node that meets the limits satisfies the covering inequality of a share that may be named there
-share_satisfied : (network : NetworkOf) (node : Node) (share : ℕ × CutTextOf) (plan : List Bool) → IsNetwork network → IsShareAt network node share → IsWithin node.inside plan → MeetsLimits network plan → Satisfies (cover_at network share.1 (slice_get network.limits share.1.limit)) plan
+share_satisfied : (network : NetworkOf) (node : Node) (share : ℕ × CutTextOf) (plan : List Bool) → IsNetwork network → IsLineShareAt network node share → IsWithin node.inside plan → MeetsLimits network plan → Satisfies (cover_at network share.1 (slice_get network.limits share.1.limit)) plan
 share_satisfied network node share plan bounds by above meets =
     let limit : LimitOf = by.limit in
     let kept : IsLimit network limit = each_named network share.1.limit limit bounds.each_limit by.named in
@@ -79,13 +79,13 @@ share_satisfied network node share plan bounds by above meets =
     each_named_meets network share.1.limit limit plan meets by.named (IsInForce-grows limit node.inside plan above by.owned) in
     subst (λ found. Satisfies (cover_at network share.1 found) plan) (sym by.named) (meeting_plan-satisfies network limit plan (displaced_by share.1.pairs) bounds kept met)
 
-shares_satisfied : (network : NetworkOf) (node : Node) (shares : List (ℕ × CutTextOf)) (plan : List Bool) → IsNetwork network → All (IsShareAt network node) shares → IsWithin node.inside plan → MeetsLimits network plan →
+shares_satisfied : (network : NetworkOf) (node : Node) (shares : List (ℕ × CutTextOf)) (plan : List Bool) → IsNetwork network → All (IsLineShareAt network node) shares → IsWithin node.inside plan → MeetsLimits network plan →
     All (λ share. Satisfies share.cover plan) (map (weighed_text network) shares)
 shares_satisfied network node [] plan bounds each above meets = All-nil (λ (share : WeighedCover). Satisfies share.cover plan)
 shares_satisfied network node (share ∷ shares) plan bounds each above meets =
     All-cons (λ (s : WeighedCover). Satisfies s.cover plan) (weighed_text network share) (map (weighed_text network) shares)
-    (share_satisfied network node share plan bounds (All-head (IsShareAt network node) share shares each) above meets)
-    (shares_satisfied network node shares plan bounds (All-tail (IsShareAt network node) share shares each) above meets)
+    (share_satisfied network node share plan bounds (All-head (IsLineShareAt network node) share shares each) above meets)
+    (shares_satisfied network node shares plan bounds (All-tail (IsLineShareAt network node) share shares each) above meets)
 
 -- each plan between the inner and the upper plan of a node that meets the limits costs at least the bound
 pub bound_for-below : (prices : PricesOf) (network : NetworkOf) (node : Node) (tree : Tree) → HasStationPrices prices → IsNetwork network → IsAllowed network node tree → (plan : List Bool) → IsWithin node.inside plan → IsWithin plan node.upper → MeetsLimits network plan → IsAtMost (bound_for prices network node tree) (plan_price prices plan)

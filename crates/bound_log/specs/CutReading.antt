@@ -2,17 +2,17 @@
 use Rattle.std.specs.Prelude.{ℕ, ◌==◌, List, [], ◌∷◌, ℤ, pos, neg_ℤ, if◌then◌else◌}
 use Rattle.std.specs.Str.Parse.{digits_value}
 use Rattle.bound_log.specs.CutText.{CutTextOf, cut_numbers, cut_words, pair_numbers, pair_words}
-use Rattle.bound_log.specs.Reading.{Begins, ManyBegin, after_items, items_in}
+use Rattle.bound_log.specs.Reading.{BeginsWithItem, ManyBegin, after_items, items_in}
 
 -- the words begin with those of a pair, of so many pairs, of a cut; and these are the words after them
 abbrev pub PairBegins : List (List ℕ) → ℕ × ℤ → List (List ℕ) → Type 0
-PairBegins words pair after = Begins pair_words pair_numbers words pair after
+PairBegins words pair after = BeginsWithItem pair_words pair_numbers words pair after
 
 abbrev pub PairsBegin : ℕ → List (List ℕ) → List (ℕ × ℤ) → List (List ℕ) → Type 0
 PairsBegin count words pairs after = ManyBegin pair_words pair_numbers count words pairs after
 
 abbrev pub CutBegins : List (List ℕ) → CutTextOf → List (List ℕ) → Type 0
-CutBegins words cut after = Begins cut_words cut_numbers words cut after
+CutBegins words cut after = BeginsWithItem cut_words cut_numbers words cut after
 
 -- ---- the pairs as a function of the words
 

@@ -5,11 +5,11 @@ use Rattle.bound_log.specs.CutReading.{after_cut, cut_in}
 use Rattle.bound_log.specs.CutText.{CutTextOf}
 use Rattle.bound_log.specs.DualText.{dual_numbers, dual_words, share_numbers, share_words}
 use Rattle.bound_log.specs.Numbers.{AreShort}
-use Rattle.bound_log.specs.Reading.{Begins, ManyBegin, after_items, items_in}
+use Rattle.bound_log.specs.Reading.{BeginsWithItem, ManyBegin, after_items, items_in}
 
 -- the words begin with those of a share, of so many shares, of a dual bound; and these are the words after them
 abbrev pub ShareBegins : List (List ℕ) → ℕ × CutTextOf → List (List ℕ) → Type 0
-ShareBegins words share after = Begins share_words share_numbers words share after
+ShareBegins words share after = BeginsWithItem share_words share_numbers words share after
 
 abbrev pub SharesBegin : ℕ → List (List ℕ) → List (ℕ × CutTextOf) → List (List ℕ) → Type 0
 SharesBegin count words shares after = ManyBegin share_words share_numbers count words shares after

@@ -5,7 +5,7 @@ use Rattle.lent_parts.specs.Pieces.{TextLineOf}
 use Rattle.bound_log.specs.declared.log_line.LogLine.{LogLine}
 use Rattle.bound_log.specs.Lines.{numbers_of}
 use Rattle.bound_log.specs.LogText.{line_body, line_text, line_end}
-pub use Rattle.bound_log.specs.Numbers.{number_bound, IsNumber, IsShortNumeral}
+pub use Rattle.bound_log.specs.Numbers.{number_bound, IsNumberText, IsShortNumeral}
 
 -- each number of the line is below the bound
 abbrev pub HasNumbersBelow : ℕ → LogLine → Type 0

@@ -10,7 +10,6 @@ pub mod Lines
 pub mod LogLines
 pub mod LogText
 pub mod LogTree
-pub mod LogWords
 pub mod Numbers
 pub mod OpenCount
 pub mod Placed

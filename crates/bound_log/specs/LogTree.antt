@@ -44,7 +44,7 @@ pub record IsOpenAt (network : NetworkOf) (node : Node) (candidate : ℕ) : Type
   pub not_inside : slice_get node.inside candidate ≡ Some false
 
 -- what a pivot line wants of its limit, in one record: it refutes the node
-pub record IsRefutedBy (network : NetworkOf) (node : Node) (number : ℕ) : Type 0 where
+pub record IsNodeRefutedBy (network : NetworkOf) (node : Node) (number : ℕ) : Type 0 where
   pub limit : LimitOf
   pub named : slice_get network.limits number ≡ Some limit
   pub owned : IsInForce limit node.inside
@@ -64,7 +64,7 @@ pub record IsWeight (weight : ℕ) : Type 0 where
   pub high : weight ≤ 2 ^ 44
 
 -- what a dual line wants of a share, in one record: its limit is in force for all plans of the node
-pub record IsShareAt (network : NetworkOf) (node : Node) (share : ℕ × CutTextOf) : Type 0 where
+pub record IsLineShareAt (network : NetworkOf) (node : Node) (share : ℕ × CutTextOf) : Type 0 where
   pub multiplier : IsWeight share.0
   pub limit : LimitOf
   pub named : slice_get network.limits share.1.limit ≡ Some limit
@@ -72,10 +72,10 @@ pub record IsShareAt (network : NetworkOf) (node : Node) (share : ℕ × CutText
   pub owned : IsInForce limit node.inside
 
 -- what a dual line wants of its divisor and its shares, in one record
-pub record IsDualAt (network : NetworkOf) (node : Node) (divisor : ℕ) (shares : List (ℕ × CutTextOf)) : Type 0 where
+pub record IsDualLineAt (network : NetworkOf) (node : Node) (divisor : ℕ) (shares : List (ℕ × CutTextOf)) : Type 0 where
   pub divides : IsWeight divisor
   pub few : length shares ≤ 64
-  pub each : All (IsShareAt network node) shares
+  pub each : All (IsLineShareAt network node) shares
 
 -- ---- trees
 

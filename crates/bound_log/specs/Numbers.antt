@@ -10,7 +10,7 @@ abbrev pub number_bound : ℕ
 number_bound = 10 ^ 19
 
 -- the text is that of a number of at most 19 digits
-pub record IsNumber (text : List ℕ) (number : ℕ) : Type 0 where
+pub record IsNumberText (text : List ℕ) (number : ℕ) : Type 0 where
   pub spelled : text ≡ decimal number
   pub size : number < number_bound
 

@@ -19,7 +19,7 @@ pub record IsSpelled (pool : List CutOf) (share : Share) : Type 0 where
   pub narrow : IsNarrow (at cut.x)
 
 -- a share that a line may have at a node: its cut's limit is in force for all plans of the node
-pub record MayBeNamed (network : NetworkOf) (node : Node) (pool : List CutOf) (share : Share) : Type 0 where
+pub record IsPoolShareAt (network : NetworkOf) (node : Node) (pool : List CutOf) (share : Share) : Type 0 where
   pub multiplier : IsWeight share.y
   pub cut : CutOf
   pub named : slice_get pool share.cut ≡ Some cut

@@ -6,7 +6,7 @@ use Rattle.lent_parts.specs.Pieces.{is_space}
 use Rattle.bound_log.specs.Numbers.{AreShort}
 
 -- the words begin with those of an item, and these are the words after it
-pub record Begins {X : Type 0} (item_words : X → List (List ℕ)) (item_numbers : X → List ℕ) (words : List (List ℕ)) (item : X) (after : List (List ℕ)) : Type 0 where
+pub record BeginsWithItem {X : Type 0} (item_words : X → List (List ℕ)) (item_numbers : X → List ℕ) (words : List (List ℕ)) (item : X) (after : List (List ℕ)) : Type 0 where
   pub spelled : words ≡ item_words item ++ after
   pub short : AreShort (item_numbers item)
 

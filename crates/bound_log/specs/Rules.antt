@@ -23,9 +23,9 @@ pub record LineRule : Type 0 where
   pub kind : LogKind
 
 -- the kind of the first rule that isn't kept
-abbrev pub first_broken : List LineRule → Option LogKind
-first_broken [] = None
-first_broken (rule ∷ rules) = if rule.kept then first_broken rules else Some rule.kind
+abbrev pub first_unkept : List LineRule → Option LogKind
+first_unkept [] = None
+first_unkept (rule ∷ rules) = if rule.kept then first_unkept rules else Some rule.kind
 
 -- ---- tests
 
@@ -34,9 +34,9 @@ abbrev pub leaves_open : Node → ℕ → Bool
 leaves_open node candidate = get_or node.upper candidate false && not (get_or node.inside candidate true)
 
 -- a candidate that may be none is in the plan
-abbrev pub chooses : List Bool → Option ℕ → Bool
-chooses plan None = true
-chooses plan (Some candidate) = get_or plan candidate false
+abbrev pub chooses_if_any : List Bool → Option ℕ → Bool
+chooses_if_any plan None = true
+chooses_if_any plan (Some candidate) = get_or plan candidate false
 
 abbrev pub is_refuted : Verdict → Bool
 is_refuted Met = false
@@ -90,7 +90,7 @@ is_open_for node line = list_all (leaves_open node) (candidates_split line)
 
 -- each limit that the line names is in force for the inner plan: it has no owner, or the plan chooses its owner
 abbrev pub is_owned : NetworkOf → Node → LogLine → Bool
-is_owned network node line = list_all (λ number. limit_passes (λ limit. chooses node.inside limit.owner) (slice_get network.limits number)) (limits_named line)
+is_owned network node line = list_all (λ number. limit_passes (λ limit. chooses_if_any node.inside limit.owner) (slice_get network.limits number)) (limits_named line)
 
 -- the verdict of the upper plan is Refuted on each limit on which the line says so
 abbrev pub is_refuting : NetworkOf → Node → LogLine → Bool
@@ -114,8 +114,8 @@ line_rules network node line =
 
 -- a line is allowed at a node: it breaks no rule
 abbrev pub IsAllowedLine : NetworkOf → Node → LogLine → Type 0
-IsAllowedLine network node line = first_broken (line_rules network node line) ≡ None
+IsAllowedLine network node line = first_unkept (line_rules network node line) ≡ None
 
 -- the first rule that a line breaks at a node is of this kind
 abbrev pub IsFirstBroken : NetworkOf → Node → LogLine → LogKind → Type 0
-IsFirstBroken network node line kind = first_broken (line_rules network node line) ≡ Some kind
+IsFirstBroken network node line kind = first_unkept (line_rules network node line) ≡ Some kind

@@ -80,7 +80,7 @@ pub struct Pairs<'a> {
 impl<'a> Model for Pairs<'a> {
     ghost use Rattle.std.specs.Prelude.{ℕ, ℤ, List};
     ghost use Rattle.bound_log.specs.CutReading.{CanRead, pairs_in};
-    ghost use Rattle.bound_log.specs.LogWords.{words_of};
+    ghost use Rattle.lent_parts.specs.Pieces.{words_of};
 
     ghost Value = { List (ℕ × ℤ) };
 

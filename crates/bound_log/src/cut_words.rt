@@ -2,16 +2,16 @@
 ghost use Rattle.std.specs.Prelude.{◌≡◌, ℕ, ℤ, List, ◌∷◌, IfSome, IfNone, IsTrue, IsFalse};
 ghost use Rattle.bound_log.specs.CutReading.{CutBegins, PairBegins, PairsBegin, pairs_in};
 ghost use Rattle.bound_log.specs.CutText.{CutTextOf};
-ghost use Rattle.bound_log.specs.LogWords.{words_of};
-ghost use Rattle.bound_log.specs.Numbers.{IsNumber, IsSigned};
+ghost use Rattle.lent_parts.specs.Pieces.{words_of};
+ghost use Rattle.bound_log.specs.Numbers.{IsNumberText, IsSigned};
 
 use crate::number::{read_number, read_signed};
 use lent_parts::TokenWalk;
 
 // Takes the next word, which has to be a number.
 pub fn next_number(words: &mut TokenWalk<'_>) -> Option<u64>
-    ensures some { IfSome result (λ number. (text : List ℕ) × IsNumber text number × (words_of words.old ≡ text ∷ words_of words.new)) }
-    ensures none { IfNone result ((text : List ℕ) (after : List (List ℕ)) (number : ℕ) → words_of words.old ≡ text ∷ after → IsNumber text number → ⊥) }
+    ensures some { IfSome result (λ number. (text : List ℕ) × IsNumberText text number × (words_of words.old ≡ text ∷ words_of words.new)) }
+    ensures none { IfNone result ((text : List ℕ) (after : List (List ℕ)) (number : ℕ) → words_of words.old ≡ text ∷ after → IsNumberText text number → ⊥) }
 {
     match words.next() {
         Some(word) => read_number(word.text),

@@ -70,7 +70,7 @@ impl<'a> Model for ShareTexts<'a> {
     ghost use Rattle.std.specs.Prelude.{ℕ, List};
     ghost use Rattle.bound_log.specs.CutText.{CutTextOf};
     ghost use Rattle.bound_log.specs.DualReading.{CanReadShares, shares_in};
-    ghost use Rattle.bound_log.specs.LogWords.{words_of};
+    ghost use Rattle.lent_parts.specs.Pieces.{words_of};
 
     ghost Value = { List (ℕ × CutTextOf) };
 

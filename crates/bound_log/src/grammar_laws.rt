@@ -2,14 +2,14 @@
 ghost use Rattle.std.specs.Prelude.{◌≡◌, ℕ, List, ◌++◌, All, map};
 ghost use Rattle.std.specs.Str.Parse.{digits_value};
 ghost use Rattle.lent_parts.specs.Pieces.{lines_of};
-ghost use Rattle.bound_log.specs.Grammar.{HasNumbersBelow, IsLine, IsNumber, IsShortNumeral, number_bound, text_line};
+ghost use Rattle.bound_log.specs.Grammar.{HasNumbersBelow, IsLine, IsNumberText, IsShortNumeral, number_bound, text_line};
 ghost use Rattle.bound_log.specs.LogText.{line_body, line_end, line_text, lines_text};
 ghost use Rattle.bound_log.specs.declared.log_line.LogLine.{LogLine as LineOf};
 
 /// The texts of numbers are `0`, and a digit from 1 to 9 followed by at most 18 digits.
 pub fn numbers_are_numerals()
-    ensures numeral { (text : List ℕ) (number : ℕ) → IsNumber text number → IsShortNumeral text × (number ≡ digits_value 10 text) }
-    ensures number { (text : List ℕ) → IsShortNumeral text → IsNumber text (digits_value 10 text) }
+    ensures numeral { (text : List ℕ) (number : ℕ) → IsNumberText text number → IsShortNumeral text × (number ≡ digits_value 10 text) }
+    ensures number { (text : List ℕ) → IsShortNumeral text → IsNumberText text (digits_value 10 text) }
 {}
 
 /// A text is that of at most one line.

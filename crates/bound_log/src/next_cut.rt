@@ -1,7 +1,7 @@
 ghost use Rattle.std.specs.Prelude.{ℕ, List, IfSome, IfNone};
 ghost use Rattle.bound_log.specs.CutReading.{CutBegins};
 ghost use Rattle.bound_log.specs.CutText.{CutTextOf};
-ghost use Rattle.bound_log.specs.LogWords.{words_of};
+ghost use Rattle.lent_parts.specs.Pieces.{words_of};
 
 use crate::cut_text::CutText;
 use crate::cut_words::{next_number, take_pairs};

@@ -2,7 +2,7 @@
 ghost use Rattle.std.specs.Prelude.{ℕ, List, IfSome, IfNone, IsTrue, IsFalse};
 ghost use Rattle.bound_log.specs.CutText.{CutTextOf};
 ghost use Rattle.bound_log.specs.DualReading.{DualBegins, ShareBegins, SharesBegin, shares_in};
-ghost use Rattle.bound_log.specs.LogWords.{words_of};
+ghost use Rattle.lent_parts.specs.Pieces.{words_of};
 
 use crate::cut_text::CutText;
 use crate::cut_words::next_number;

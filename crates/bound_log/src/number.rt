@@ -1,12 +1,12 @@
 ghost use Rattle.std.specs.Prelude.{◌≡◌, ℕ, ℤ, ◌<◌, ◌↔◌, length, get_or, ◌∷◌, IfSome, IfNone, IsTrue};
-ghost use Rattle.bound_log.specs.Numbers.{IsNumber, IsSigned};
+ghost use Rattle.bound_log.specs.Numbers.{IsNumberText, IsSigned};
 
 use text_num::read_digits;
 
 // The number that the text writes: `0`, or a digit from 1 to 9 followed by at most 18 digits.
 pub fn read_number(text: &[u8]) -> Option<u64>
-    ensures some { IfSome result (λ number. IsNumber text.now number) }
-    ensures none { IfNone result ((number : ℕ) → IsNumber text.now number → ⊥) }
+    ensures some { IfSome result (λ number. IsNumberText text.now number) }
+    ensures none { IfNone result ((number : ℕ) → IsNumberText text.now number → ⊥) }
 {
     if has_leading_zero(text) {
         return None;

@@ -13,9 +13,9 @@ ghost use Rattle.bound_log.specs.CutText.{CutTextOf, displaced_by, moves_from, t
 ghost use Rattle.bound_log.specs.DualText.{text_of_share, texts_of_shares, weighed_text};
 ghost use Rattle.bound_log.specs.Grammar.{HasNumbersBelow, IsLine, number_bound};
 ghost use Rattle.bound_log.specs.LogText.{line_body, log_text};
-ghost use Rattle.bound_log.specs.LogTree.{HasBound, IsAllowed, IsBrokenBy, IsDualAt, IsOpenAt, IsRefutedBy, IsWeight};
+ghost use Rattle.bound_log.specs.LogTree.{HasBound, IsAllowed, IsBrokenBy, IsDualLineAt, IsOpenAt, IsNodeRefutedBy, IsWeight};
 ghost use Rattle.bound_log.specs.Placed.{placed};
-ghost use Rattle.bound_log.specs.PoolShares.{IsSpelled, MayBeNamed};
+ghost use Rattle.bound_log.specs.PoolShares.{IsSpelled, IsPoolShareAt};
 ghost use Rattle.bound_log.specs.Rules.{IsAllowedLine, line_rules};
 ghost use Rattle.std.specs.List.{list_all};
 ghost use Rattle.bound_log.specs.Spells.{Spells};
@@ -53,9 +53,9 @@ pub fn trees_are_allowed_line_by_line()
 pub fn lines_are_allowed_by_their_kinds()
     ensures split { (network : NetworkOf) (node : Node) (candidate : ℕ) → IsAllowedLine network node (log_line.Split candidate) ↔ IsOpenAt network node candidate }
     ensures cost { (network : NetworkOf) (node : Node) → IsAllowedLine network node (log_line.Leaf log_leaf.Cost) }
-    ensures pivot { (network : NetworkOf) (node : Node) (number : ℕ) → IsAllowedLine network node (log_line.Leaf (log_leaf.Pivot number)) ↔ IsRefutedBy network node number }
+    ensures pivot { (network : NetworkOf) (node : Node) (number : ℕ) → IsAllowedLine network node (log_line.Leaf (log_leaf.Pivot number)) ↔ IsNodeRefutedBy network node number }
     ensures cut { (network : NetworkOf) (node : Node) (text : CutTextOf) → IsAllowedLine network node (log_line.Leaf (log_leaf.Cut text)) ↔ IsBrokenBy network node text }
-    ensures dual { (network : NetworkOf) (node : Node) (divisor : ℕ) (shares : List (ℕ × CutTextOf)) → IsAllowedLine network node (log_line.Leaf (log_leaf.Dual divisor shares)) ↔ IsDualAt network node divisor shares }
+    ensures dual { (network : NetworkOf) (node : Node) (divisor : ℕ) (shares : List (ℕ × CutTextOf)) → IsAllowedLine network node (log_line.Leaf (log_leaf.Dual divisor shares)) ↔ IsDualLineAt network node divisor shares }
 {}
 
 /// A line keeps all rules at a node exactly where it is allowed there.
@@ -86,5 +86,5 @@ pub fn duals_keep_their_shares()
     ensures read { (d : ℕ) (shares : List ShareOf) (pool : List CutOf) → d ≤ 2 ^ 44 → length shares ≤ 64 → All (IsSpelled pool) shares
         → IsLine (line_body (log_line.Leaf (log_leaf.Dual d (texts_of_shares pool shares)))) (log_line.Leaf (log_leaf.Dual d (texts_of_shares pool shares))) }
     ensures allowed { (network : NetworkOf) (node : Node) (d : ℕ) (shares : List ShareOf) (pool : List CutOf) → IsWeight d → length shares ≤ 64
-        → All (MayBeNamed network node pool) shares → IsAllowedLine network node (log_line.Leaf (log_leaf.Dual d (texts_of_shares pool shares))) }
+        → All (IsPoolShareAt network node pool) shares → IsAllowedLine network node (log_line.Leaf (log_leaf.Dual d (texts_of_shares pool shares))) }
 {}

@@ -14,18 +14,18 @@ use Rattle.bound_log.specs.declared.log_line.LogLine.TheVariants as line
 use Rattle.bound_log.proofs.AllowedLemmas.{cut_broken}
 use Rattle.bound_log.proofs.MoveLemmas.{cut_line_allowed}
 use Rattle.bound_log.specs.DualText.{text_or_none}
-use Rattle.branch_bound.specs.Cuts.{SearchCuts, IsCutFor, AreCutsFor, IsBrokenCut, line_of}
+use Rattle.branch_bound.specs.Cuts.{SearchCuts, IsCutFor, AreCutsFor, IsBrokenCut, log_line_of}
 use Rattle.branch_bound.specs.declared.node_line.NodeLine.{NodeLine}
 use Rattle.branch_bound.specs.declared.node_line.NodeLine.TheVariants.{Split, Cost, Pivot, Cut, UnitDual, Dual}
 
 -- Laws of the cuts of a search and of the lines that it writes.
 
 -- the line of a split is a split
-pub split_line : (cuts : SearchCuts) (found : NodeLine) (candidate : ℕ) → found ≡ Split candidate → line_of cuts found ≡ line.Split candidate
-split_line cuts found candidate is = ap (λ (l : NodeLine). line_of cuts l) is
+pub split_line : (cuts : SearchCuts) (found : NodeLine) (candidate : ℕ) → found ≡ Split candidate → log_line_of cuts found ≡ line.Split candidate
+split_line cuts found candidate is = ap (λ (l : NodeLine). log_line_of cuts l) is
 
 -- and no other line is
-pub unsplit_line : (cuts : SearchCuts) (found : NodeLine) → ((candidate : ℕ) → found ≡ Split candidate → ⊥) → (candidate : ℕ) → line_of cuts found ≡ line.Split candidate → ⊥
+pub unsplit_line : (cuts : SearchCuts) (found : NodeLine) → ((candidate : ℕ) → found ≡ Split candidate → ⊥) → (candidate : ℕ) → log_line_of cuts found ≡ line.Split candidate → ⊥
 unsplit_line cuts (Split k) none candidate is = none k refl
 unsplit_line cuts Cost none candidate is = absurd (cc)
 unsplit_line cuts (Pivot k) none candidate is = absurd (cc)

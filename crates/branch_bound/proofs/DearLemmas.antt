@@ -17,7 +17,7 @@ use Rattle.bound_log.specs.declared.log_leaf.LogLeaf.TheVariants.{Dual}
 use Rattle.bound_log.specs.declared.log_line.LogLine.TheVariants.{Leaf}
 use Rattle.bound_log.specs.CutText.{moves_from, displaced_by}
 use Rattle.bound_log.specs.DualText.{cover_at, texts_of_shares}
-use Rattle.bound_log.specs.LogTree.{IsRefutedBy, IsShareAt, leaf_bound, leaf_bound_for}
+use Rattle.bound_log.specs.LogTree.{IsNodeRefutedBy, IsLineShareAt, leaf_bound, leaf_bound_for}
 use Rattle.bound_log.specs.Rules.{IsAllowedLine, is_displacement}
 use Rattle.bound_log.proofs.AllowedLemmas.{dual_allowed}
 use Rattle.bound_log.proofs.SoundLemmas.{at_place}
@@ -94,13 +94,13 @@ unit_allowed network node earlier share bounds shows =
     dual_allowed network node share.d (unit_text share ∷ []) (record {
       divides = record { low = omega (arith, shows.divisor, shows.dear.weighs); high = omega (arith, shows.small_divisor) };
       few = omega arith;
-      each = All-cons (IsShareAt network node) (unit_text share) [] (record {
+      each = All-cons (IsLineShareAt network node) (unit_text share) [] (record {
         multiplier = record { low = omega (arith, shows.multiplier, shows.dear.priced); high = omega (arith, shows.small_multiplier) };
         limit = shows.limit;
         named = shows.loaded.named;
         displacement = unit_displacement (length network.unknowns) share.unknown shows.loaded.inside;
         owned = unowned_in_force shows.limit node.inside (none_of shows.limit.owner (kept.unowned shows.loaded.of_point));
-      }) (All-nil (IsShareAt network node));
+      }) (All-nil (IsLineShareAt network node));
     })
 
 -- ---- its bound
@@ -134,7 +134,7 @@ above_past network best.NoPlan price above = absurd above
 above_past network (best.Certified plan) price above = omega (arith, above)
 above_past network (best.Unsettled plan) price above = above
 
-pub not_idle : (network : NetworkOf) (node : Node) (found : Best) → (IsCovered network found node.inside → ⊥) → ((k : ℕ) → IsRefutedBy network node k → ⊥) →
+pub not_idle : (network : NetworkOf) (node : Node) (found : Best) → (IsCovered network found node.inside → ⊥) → ((k : ℕ) → IsNodeRefutedBy network node k → ⊥) →
     ((number unknown candidate : ℕ) → IsDearByUnit network node (best_bound network found) number unknown candidate → ⊥) →
     IsIdle network node (best_bound network found) → ⊥
 not_idle network node found uncovered none undear (refuted number by) =

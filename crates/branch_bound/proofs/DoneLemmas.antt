@@ -16,7 +16,7 @@ use Rattle.bound_log.specs.declared.bound.Bound.{Bound}
 use Rattle.bound_log.specs.declared.bound.Bound.TheVariants.{NoPlan, AtLeast}
 use Rattle.bound_log.specs.Bound.{IsAtMost, lesser}
 use Rattle.bound_log.specs.CutText.{CutTextOf, displaced_by}
-use Rattle.bound_log.specs.LogTree.{IsBrokenBy, IsOpenAt, IsRefutedBy, leaf_bound, with_chosen, without_chosen}
+use Rattle.bound_log.specs.LogTree.{IsBrokenBy, IsOpenAt, IsNodeRefutedBy, leaf_bound, with_chosen, without_chosen}
 use Rattle.bound_log.specs.Rules.{IsAllowedLine}
 use Rattle.bound_log.specs.Tree.{tip}
 use Rattle.bound_log.specs.declared.log_leaf.LogLeaf.{LogLeaf}
@@ -25,7 +25,7 @@ use Rattle.bound_log.proofs.SoundLemmas.{IsInForce-grows, at_place, bound_for-be
 use Rattle.idle_splits.specs.Idle.{IsNoMore}
 use Rattle.branch_bound.specs.declared.best.Best.{Best}
 use Rattle.branch_bound.specs.declared.best.Best.TheVariants as best
-use Rattle.branch_bound.specs.Found.{best_bound, IsKept, IsCovered, IsBelow, IsPast, IsDone}
+use Rattle.branch_bound.specs.Found.{best_bound, IsTrueBest, IsCovered, IsBelow, IsPast, IsDone}
 use Rattle.branch_bound.specs.Searched.{IsCertified, IsUnsettled}
 use Rattle.branch_bound.proofs.BoundOrder.{no_more_same, no_more_then, no_more_both, lesser_left, lesser_right}
 
@@ -76,7 +76,7 @@ above_price network (best.Certified kept) plan above = not_lt (price_of network 
 above_price network (best.Unsettled kept) plan above = not_lt (price_of network plan) (price_of network kept) above
 
 -- the best plan stays, whose price is no more than the bound
-IsDone-stays : (network : NetworkOf) (node : Node) (bound : Bound) (found : Best) → IsKept network found → IsNoMore (best_bound network found) bound →
+IsDone-stays : (network : NetworkOf) (node : Node) (bound : Bound) (found : Best) → IsTrueBest network found → IsNoMore (best_bound network found) bound →
     ((other : List Bool) → IsCertified network other → IsWithin node.inside other → IsWithin other node.upper → IsCovered network found other) →
     IsDone network node bound found found
 IsDone-stays network node bound found kept price covered = record {
@@ -100,7 +100,7 @@ past_price network (best.Certified plan) price past = past
 past_price network (best.Unsettled plan) price past = less_than_bound (price_of network plan) price past
 
 -- a node is cut off by the bound of a leaf
-pub IsDone-past : (network : NetworkOf) (node : Node) (end : LogLeaf) (price : ℕ) (found : Best) → IsNetwork network → IsKept network found →
+pub IsDone-past : (network : NetworkOf) (node : Node) (end : LogLeaf) (price : ℕ) (found : Best) → IsNetwork network → IsTrueBest network found →
     IsAllowedLine network node (Leaf end) → leaf_bound network node end ≡ AtLeast price → IsPast network found price →
     IsDone network node (leaf_bound network node end) found found
 IsDone-past network node end price found bounds kept allowed is past =
@@ -111,14 +111,14 @@ IsDone-past network node end price found bounds kept allowed is past =
     past_more network found price (price_of network other) (subst (λ b. IsAtMost b (price_of network other)) is least) past)
 
 -- a node is cut off by its price
-pub IsDone-cut_off : (network : NetworkOf) (node : Node) (found : Best) → IsKept network found → IsCovered network found node.inside →
+pub IsDone-cut_off : (network : NetworkOf) (node : Node) (found : Best) → IsTrueBest network found → IsCovered network found node.inside →
     IsDone network node (AtLeast (price_of network node.inside)) found found
 IsDone-cut_off network node found kept cut =
     IsDone-stays network node (AtLeast (price_of network node.inside)) found kept (covered_price network found node.inside cut)
     (λ other certified above below. IsCovered-dearer network found node.inside other (plan_price-grows (prices_of network) node.inside other above) cut)
 
 -- no plan of a node that a limit refutes is certified
-refuted_empty : (network : NetworkOf) (node : Node) (number : ℕ) (other : List Bool) → IsNetwork network → IsRefutedBy network node number →
+refuted_empty : (network : NetworkOf) (node : Node) (number : ℕ) (other : List Bool) → IsNetwork network → IsNodeRefutedBy network node number →
     IsCertified network other → IsWithin node.inside other → IsWithin other node.upper → ⊥
 refuted_empty network node number other bounds refuted certified above below =
     let met : verdict_of network other refuted.limit ≡ Met =
@@ -136,25 +136,25 @@ broken_empty network node cut other bounds broken certified above below =
     broken_fails network other node.upper broken.limit (displaced_by cut.pairs) bounds kept below broken.breaks (met_sound network other broken.limit bounds kept met)
 
 -- a node has no certified plan
-IsDone-empty : (network : NetworkOf) (node : Node) (found : Best) → IsKept network found →
+IsDone-empty : (network : NetworkOf) (node : Node) (found : Best) → IsTrueBest network found →
     ((other : List Bool) → IsCertified network other → IsWithin node.inside other → IsWithin other node.upper → ⊥) → IsDone network node NoPlan found found
 IsDone-empty network node found kept empty =
     IsDone-stays network node NoPlan found kept tt (λ other certified above below. absurd (empty other certified above below))
 
 -- a limit refutes a node
-pub IsDone-refuted : (network : NetworkOf) (node : Node) (number : ℕ) (found : Best) → IsNetwork network → IsKept network found →
-    IsRefutedBy network node number → IsDone network node NoPlan found found
+pub IsDone-refuted : (network : NetworkOf) (node : Node) (number : ℕ) (found : Best) → IsNetwork network → IsTrueBest network found →
+    IsNodeRefutedBy network node number → IsDone network node NoPlan found found
 IsDone-refuted network node number found bounds kept refuted =
     IsDone-empty network node found kept (λ other. refuted_empty network node number other bounds refuted)
 
 -- all plans of a node break a cut
-pub IsDone-broken : (network : NetworkOf) (node : Node) (cut : CutTextOf) (found : Best) → IsNetwork network → IsKept network found →
+pub IsDone-broken : (network : NetworkOf) (node : Node) (cut : CutTextOf) (found : Best) → IsNetwork network → IsTrueBest network found →
     IsBrokenBy network node cut → IsDone network node NoPlan found found
 IsDone-broken network node cut found bounds kept broken =
     IsDone-empty network node found kept (λ other. broken_empty network node cut other bounds broken)
 
 -- another plan becomes the best one, whose price is the bound
-IsDone-offered : (network : NetworkOf) (node : Node) (found offered : Best) (bound : Bound) → best_bound network offered ≡ bound → IsKept network offered →
+IsDone-offered : (network : NetworkOf) (node : Node) (found offered : Best) (bound : Bound) → best_bound network offered ≡ bound → IsTrueBest network offered →
     IsNoMore bound (best_bound network found) →
     ((other : List Bool) → IsCertified network other → IsWithin node.inside other → IsWithin other node.upper → IsCovered network offered other) →
     ((other : List Bool) → IsCovered network found other → IsCovered network offered other) → IsDone network node bound found offered
@@ -206,7 +206,7 @@ IsDone-unsettled network node found plan copied same unsettled uncovered =
     (λ other covered. uncovered_less network found node.inside other uncovered covered))
 
 -- .. or stays behind one that is as cheap
-pub IsDone-undercut : (network : NetworkOf) (node : Node) (found : Best) → IsKept network found → node.inside ≡ node.upper →
+pub IsDone-undercut : (network : NetworkOf) (node : Node) (found : Best) → IsTrueBest network found → node.inside ≡ node.upper →
     IsUnsettled network node.inside → (IsBelow (price_of network node.inside) (best_bound network found) → ⊥) →
     IsDone network node (AtLeast (price_of network node.inside)) found found
 IsDone-undercut network node found kept same unsettled above_it =

@@ -13,7 +13,7 @@ use Rattle.bound_log.proofs.AllowedLemmas.{split_allowed, cost_allowed}
 use Rattle.bound_log.proofs.CountLemmas.{counts_with-then}
 use Rattle.geo_model.proofs.PlanLemmas.{IsWithin-with, IsWithin-without, IsWithin-none}
 use Rattle.bound_log.specs.LogText.{line_text, lines_text}
-use Rattle.bound_log.specs.LogTree.{root_of, IsOpenAt, IsRefutedBy, with_chosen, without_chosen, bound_at}
+use Rattle.bound_log.specs.LogTree.{root_of, IsOpenAt, IsNodeRefutedBy, with_chosen, without_chosen, bound_at}
 use Rattle.bound_log.specs.declared.line_kind.LineKind.{LineKind}
 use Rattle.bound_log.specs.declared.log_leaf.LogLeaf.{LogLeaf}
 use Rattle.bound_log.specs.declared.log_leaf.LogLeaf.TheVariants.{Cost}
@@ -28,21 +28,21 @@ use Rattle.branch_bound.specs.declared.best.Best.{Best}
 use Rattle.branch_bound.specs.declared.search_fault.SearchFault.{SearchFault}
 use Rattle.branch_bound.specs.declared.search_fault.SearchFault.TheVariants as fault
 use Rattle.shelf_io.specs.States.{ShelfState}
-use Rattle.branch_bound.specs.Explored.{Adds, Breaks, IsNode, IsLineAt, Explores, BreaksOff}
-use Rattle.branch_bound.specs.Found.{IsKept, best_bound}
+use Rattle.branch_bound.specs.Explored.{AddsText, BreaksText, IsNode, IsLineAt, Explores, BreaksTree}
+use Rattle.branch_bound.specs.Found.{IsTrueBest, best_bound}
 use Rattle.branch_bound.proofs.BoundOrder.{no_more_both, no_more_then}
 use Rattle.branch_bound.proofs.DoneLemmas.{IsDone-split}
-use Rattle.branch_bound.proofs.PieceLemmas.{Breaks-nothing, Adds-then, Breaks-after, Breaks-longer}
+use Rattle.branch_bound.proofs.PieceLemmas.{BreaksText-nothing, AddsText-then, BreaksText-after, BreaksText-longer}
 
 -- How the parts of an exploration make the whole.
 
 -- memory ran out before a line was written
-pub BreaksOff-nothing : (network : NetworkOf) (node : Node) (name : List ℕ) (state : ShelfState) →
-    ((files : Files) → state.held ≡ Some files → IsHeld files name) → BreaksOff network node name fault.NoMemory state state
-BreaksOff-nothing network node name state told = record {
+pub BreaksTree-nothing : (network : NetworkOf) (node : Node) (name : List ℕ) (state : ShelfState) →
+    ((files : Files) → state.held ≡ Some files → IsHeld files name) → BreaksTree network node name fault.NoMemory state state
+BreaksTree-nothing network node name state told = record {
   tree = tip Cost;
   allowed = cost_allowed network node;
-  broken = Breaks-nothing name (lines_text (tree_lines (tip Cost))) state told;
+  broken = BreaksText-nothing name (lines_text (tree_lines (tip Cost))) state told;
 }
 
 -- the text of a tree of one leaf
@@ -52,13 +52,13 @@ tip_text end = sym (append-nil (line_text (Leaf end)))
 -- a leaf was written
 pub Explores-leaf : (network : NetworkOf) (node : Node) (name : List ℕ) (best best_now : Best) (counts counts_now : Counts) (before now : ShelfState) (found : LogLine) →
     IsLineAt network node best best_now found → ((candidate : ℕ) → found ≡ Split candidate → ⊥) →
-    Adds name (line_text found) before now → counts_now ≡ counts_with counts (kind_of found ∷ []) →
+    AddsText name (line_text found) before now → counts_now ≡ counts_with counts (kind_of found ∷ []) →
     Explores network node name best best_now counts counts_now before now
 Explores-leaf network node name best best_now counts counts_now before now (Split candidate) here not_split added counted = absurd (not_split candidate refl)
 Explores-leaf network node name best best_now counts counts_now before now (Leaf end) here not_split added counted = record {
   tree = tip end;
   allowed = here.allowed;
-  added = subst (λ text. Adds name text before now) (tip_text end) added;
+  added = subst (λ text. AddsText name text before now) (tip_text end) added;
   counted = counted;
   done = here.done;
   no_idle = λ earlier below. tt;
@@ -70,47 +70,47 @@ split_text : (candidate : ℕ) (with_it without_it : Tree) →
 split_text candidate with_it without_it = ap (λ text. line_text (Split candidate) ++ text) (flat_map-append line_text (tree_lines with_it) (tree_lines without_it))
 
 -- a split was begun
-BreaksOff-split : (network : NetworkOf) (node : Node) (name : List ℕ) (candidate : ℕ) (why : SearchFault) (before now : ShelfState) →
-    IsOpenAt network node candidate → Breaks name (line_text (Split candidate)) why before now → BreaksOff network node name why before now
-BreaksOff-split network node name candidate why before now is_open broken = record {
+BreaksTree-split : (network : NetworkOf) (node : Node) (name : List ℕ) (candidate : ℕ) (why : SearchFault) (before now : ShelfState) →
+    IsOpenAt network node candidate → BreaksText name (line_text (Split candidate)) why before now → BreaksTree network node name why before now
+BreaksTree-split network node name candidate why before now is_open broken = record {
   tree = fork candidate (tip Cost) (tip Cost);
   allowed = (split_allowed network node candidate is_open, cost_allowed network (with_chosen node candidate), cost_allowed network (without_chosen node candidate));
-  broken = Breaks-longer name (line_text (Split candidate)) (lines_text (tree_lines (tip Cost) ++ tree_lines (tip Cost))) why before now broken;
+  broken = BreaksText-longer name (line_text (Split candidate)) (lines_text (tree_lines (tip Cost) ++ tree_lines (tip Cost))) why before now broken;
 }
 
 -- a line of a node was begun
-pub BreaksOff-line : (network : NetworkOf) (node : Node) (name : List ℕ) (best best_now : Best) (why : SearchFault) (before now : ShelfState) (found : LogLine) →
-    IsLineAt network node best best_now found → Breaks name (line_text found) why before now → BreaksOff network node name why before now
-BreaksOff-line network node name best best_now why before now (Split candidate) here broken = BreaksOff-split network node name candidate why before now here.0 broken
-BreaksOff-line network node name best best_now why before now (Leaf end) here broken = record {
+pub BreaksTree-line : (network : NetworkOf) (node : Node) (name : List ℕ) (best best_now : Best) (why : SearchFault) (before now : ShelfState) (found : LogLine) →
+    IsLineAt network node best best_now found → BreaksText name (line_text found) why before now → BreaksTree network node name why before now
+BreaksTree-line network node name best best_now why before now (Split candidate) here broken = BreaksTree-split network node name candidate why before now here.0 broken
+BreaksTree-line network node name best best_now why before now (Leaf end) here broken = record {
   tree = tip end;
   allowed = here.allowed;
-  broken = subst (λ text. Breaks name text why before now) (tip_text end) broken;
+  broken = subst (λ text. BreaksText name text why before now) (tip_text end) broken;
 }
 
 -- the first child was begun
-pub BreaksOff-first : (network : NetworkOf) (node : Node) (name : List ℕ) (candidate : ℕ) (why : SearchFault) (before middle now : ShelfState) →
-    IsOpenAt network node candidate → Adds name (line_text (Split candidate)) before middle →
-    BreaksOff network (with_chosen node candidate) name why middle now → BreaksOff network node name why before now
-BreaksOff-first network node name candidate why before middle now is_open added first = record {
+pub BreaksTree-first : (network : NetworkOf) (node : Node) (name : List ℕ) (candidate : ℕ) (why : SearchFault) (before middle now : ShelfState) →
+    IsOpenAt network node candidate → AddsText name (line_text (Split candidate)) before middle →
+    BreaksTree network (with_chosen node candidate) name why middle now → BreaksTree network node name why before now
+BreaksTree-first network node name candidate why before middle now is_open added first = record {
   tree = fork candidate first.tree (tip Cost);
   allowed = (split_allowed network node candidate is_open, first.allowed, cost_allowed network (without_chosen node candidate));
-  broken = subst (λ text. Breaks name text why before now) (sym (split_text candidate first.tree (tip Cost)))
-      (Breaks-after name (line_text (Split candidate)) (lines_text (tree_lines first.tree) ++ lines_text (tree_lines (tip Cost))) why before middle now added
-      (Breaks-longer name (lines_text (tree_lines first.tree)) (lines_text (tree_lines (tip Cost))) why middle now first.broken));
+  broken = subst (λ text. BreaksText name text why before now) (sym (split_text candidate first.tree (tip Cost)))
+      (BreaksText-after name (line_text (Split candidate)) (lines_text (tree_lines first.tree) ++ lines_text (tree_lines (tip Cost))) why before middle now added
+      (BreaksText-longer name (lines_text (tree_lines first.tree)) (lines_text (tree_lines (tip Cost))) why middle now first.broken));
 }
 
 -- the second child was begun
-pub BreaksOff-second : (network : NetworkOf) (node : Node) (name : List ℕ) (candidate : ℕ) (why : SearchFault) (best best_now : Best) (counts counts_now : Counts) (before middle later now : ShelfState) →
-    IsOpenAt network node candidate → Adds name (line_text (Split candidate)) before middle →
+pub BreaksTree-second : (network : NetworkOf) (node : Node) (name : List ℕ) (candidate : ℕ) (why : SearchFault) (best best_now : Best) (counts counts_now : Counts) (before middle later now : ShelfState) →
+    IsOpenAt network node candidate → AddsText name (line_text (Split candidate)) before middle →
     Explores network (with_chosen node candidate) name best best_now counts counts_now middle later →
-    BreaksOff network (without_chosen node candidate) name why later now → BreaksOff network node name why before now
-BreaksOff-second network node name candidate why best best_now counts counts_now before middle later now is_open added first second = record {
+    BreaksTree network (without_chosen node candidate) name why later now → BreaksTree network node name why before now
+BreaksTree-second network node name candidate why best best_now counts counts_now before middle later now is_open added first second = record {
   tree = fork candidate first.tree second.tree;
   allowed = (split_allowed network node candidate is_open, first.allowed, second.allowed);
-  broken = subst (λ text. Breaks name text why before now) (sym (split_text candidate first.tree second.tree))
-      (Breaks-after name (line_text (Split candidate)) (lines_text (tree_lines first.tree) ++ lines_text (tree_lines second.tree)) why before middle now added
-      (Breaks-after name (lines_text (tree_lines first.tree)) (lines_text (tree_lines second.tree)) why middle later now first.added second.broken));
+  broken = subst (λ text. BreaksText name text why before now) (sym (split_text candidate first.tree second.tree))
+      (BreaksText-after name (line_text (Split candidate)) (lines_text (tree_lines first.tree) ++ lines_text (tree_lines second.tree)) why before middle now added
+      (BreaksText-after name (lines_text (tree_lines first.tree)) (lines_text (tree_lines second.tree)) why middle later now first.added second.broken));
 }
 
 -- the kinds of the lines of a tree
@@ -119,16 +119,16 @@ kinds tree = map kind_of (tree_lines tree)
 
 -- both children were explored
 pub Explores-split : (network : NetworkOf) (node : Node) (name : List ℕ) (candidate : ℕ) (best middle_best best_now : Best) (counts counts_split counts_first counts_now : Counts) (before middle later now : ShelfState) →
-    IsOpenAt network node candidate → (IsIdle network node (best_bound network best) → ⊥) → Adds name (line_text (Split candidate)) before middle → counts_split ≡ counts_with counts (kind_of (Split candidate) ∷ []) →
+    IsOpenAt network node candidate → (IsIdle network node (best_bound network best) → ⊥) → AddsText name (line_text (Split candidate)) before middle → counts_split ≡ counts_with counts (kind_of (Split candidate) ∷ []) →
     Explores network (with_chosen node candidate) name best middle_best counts_split counts_first middle later →
     Explores network (without_chosen node candidate) name middle_best best_now counts_first counts_now later now →
     Explores network node name best best_now counts counts_now before now
 Explores-split network node name candidate best middle_best best_now counts counts_split counts_first counts_now before middle later now is_open not_idle added counted first second = record {
   tree = fork candidate first.tree second.tree;
   allowed = (split_allowed network node candidate is_open, first.allowed, second.allowed);
-  added = subst (λ text. Adds name text before now) (sym (split_text candidate first.tree second.tree))
-      (Adds-then name (line_text (Split candidate)) (lines_text (tree_lines first.tree) ++ lines_text (tree_lines second.tree)) before middle now added
-      (Adds-then name (lines_text (tree_lines first.tree)) (lines_text (tree_lines second.tree)) middle later now first.added second.added));
+  added = subst (λ text. AddsText name text before now) (sym (split_text candidate first.tree second.tree))
+      (AddsText-then name (line_text (Split candidate)) (lines_text (tree_lines first.tree) ++ lines_text (tree_lines second.tree)) before middle now added
+      (AddsText-then name (lines_text (tree_lines first.tree)) (lines_text (tree_lines second.tree)) middle later now first.added second.added));
   counted = second.counted
       ∙ ap (λ c. counts_with c (kinds second.tree)) (first.counted ∙ ap (λ c. counts_with c (kinds first.tree)) counted)
       ∙ counts_with-then (counts_with counts (kind_of (Split candidate) ∷ [])) (kinds first.tree) (kinds second.tree)
@@ -190,36 +190,36 @@ pub IsOpenAt-line : (network : NetworkOf) (node : Node) (best best_now : Best) (
     IsLineAt network node best best_now found → IsOpenAt network node candidate
 IsOpenAt-line network node best best_now found candidate is here = (subst (λ (l : LogLine). IsLineAt network node best best_now l) is here).0
 
-pub IsKept-line : (network : NetworkOf) (node : Node) (best best_now : Best) (found : LogLine) (candidate : ℕ) → found ≡ Split candidate →
+pub IsTrueBest-line : (network : NetworkOf) (node : Node) (best best_now : Best) (found : LogLine) (candidate : ℕ) → found ≡ Split candidate →
     IsLineAt network node best best_now found → best_now ≡ best
-IsKept-line network node best best_now found candidate is here = (subst (λ (l : LogLine). IsLineAt network node best best_now l) is here).1
+IsTrueBest-line network node best best_now found candidate is here = (subst (λ (l : LogLine). IsLineAt network node best best_now l) is here).1
 
 pub unrefuted-line : (network : NetworkOf) (node : Node) (best best_now : Best) (found : LogLine) (candidate : ℕ) → found ≡ Split candidate →
-    IsLineAt network node best best_now found → (k : ℕ) → IsRefutedBy network node k → ⊥
+    IsLineAt network node best best_now found → (k : ℕ) → IsNodeRefutedBy network node k → ⊥
 unrefuted-line network node best best_now found candidate is here = (subst (λ (l : LogLine). IsLineAt network node best best_now l) is here).2
 
 pub idle-line : (network : NetworkOf) (node : Node) (best best_now : Best) (found : LogLine) (candidate : ℕ) → found ≡ Split candidate →
     IsLineAt network node best best_now found → IsIdle network node (best_bound network best) → ⊥
 idle-line network node best best_now found candidate is here = (subst (λ (l : LogLine). IsLineAt network node best best_now l) is here).3
 
-pub Adds-line : (name : List ℕ) (found : LogLine) (candidate : ℕ) (before now : ShelfState) → found ≡ Split candidate →
-    Adds name (line_text found) before now → Adds name (line_text (Split candidate)) before now
-Adds-line name found candidate before now is added = subst (λ (l : LogLine). Adds name (line_text l) before now) is added
+pub AddsText-line : (name : List ℕ) (found : LogLine) (candidate : ℕ) (before now : ShelfState) → found ≡ Split candidate →
+    AddsText name (line_text found) before now → AddsText name (line_text (Split candidate)) before now
+AddsText-line name found candidate before now is added = subst (λ (l : LogLine). AddsText name (line_text l) before now) is added
 
 pub Counts-line : (counts counts_now : Counts) (found : LogLine) (candidate : ℕ) → found ≡ Split candidate →
     counts_now ≡ counts_with counts (kind_of found ∷ []) → counts_now ≡ counts_with counts (kind_of (Split candidate) ∷ [])
 Counts-line counts counts_now found candidate is counted = subst (λ (l : LogLine). counts_now ≡ counts_with counts (kind_of l ∷ [])) is counted
 
 -- what is known of the best plan stays known of an equal one
-pub IsKept-same : (network : NetworkOf) (before now : Best) → now ≡ before → IsKept network before → IsKept network now
-IsKept-same network before now same kept = subst (λ best. IsKept network best) (sym same) kept
+pub IsTrueBest-same : (network : NetworkOf) (before now : Best) → now ≡ before → IsTrueBest network before → IsTrueBest network now
+IsTrueBest-same network before now same kept = subst (λ best. IsTrueBest network best) (sym same) kept
 
 pub IsNode-same : (network : NetworkOf) (node same_node : Node) → same_node ≡ node → IsNode network node → IsNode network same_node
 IsNode-same network node same_node same is = subst (λ n. IsNode network n) (sym same) is
 
-pub BreaksOff-same : (network : NetworkOf) (node same_node : Node) (name : List ℕ) (why : SearchFault) (before now : ShelfState) → same_node ≡ node →
-    BreaksOff network same_node name why before now → BreaksOff network node name why before now
-BreaksOff-same network node same_node name why before now same broken = subst (λ n. BreaksOff network n name why before now) same broken
+pub BreaksTree-same : (network : NetworkOf) (node same_node : Node) (name : List ℕ) (why : SearchFault) (before now : ShelfState) → same_node ≡ node →
+    BreaksTree network same_node name why before now → BreaksTree network node name why before now
+BreaksTree-same network node same_node name why before now same broken = subst (λ n. BreaksTree network n name why before now) same broken
 
 pub Explores-same : (network : NetworkOf) (node same_node : Node) (name : List ℕ) (old_best best best_now : Best) (counts counts_now : Counts) (before now : ShelfState) →
     same_node ≡ node → old_best ≡ best → Explores network same_node name old_best best_now counts counts_now before now →

@@ -5,7 +5,7 @@ use Rattle.std.proofs.lemmas.Bool.{false≢true}
 use Rattle.geo_model.specs.Limit.{LimitOf, IsInForce}
 use Rattle.geo_model.specs.Network.{NetworkOf}
 use Rattle.geo_model.specs.declared.plan.Node.{Node}
-use Rattle.bound_log.specs.LogTree.{IsRefutedBy, with_chosen, without_chosen}
+use Rattle.bound_log.specs.LogTree.{IsNodeRefutedBy, with_chosen, without_chosen}
 use Rattle.branch_bound.specs.Inherited.{IsUnmetAt, IsInherited}
 use Rattle.branch_bound.specs.declared.inherited.Inherited.{Inherited}
 
@@ -40,7 +40,7 @@ pub IsInherited-nothing : (network : NetworkOf) (node : Node) → IsInherited ne
 IsInherited-nothing network node = record { chosen = λ candidate e. absurd (cc); unmet = λ limit e. absurd (cc) }
 
 -- the child that chooses a candidate: no limit refutes the parent
-pub IsInherited-with : (network : NetworkOf) (node : Node) (candidate : ℕ) (none_shut : Bool) → ((k : ℕ) → IsRefutedBy network node k → ⊥) →
+pub IsInherited-with : (network : NetworkOf) (node : Node) (candidate : ℕ) (none_shut : Bool) → ((k : ℕ) → IsNodeRefutedBy network node k → ⊥) →
     IsInherited network (with_chosen node candidate) (record { chosen = Some candidate; none_shut = none_shut; unmet = None })
 IsInherited-with network node candidate none_shut unrefuted = record {
   chosen = λ chosen e k refuted limit named.
@@ -66,7 +66,7 @@ IsInherited-same network node same_node inherited same is = subst (λ n. IsInher
 -- a limit that isn't the inherited candidate's own doesn't refute the node
 pub refutes_not : (network : NetworkOf) (node : Node) (inherited : Inherited) (number candidate : ℕ) (owned : Bool) → IsInherited network node inherited →
     inherited.chosen ≡ Some candidate → ((l : LimitOf) → slice_get network.limits number ≡ Some l → IsTrue owned ↔ (l.owner ≡ Some candidate)) →
-    owned ≡ false → IsTrue false ↔ IsRefutedBy network node number
+    owned ≡ false → IsTrue false ↔ IsNodeRefutedBy network node number
 refutes_not network node inherited number candidate owned is chosen tests not = (
   λ yes. absurd (false≢true yes),
   λ refuted. absurd (false≢true (sym not ∙ (tests refuted.limit refuted.named).1 (is.chosen candidate chosen number refuted refuted.limit refuted.named))),

@@ -4,7 +4,7 @@ use Rattle.shelf_io.specs.Files.{Files, IsHeld, with_piece}
 use Rattle.shelf_io.specs.Faults.{Rose}
 use Rattle.shelf_io.proofs.FileLaws.{with_piece-nothing, with_piece-with_piece}
 use Rattle.shelf_io.specs.States.{ShelfState}
-use Rattle.branch_bound.specs.Explored.{Adds, Breaks}
+use Rattle.branch_bound.specs.Explored.{AddsText, BreaksText}
 use Rattle.branch_bound.specs.declared.search_fault.SearchFault.{SearchFault}
 use Rattle.branch_bound.specs.declared.search_fault.SearchFault.TheVariants as fault
 
@@ -16,9 +16,9 @@ none_added None name told = refl
 none_added (Some files) name told = sym (with_piece-nothing files name (told files refl))
 
 -- memory ran out before anything was added
-pub Breaks-nothing : (name text : List ℕ) (state : ShelfState) → ((files : Files) → state.held ≡ Some files → IsHeld files name) →
-    Breaks name text fault.NoMemory state state
-Breaks-nothing name text state told = record {
+pub BreaksText-nothing : (name text : List ℕ) (state : ShelfState) → ((files : Files) → state.held ≡ Some files → IsHeld files name) →
+    BreaksText name text fault.NoMemory state state
+BreaksText-nothing name text state told = record {
   piece = [];
   rest = text;
   begins = refl;
@@ -29,18 +29,18 @@ Breaks-nothing name text state told = record {
 }
 
 -- two pieces, one after the other, are their text
-pub Adds-then : (name first second : List ℕ) (before middle now : ShelfState) → Adds name first before middle → Adds name second middle now →
-    Adds name (first ++ second) before now
-Adds-then name first second before middle now one two = record {
+pub AddsText-then : (name first second : List ℕ) (before middle now : ShelfState) → AddsText name first before middle → AddsText name second middle now →
+    AddsText name (first ++ second) before now
+AddsText-then name first second before middle now one two = record {
   written = two.written ∙ ap (λ held. with_piece held name second) one.written ∙ with_piece-with_piece before.held name first second;
   started = two.started;
   quiet = record { same_count = two.quiet.same_count ∙ one.quiet.same_count; same_last = two.quiet.same_last ∙ one.quiet.same_last };
 }
 
 -- a piece, and then a beginning of another, are a beginning of their text
-pub Breaks-after : (name first second : List ℕ) (why : SearchFault) (before middle now : ShelfState) → Adds name first before middle →
-    Breaks name second why middle now → Breaks name (first ++ second) why before now
-Breaks-after name first second why before middle now one two = record {
+pub BreaksText-after : (name first second : List ℕ) (why : SearchFault) (before middle now : ShelfState) → AddsText name first before middle →
+    BreaksText name second why middle now → BreaksText name (first ++ second) why before now
+BreaksText-after name first second why before middle now one two = record {
   piece = first ++ two.piece;
   rest = two.rest;
   begins = ap (λ t. first ++ t) two.begins ∙ sym (append_assoc first two.piece two.rest);
@@ -52,9 +52,9 @@ Breaks-after name first second why before middle now one two = record {
 }
 
 -- a beginning of a text is one of a longer text
-pub Breaks-longer : (name first second : List ℕ) (why : SearchFault) (before now : ShelfState) → Breaks name first why before now →
-    Breaks name (first ++ second) why before now
-Breaks-longer name first second why before now one = record {
+pub BreaksText-longer : (name first second : List ℕ) (why : SearchFault) (before now : ShelfState) → BreaksText name first why before now →
+    BreaksText name (first ++ second) why before now
+BreaksText-longer name first second why before now one = record {
   piece = one.piece;
   rest = one.rest ++ second;
   begins = ap (λ t. t ++ second) one.begins ∙ append_assoc one.piece one.rest second;

@@ -30,40 +30,40 @@ use Rattle.idle_splits.specs.Idle.{IsNoMore}
 use Rattle.branch_bound.specs.declared.best.Best.{Best}
 use Rattle.branch_bound.specs.declared.best.Best.TheVariants as best
 use Rattle.shelf_io.specs.States.{ShelfState}
-use Rattle.branch_bound.specs.Explored.{Adds, Breaks, Explores, BreaksOff}
-use Rattle.branch_bound.specs.Found.{IsDone, IsAnswerOf, IsKept, IsStart}
+use Rattle.branch_bound.specs.Explored.{AddsText, BreaksText, Explores, BreaksTree}
+use Rattle.branch_bound.specs.Found.{IsDone, IsAnswerOf, IsTrueBest, IsStart}
 use Rattle.branch_bound.specs.Logged.{Searches, BreaksLog}
 use Rattle.branch_bound.specs.Searched.{IsAnswer, IsCertified}
 use Rattle.branch_bound.proofs.BoundOrder.{no_more_twice}
-use Rattle.branch_bound.proofs.PieceLemmas.{Breaks-nothing, Adds-then, Breaks-after, Breaks-longer}
+use Rattle.branch_bound.proofs.PieceLemmas.{BreaksText-nothing, AddsText-then, BreaksText-after, BreaksText-longer}
 
 -- How the head and the exploration of the root make a search.
 
 -- memory ran out before anything was written
 pub BreaksLog-nothing : (network : NetworkOf) (name : List ℕ) (state : ShelfState) → ((files : Files) → state.held ≡ Some files → IsHeld files name) →
     BreaksLog network name fault.NoMemory state state
-BreaksLog-nothing network name state told = record { tree = tip Cost; text = log_text (tip Cost); spells = text_spelled (log_text (tip Cost)) (tip Cost) refl; allowed = cost_allowed network (root_of network); broken = Breaks-nothing name (log_text (tip Cost)) state told }
+BreaksLog-nothing network name state told = record { tree = tip Cost; text = log_text (tip Cost); spells = text_spelled (log_text (tip Cost)) (tip Cost) refl; allowed = cost_allowed network (root_of network); broken = BreaksText-nothing name (log_text (tip Cost)) state told }
 
 -- the head was begun
-pub BreaksLog-head : (network : NetworkOf) (name : List ℕ) (why : SearchFault) (before now : ShelfState) → Breaks name head_text why before now →
+pub BreaksLog-head : (network : NetworkOf) (name : List ℕ) (why : SearchFault) (before now : ShelfState) → BreaksText name head_text why before now →
     BreaksLog network name why before now
-BreaksLog-head network name why before now broken = record { tree = tip Cost; text = log_text (tip Cost); spells = text_spelled (log_text (tip Cost)) (tip Cost) refl; allowed = cost_allowed network (root_of network); broken = Breaks-longer name head_text (lines_text (tree_lines (tip Cost))) why before now broken }
+BreaksLog-head network name why before now broken = record { tree = tip Cost; text = log_text (tip Cost); spells = text_spelled (log_text (tip Cost)) (tip Cost) refl; allowed = cost_allowed network (root_of network); broken = BreaksText-longer name head_text (lines_text (tree_lines (tip Cost))) why before now broken }
 
 -- the tree was begun
 pub BreaksLog-tree : (network : NetworkOf) (node : Node) (name : List ℕ) (why : SearchFault) (before middle now : ShelfState) → node ≡ root_of network →
-    Adds name head_text before middle → BreaksOff network node name why middle now → BreaksLog network name why before now
+    AddsText name head_text before middle → BreaksTree network node name why middle now → BreaksLog network name why before now
 BreaksLog-tree network node name why before middle now root added broken =
-    let at_root : BreaksOff network (root_of network) name why middle now = subst (λ n. BreaksOff network n name why middle now) root broken in
-    record { tree = at_root.tree; text = log_text at_root.tree; spells = text_spelled (log_text at_root.tree) at_root.tree refl; allowed = at_root.allowed; broken = Breaks-after name head_text (lines_text (tree_lines at_root.tree)) why before middle now added at_root.broken }
+    let at_root : BreaksTree network (root_of network) name why middle now = subst (λ n. BreaksTree network n name why middle now) root broken in
+    record { tree = at_root.tree; text = log_text at_root.tree; spells = text_spelled (log_text at_root.tree) at_root.tree refl; allowed = at_root.allowed; broken = BreaksText-after name head_text (lines_text (tree_lines at_root.tree)) why before middle now added at_root.broken }
 
 -- what a search begins with
 pub IsStart-same : (network : NetworkOf) (first begun : Best) → begun ≡ first → IsStart network first → IsStart network begun
 IsStart-same network first begun same is = subst (λ (b : Best). IsStart network b) (sym same) is
 
-pub IsKept-start : (network : NetworkOf) (first : Best) → IsStart network first → IsKept network first
-IsKept-start network best.NoPlan begun = tt
-IsKept-start network (best.Certified plan) begun = begun
-IsKept-start network (best.Unsettled plan) begun = absurd begun
+pub IsTrueBest-start : (network : NetworkOf) (first : Best) → IsStart network first → IsTrueBest network first
+IsTrueBest-start network best.NoPlan begun = tt
+IsTrueBest-start network (best.Certified plan) begun = begun
+IsTrueBest-start network (best.Unsettled plan) begun = absurd begun
 
 -- at the root each plan of the network lies in the node
 root_above : (network : NetworkOf) (plan : List Bool) → length plan ≡ length network.candidates → IsWithin (root_of network).inside plan
@@ -118,7 +118,7 @@ answer_fits network tree first (best.Unsettled plan) made bounds allowed begun d
 
 -- the search is done
 pub Searches-done : (network : NetworkOf) (node : Node) (name : List ℕ) (found found_now : Best) (counts counts_now : Counts) (done : SearchDone) (before middle now : ShelfState) →
-    IsNetwork network → node ≡ root_of network → IsStart network found → counts ≡ no_counts → Adds name head_text before middle →
+    IsNetwork network → node ≡ root_of network → IsStart network found → counts ≡ no_counts → AddsText name head_text before middle →
     Explores network node name found found_now counts counts_now middle now → IsAnswerOf network found_now done.answer → done.counts ≡ counts_now →
     Searches network name done before now
 Searches-done network node name found found_now counts counts_now done before middle now bounds root begun none_counted added explored answered counted_all =
@@ -135,5 +135,5 @@ Searches-done network node name found found_now counts counts_now done before mi
             (subst (λ (n : Node). IsDone network n (bound_at network n explored.tree) found found_now) root explored.done)
             answered;
       };
-      added = Adds-then name head_text (lines_text (tree_lines explored.tree)) before middle now added explored.added;
+      added = AddsText-then name head_text (lines_text (tree_lines explored.tree)) before middle now added explored.added;
     }

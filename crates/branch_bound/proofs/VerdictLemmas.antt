@@ -10,7 +10,7 @@ use Rattle.geo_model.specs.declared.verdict.Verdict.TheVariants.{Met, Refuted, O
 use Rattle.pivot_chain.specs.Verdict.{verdict_of}
 use Rattle.pivot_chain.proofs.CertifiedLemmas.{limit_named, met_at}
 use Rattle.pivot_chain.proofs.Verdicts.{open_interval}
-use Rattle.bound_log.specs.LogTree.{IsRefutedBy}
+use Rattle.bound_log.specs.LogTree.{IsNodeRefutedBy}
 use Rattle.branch_bound.specs.Explored.{IsNode}
 use Rattle.branch_bound.specs.Searched.{IsUnsettled, IsMetAt, IsOpenLimit, IsFirstOpen}
 
@@ -29,7 +29,7 @@ open_by network plan number step lo hi in_force inside forced is exact =
 pub refuted_when : (network : NetworkOf) (node : Node) (number : ℕ) (in_force result : Bool) (verdict : Verdict) → number < length network.limits →
     ((l : LimitOf) → slice_get network.limits number ≡ Some l → IsTrue in_force ↔ IsInForce l node.inside) → in_force ≡ true →
     ((l : LimitOf) → slice_get network.limits number ≡ Some l → verdict ≡ verdict_of network node.upper l) → (IsTrue result ↔ (verdict ≡ Refuted)) →
-    IsTrue result ↔ IsRefutedBy network node number
+    IsTrue result ↔ IsNodeRefutedBy network node number
 refuted_when network node number in_force result verdict inside forced is exact tests =
     let named = limit_named network.limits number inside in (
       λ yes. record { limit = named.0; named = named.1; owned = (forced named.0 named.1).0 is; refuted = sym (exact named.0 named.1) ∙ tests.0 yes },
@@ -37,7 +37,7 @@ refuted_when network node number in_force result verdict inside forced is exact 
     )
 
 -- a node of one plan that is refuted has a limit that refutes it
-refuted_by : (network : NetworkOf) (node : Node) → node.inside ≡ node.upper → ((k : ℕ) → IsRefutedBy network node k → ⊥) →
+refuted_by : (network : NetworkOf) (node : Node) → node.inside ≡ node.upper → ((k : ℕ) → IsNodeRefutedBy network node k → ⊥) →
     IsRefutedPlan (verdict_of network) network node.inside → ⊥
 refuted_by network node same none (k, limit, inside, here, (in_force, refuted)) =
     none k (record {
@@ -49,7 +49,7 @@ refuted_by network node same none (k, limit, inside, here, (in_force, refuted)) 
 
 -- a node of one plan that no limit refutes, and one isn't met on, is unsettled
 pub unsettled_by : (network : NetworkOf) (node : Node) (number : ℕ) → IsNode network node → node.inside ≡ node.upper →
-    ((k : ℕ) → IsRefutedBy network node k → ⊥) → (IsMetAt network node.inside number → ⊥) → IsUnsettled network node.inside
+    ((k : ℕ) → IsNodeRefutedBy network node k → ⊥) → (IsMetAt network node.inside number → ⊥) → IsUnsettled network node.inside
 unsettled_by network node number is same none unmet = record {
   long = is.inside_long;
   unsettled = (λ certified. unmet (met_at network node.inside number certified), refuted_by network node same none);

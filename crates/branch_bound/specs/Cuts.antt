@@ -44,13 +44,13 @@ abbrev pub unit_text : UnitShare → ℕ × CutTextOf
 unit_text share = (share.y, record { limit = share.limit; pairs = (share.unknown, pos 1) ∷ [] })
 
 -- what the line of a node says in a log, where its cut is one of the pool
-abbrev pub line_of : SearchCuts → NodeLine → LogLine
-line_of cuts (Split candidate) = line.Split candidate
-line_of cuts Cost = line.Leaf leaf.Cost
-line_of cuts (Pivot limit) = line.Leaf (leaf.Pivot limit)
-line_of cuts (Cut number) = line.Leaf (leaf.Cut (text_or_none (slice_get cuts.pool number)))
-line_of cuts (UnitDual share) = line.Leaf (leaf.Dual share.d (unit_text share ∷ []))
-line_of cuts (Dual dual) = line.Leaf (leaf.Dual dual.d (texts_of_shares cuts.pool dual.shares.items))
+abbrev pub log_line_of : SearchCuts → NodeLine → LogLine
+log_line_of cuts (Split candidate) = line.Split candidate
+log_line_of cuts Cost = line.Leaf leaf.Cost
+log_line_of cuts (Pivot limit) = line.Leaf (leaf.Pivot limit)
+log_line_of cuts (Cut number) = line.Leaf (leaf.Cut (text_or_none (slice_get cuts.pool number)))
+log_line_of cuts (UnitDual share) = line.Leaf (leaf.Dual share.d (unit_text share ∷ []))
+log_line_of cuts (Dual dual) = line.Leaf (leaf.Dual dual.d (texts_of_shares cuts.pool dual.shares.items))
 
 -- the line of a node can be written: it names no cut but those of the pool, and no unknown past those of any network
 abbrev pub IsWritable : SearchCuts → NodeLine → Type 0

@@ -17,7 +17,7 @@ use Rattle.bound_log.specs.declared.log_leaf.LogLeaf.TheVariants.{Dual}
 use Rattle.bound_log.specs.declared.log_line.LogLine.{LogLine}
 use Rattle.bound_log.specs.declared.log_line.LogLine.TheVariants.{Split, Leaf}
 use Rattle.bound_log.specs.Lines.{kind_of}
-use Rattle.bound_log.specs.LogTree.{IsOpenAt, IsRefutedBy, IsAllowed, leaf_bound, bound_at}
+use Rattle.bound_log.specs.LogTree.{IsOpenAt, IsNodeRefutedBy, IsAllowed, leaf_bound, bound_at}
 use Rattle.bound_log.specs.Rules.{IsAllowedLine}
 use Rattle.bound_log.specs.Tree.{Tree, tree_lines}
 use Rattle.bound_log.specs.declared.bound.Bound.{Bound}
@@ -31,13 +31,13 @@ use Rattle.branch_bound.specs.Found.{best_bound, IsPast, IsDone}
 -- What the parts of a search do. This project's own.
 
 -- a text was added under the started name, and no fault was counted
-pub record Adds (name text : List ℕ) (before now : ShelfState) : Type 0 where
+pub record AddsText (name text : List ℕ) (before now : ShelfState) : Type 0 where
   pub written : now.held ≡ with_piece before.held name text
   pub started : now.started ≡ Some name
   pub quiet : KeepsFaults before now
 
 -- the beginning of a text was added under the name, and then a fault came, for want of memory or as a write failed
-pub record Breaks (name text : List ℕ) (why : SearchFault) (before now : ShelfState) : Type 0 where
+pub record BreaksText (name text : List ℕ) (why : SearchFault) (before now : ShelfState) : Type 0 where
   pub piece : List ℕ
   pub rest : List ℕ
   pub begins : text ≡ piece ++ rest
@@ -69,7 +69,7 @@ pub record CutsOff (network : NetworkOf) (node : Node) (found : Best) (pool : Li
 -- the best plan and leaves that plan as it was, or a leaf
 abbrev pub IsLineAt : NetworkOf → Node → Best → Best → LogLine → Type 0
 IsLineAt network node before now (Split candidate) =
-    IsOpenAt network node candidate × (now ≡ before) × ((k : ℕ) → IsRefutedBy network node k → ⊥) ×
+    IsOpenAt network node candidate × (now ≡ before) × ((k : ℕ) → IsNodeRefutedBy network node k → ⊥) ×
     (IsIdle network node (best_bound network before) → ⊥)
 IsLineAt network node before now (Leaf end) = IsLeafAt network node end before now
 
@@ -79,13 +79,13 @@ IsLineAt network node before now (Leaf end) = IsLeafAt network node end before n
 pub record Explores (network : NetworkOf) (node : Node) (name : List ℕ) (best_before best_now : Best) (counts counts_now : Counts) (before now : ShelfState) : Type 0 where
   pub tree : Tree
   pub allowed : IsAllowed network node tree
-  pub added : Adds name (lines_text (tree_lines tree)) before now
+  pub added : AddsText name (lines_text (tree_lines tree)) before now
   pub counted : counts_now ≡ counts_with counts (map kind_of (tree_lines tree))
   pub done : IsDone network node (bound_at network node tree) best_before best_now
   pub no_idle : (earlier : Bound) → IsNoMore (best_bound network best_before) earlier → HasNoIdle network node earlier tree
 
 -- the lines of some tree of the node were begun, and then a fault came
-pub record BreaksOff (network : NetworkOf) (node : Node) (name : List ℕ) (why : SearchFault) (before now : ShelfState) : Type 0 where
+pub record BreaksTree (network : NetworkOf) (node : Node) (name : List ℕ) (why : SearchFault) (before now : ShelfState) : Type 0 where
   pub tree : Tree
   pub allowed : IsAllowed network node tree
-  pub broken : Breaks name (lines_text (tree_lines tree)) why before now
+  pub broken : BreaksText name (lines_text (tree_lines tree)) why before now

@@ -21,10 +21,10 @@ best_bound network (best.Certified plan) = AtLeast (price_of network plan)
 best_bound network (best.Unsettled plan) = AtLeast (price_of network plan)
 
 -- the best plan is what it is called
-abbrev pub IsKept : NetworkOf → Best → Type 0
-IsKept network best.NoPlan = Unit {0}
-IsKept network (best.Certified plan) = IsCertified network plan
-IsKept network (best.Unsettled plan) = IsUnsettled network plan
+abbrev pub IsTrueBest : NetworkOf → Best → Type 0
+IsTrueBest network best.NoPlan = Unit {0}
+IsTrueBest network (best.Certified plan) = IsCertified network plan
+IsTrueBest network (best.Unsettled plan) = IsUnsettled network plan
 
 -- a price is past the best plan: it is no less than the best one's, and more where that is unsettled
 abbrev pub IsPast : NetworkOf → Best → ℕ → Type 0
@@ -48,7 +48,7 @@ pub record IsDone (network : NetworkOf) (node : Node) (bound : Bound) (before no
   pub price : IsNoMore (best_bound network now) bound
   pub falls : IsNoMore (best_bound network now) (best_bound network before)
   pub reached : (now ≡ before) ⊎ IsNoMore bound (best_bound network now)
-  pub kept : IsKept network now
+  pub kept : IsTrueBest network now
   pub covered : (other : List Bool) → IsCertified network other → IsWithin node.inside other → IsWithin other node.upper → IsCovered network now other
   pub still : (other : List Bool) → IsCovered network before other → IsCovered network now other
 

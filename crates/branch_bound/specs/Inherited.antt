@@ -3,7 +3,7 @@ use Rattle.std.specs.Option.{ForSome}
 use Rattle.geo_model.specs.Limit.{LimitOf}
 use Rattle.geo_model.specs.Network.{NetworkOf}
 use Rattle.geo_model.specs.declared.plan.Node.{Node}
-use Rattle.bound_log.specs.LogTree.{IsRefutedBy}
+use Rattle.bound_log.specs.LogTree.{IsNodeRefutedBy}
 use Rattle.branch_bound.specs.Searched.{IsMetAt}
 use Rattle.branch_bound.specs.declared.inherited.Inherited.{Inherited}
 
@@ -20,5 +20,5 @@ pub record IsUnmetAt (network : NetworkOf) (plan : List Bool) (number : ℕ) : T
 
 -- what a node inherits holds there
 pub record IsInherited (network : NetworkOf) (node : Node) (inherited : Inherited) : Type 0 where
-  pub chosen : ForSome inherited.chosen (λ candidate. (k : ℕ) → IsRefutedBy network node k → IsOwnedBy network k candidate)
+  pub chosen : ForSome inherited.chosen (λ candidate. (k : ℕ) → IsNodeRefutedBy network node k → IsOwnedBy network k candidate)
   pub unmet : ForSome inherited.unmet (λ limit. IsUnmetAt network node.inside limit)

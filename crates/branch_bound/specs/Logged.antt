@@ -6,7 +6,7 @@ use Rattle.bound_log.specs.Spells.{Spells}
 use Rattle.bound_log.specs.Tree.{Tree}
 use Rattle.branch_bound.specs.declared.search_fault.SearchFault.{SearchFault}
 use Rattle.shelf_io.specs.States.{ShelfState}
-use Rattle.branch_bound.specs.Explored.{Adds, Breaks}
+use Rattle.branch_bound.specs.Explored.{AddsText, BreaksText}
 use Rattle.branch_bound.specs.Searched.{IsSearched}
 
 -- What a search leaves on a shelf. This project's own.
@@ -17,7 +17,7 @@ pub record Searches (network : NetworkOf) (name : List ℕ) (done : SearchDone) 
   pub text : List ℕ
   pub spells : Spells text tree
   pub searched : IsSearched network tree done
-  pub added : Adds name text before now
+  pub added : AddsText name text before now
 
 -- the beginning of a log of the network was added under the name, and then a fault came
 pub record BreaksLog (network : NetworkOf) (name : List ℕ) (why : SearchFault) (before now : ShelfState) : Type 0 where
@@ -25,4 +25,4 @@ pub record BreaksLog (network : NetworkOf) (name : List ℕ) (why : SearchFault)
   pub text : List ℕ
   pub spells : Spells text tree
   pub allowed : IsAllowed network (root_of network) tree
-  pub broken : Breaks name text why before now
+  pub broken : BreaksText name text why before now

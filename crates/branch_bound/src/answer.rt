@@ -1,7 +1,7 @@
 //! The answer of a search that is over.
 ghost use Rattle.std.specs.Prelude.{◌≡◌};
 ghost use Rattle.pivot_chain.specs.Room.{IsRoomOf};
-ghost use Rattle.branch_bound.specs.Found.{IsKept, IsAnswerOf};
+ghost use Rattle.branch_bound.specs.Found.{IsTrueBest, IsAnswerOf};
 ghost use Rattle.branch_bound.specs.Searched.{IsUnsettled, IsFirstOpen};
 
 use crate::best::Best;
@@ -26,7 +26,7 @@ fn first_open(room: &mut ChainRoom, network: &Network, plan: &Plan) -> OpenLimit
 /// The answer that the best plan makes.
 pub fn answer_of(room: &mut ChainRoom, network: &Network, best: Best) -> Answer
     requires room { IsRoomOf network.now room.old }
-    requires kept { IsKept network.now best }
+    requires kept { IsTrueBest network.now best }
     ensures { IsAnswerOf network.now best result }
 {
     match best {

@@ -11,7 +11,7 @@ ghost use Rattle.idle_splits.specs.Idle.{IsDearByUnit};
 ghost use Rattle.idle_splits.specs.UnitShares.{ShowsDear};
 ghost use Rattle.branch_bound.specs.Cuts.{IsCutFor, ArePoolFor, AreCutsFor, IsBrokenCut};
 ghost use Rattle.branch_bound.specs.Explored.{IsNode, CutsOff};
-ghost use Rattle.branch_bound.specs.Found.{IsKept, IsPast, best_bound};
+ghost use Rattle.branch_bound.specs.Found.{IsTrueBest, IsPast, best_bound};
 
 use crate::best::Best;
 use crate::cut_sums::CutSums;
@@ -110,7 +110,7 @@ impl Cuts {
     pub fn dear_share(&self, network: &Network, node: &Node, best: &Best) -> Option<UnitShare>
         requires cuts { AreCutsFor network.now self.now }
         requires node { IsNode network.now node.now }
-        requires kept { IsKept network.now best.now }
+        requires kept { IsTrueBest network.now best.now }
         ensures found { IfSome result (ShowsDear network.now node.now (best_bound network.now best.now)) }
         ensures none { IfNone result ((number unknown candidate : ℕ) → IsDearByUnit network.now node.now (best_bound network.now best.now) number unknown candidate → ⊥) }
         ensures bounds { IsNetwork network.now }
@@ -145,7 +145,7 @@ impl Cuts {
     ) -> Result<Option<Dual>, NoMemory>
         requires cuts { AreCutsFor network.now self.now }
         requires node { IsNode network.now node.now }
-        requires kept { IsKept network.now best.now }
+        requires kept { IsTrueBest network.now best.now }
         ensures found { IfOk result (λ found. IfSome found (λ dual. CutsOff network.now node.now best.now self.now.pool dual.d dual.shares.items)) }
         ensures bounds { IfOk result (λ found. IsNetwork network.now) }
     {
@@ -181,7 +181,7 @@ impl Cuts {
 
 // Whether a price is past the best plan.
 fn is_past(network: &Network, best: &Best, price: u128) -> bool
-    requires kept { IsKept network.now best.now }
+    requires kept { IsTrueBest network.now best.now }
     ensures { IsTrue result ↔ IsPast network.now best.now price }
 {
     match best {

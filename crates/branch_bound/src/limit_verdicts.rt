@@ -2,7 +2,7 @@
 ghost use Rattle.std.specs.Prelude.{◌≡◌, ◌↔◌, ◌<◌, ℕ, ℤ, Some, slice_get, length, IsTrue, IfSome, IfNone};
 ghost use Rattle.geo_model.specs.Limit.{LimitOf};
 ghost use Rattle.pivot_chain.specs.Room.{IsRoomOf};
-ghost use Rattle.bound_log.specs.LogTree.{IsRefutedBy};
+ghost use Rattle.bound_log.specs.LogTree.{IsNodeRefutedBy};
 ghost use Rattle.branch_bound.specs.Explored.{IsNode};
 ghost use Rattle.branch_bound.specs.Searched.{IsOpenLimit};
 
@@ -23,7 +23,7 @@ pub fn refutes(room: &mut ChainRoom, network: &Network, node: &Node, limit: u32)
     requires room { IsRoomOf network.now room.old }
     requires node { IsNode network.now node.now }
     requires limit { limit < length network.now.limits }
-    ensures refuted { IsTrue result ↔ IsRefutedBy network.now node.now limit }
+    ensures refuted { IsTrue result ↔ IsNodeRefutedBy network.now node.now limit }
     ensures room { IsRoomOf network.now room.new }
 {
     if !is_in_force(network, &node.inside, limit) {

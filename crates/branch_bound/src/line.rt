@@ -5,8 +5,8 @@ ghost use Rattle.bound_log.specs.Lines.{kind_of};
 ghost use Rattle.bound_log.specs.LogText.{line_text};
 ghost use Rattle.bound_log.specs.declared.log_leaf.LogLeaf.TheVariants as log_leaf;
 ghost use Rattle.bound_log.specs.declared.log_line.LogLine.TheVariants as log_line;
-ghost use Rattle.branch_bound.specs.Cuts.{line_of, unit_text, IsWritable};
-ghost use Rattle.branch_bound.specs.Explored.{Adds, Breaks};
+ghost use Rattle.branch_bound.specs.Cuts.{log_line_of, unit_text, IsWritable};
+ghost use Rattle.branch_bound.specs.Explored.{AddsText, BreaksText};
 
 use crate::cuts::Cuts;
 use crate::node_line::NodeLine;
@@ -47,7 +47,7 @@ fn put_node_line(
     line: &NodeLine,
 ) -> Result<(), NoMemory>
     requires { IsWritable cuts.now line.now }
-    ensures put { OnOk result (out.new.items ≡ out.old.items ++ line_text (line_of cuts.now line.now)) }
+    ensures put { OnOk result (out.new.items ≡ out.old.items ++ line_text (log_line_of cuts.now line.now)) }
 {
     match line {
         NodeLine::Split(candidate) => put_split(out, *candidate),
@@ -62,8 +62,8 @@ fn put_node_line(
 /// Appends a piece under the started name.
 pub fn write_piece<H: Shelf>(shelf: &mut H, name: &str, piece: &[u8]) -> Result<(), SearchFault>
     requires { (H.state shelf.old).started ≡ Some name.now }
-    ensures added { OnOk result (Adds name.now piece.now (H.state shelf.old) (H.state shelf.new)) }
-    ensures refused { IfErr result (λ why. Breaks name.now piece.now why (H.state shelf.old) (H.state shelf.new)) }
+    ensures added { OnOk result (AddsText name.now piece.now (H.state shelf.old) (H.state shelf.new)) }
+    ensures refused { IfErr result (λ why. BreaksText name.now piece.now why (H.state shelf.old) (H.state shelf.new)) }
 {
     match shelf.append(name, piece) {
         Ok(()) => Ok(()),
@@ -85,9 +85,9 @@ pub fn write_line<H: Shelf>(
 ) -> Result<(), SearchFault>
     requires started { (H.state shelf.old).started ≡ Some name.now }
     requires line { IsWritable cuts.now line.now }
-    ensures added { OnOk result (Adds name.now (line_text (line_of cuts.now line.now)) (H.state shelf.old) (H.state shelf.new)) }
-    ensures counted { OnOk result (counts.new ≡ counts_with counts.old (kind_of (line_of cuts.now line.now) ∷ [])) }
-    ensures refused { IfErr result (λ why. Breaks name.now (line_text (line_of cuts.now line.now)) why (H.state shelf.old) (H.state shelf.new)) }
+    ensures added { OnOk result (AddsText name.now (line_text (log_line_of cuts.now line.now)) (H.state shelf.old) (H.state shelf.new)) }
+    ensures counted { OnOk result (counts.new ≡ counts_with counts.old (kind_of (log_line_of cuts.now line.now) ∷ [])) }
+    ensures refused { IfErr result (λ why. BreaksText name.now (line_text (log_line_of cuts.now line.now)) why (H.state shelf.old) (H.state shelf.new)) }
 {
     buffer.clear();
     if put_node_line(alloc, buffer, cuts, line).is_err() {

@@ -3,10 +3,10 @@ ghost use Rattle.std.specs.Prelude.{◌≡◌, ◌↔◌, ◌<◌, ℕ, length, 
 ghost use Rattle.geo_model.specs.Prices.{price_of};
 ghost use Rattle.geo_model.specs.Network.{IsNetwork};
 ghost use Rattle.pivot_chain.specs.Room.{IsRoomOf};
-ghost use Rattle.bound_log.specs.LogTree.{IsRefutedBy};
-ghost use Rattle.branch_bound.specs.Cuts.{AreCutsFor, IsWritable, line_of};
+ghost use Rattle.bound_log.specs.LogTree.{IsNodeRefutedBy};
+ghost use Rattle.branch_bound.specs.Cuts.{AreCutsFor, IsWritable, log_line_of};
 ghost use Rattle.branch_bound.specs.Explored.{IsNode, IsLineAt};
-ghost use Rattle.branch_bound.specs.Found.{IsKept, IsCovered, IsBelow, best_bound};
+ghost use Rattle.branch_bound.specs.Found.{IsTrueBest, IsCovered, IsBelow, best_bound};
 ghost use Rattle.branch_bound.specs.Searched.{IsCertified};
 ghost use Rattle.branch_bound.specs.Inherited.{IsInherited, IsUnmetAt};
 ghost use Rattle.std.specs.Option.{ForSome};
@@ -34,7 +34,7 @@ fn refutes_now(
     requires node { IsNode network.now node.now }
     requires inherited { IsInherited network.now node.now inherited.now }
     requires limit { limit < length network.now.limits }
-    ensures refuted { IsTrue result ↔ IsRefutedBy network.now node.now limit }
+    ensures refuted { IsTrue result ↔ IsNodeRefutedBy network.now node.now limit }
     ensures room { IsRoomOf network.now room.new }
 {
     if let Some(candidate) = inherited.chosen {
@@ -55,8 +55,8 @@ fn refuting_limit(
     requires room { IsRoomOf network.now room.old }
     requires node { IsNode network.now node.now }
     requires inherited { IsInherited network.now node.now inherited.now }
-    ensures found { IfSome result (λ limit. IsRefutedBy network.now node.now limit) }
-    ensures none { IfNone result ((k : ℕ) → IsRefutedBy network.now node.now k → ⊥) }
+    ensures found { IfSome result (λ limit. IsNodeRefutedBy network.now node.now limit) }
+    ensures none { IfNone result ((k : ℕ) → IsNodeRefutedBy network.now node.now k → ⊥) }
     ensures bounds { IsNetwork network.now }
     ensures room { IsRoomOf network.now room.new }
 {
@@ -98,7 +98,7 @@ fn unmet_limit(
 /// costs no more, and where it is unsettled it costs less.
 fn is_cut_off(network: &Network, plan: &Plan, best: &Best) -> bool
     requires plan { length plan.now ≡ length network.now.candidates }
-    requires kept { IsKept network.now best.now }
+    requires kept { IsTrueBest network.now best.now }
     ensures { IsTrue result ↔ IsCovered network.now best.now plan.now }
 {
     let price = cost(network, plan);
@@ -112,7 +112,7 @@ fn is_cut_off(network: &Network, plan: &Plan, best: &Best) -> bool
 /// Whether a plan is cheaper than the best one so far, or there is none.
 fn is_cheaper(network: &Network, plan: &Plan, best: &Best) -> bool
     requires plan { length plan.now ≡ length network.now.candidates }
-    requires kept { IsKept network.now best.now }
+    requires kept { IsTrueBest network.now best.now }
     ensures { IsTrue result ↔ IsBelow (price_of network.now plan.now) (best_bound network.now best.now) }
 {
     let price = cost(network, plan);
@@ -138,9 +138,9 @@ pub fn line_at(
     requires room { IsRoomOf network.now room.old }
     requires node { IsNode network.now node.now }
     requires inherited { IsInherited network.now node.now inherited.old }
-    requires kept { IsKept network.now best.old }
+    requires kept { IsTrueBest network.now best.old }
     requires cuts { AreCutsFor network.now cuts.old }
-    ensures line { IfOk result (λ line. IsLineAt network.now node.now best.old best.new (line_of cuts.new line)) }
+    ensures line { IfOk result (λ line. IsLineAt network.now node.now best.old best.new (log_line_of cuts.new line)) }
     ensures writable { IfOk result (IsWritable cuts.new) }
     ensures inherited { ForSome inherited.new.unmet (λ limit. IsUnmetAt network.now node.now.inside limit) }
     ensures room { IsRoomOf network.now room.new }

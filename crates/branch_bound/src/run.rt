@@ -5,8 +5,8 @@ ghost use Rattle.pivot_chain.specs.Room.{IsRoomOf};
 ghost use Rattle.bound_log.specs.Counted.{no_counts};
 ghost use Rattle.bound_log.specs.LogText.{head_text};
 ghost use Rattle.branch_bound.specs.Cuts.{AreCutsFor};
-ghost use Rattle.branch_bound.specs.Explored.{IsNode, Adds, Breaks, Explores, BreaksOff};
-ghost use Rattle.branch_bound.specs.Found.{IsKept, IsStart, IsAnswerOf};
+ghost use Rattle.branch_bound.specs.Explored.{IsNode, AddsText, BreaksText, Explores, BreaksTree};
+ghost use Rattle.branch_bound.specs.Found.{IsTrueBest, IsStart, IsAnswerOf};
 ghost use Rattle.branch_bound.specs.Logged.{Searches, BreaksLog};
 ghost use Rattle.branch_bound.specs.Inherited.{IsInherited};
 
@@ -56,7 +56,7 @@ impl Findings {
     /// The answer of a search that is over.
     fn done(self, network: &Network) -> SearchDone
         requires room { IsRoomOf network.now self.room }
-        requires kept { IsKept network.now self.best }
+        requires kept { IsTrueBest network.now self.best }
         ensures answer { IsAnswerOf network.now self.best result.answer }
         ensures counts { result.counts ≡ self.counts }
     {
@@ -85,7 +85,7 @@ fn explore<H: Shelf>(
     requires node { IsNode network.now node.old }
     requires inherited { IsInherited network.now node.old inherited }
     requires room { IsRoomOf network.now findings.old.room }
-    requires kept { IsKept network.now findings.old.best }
+    requires kept { IsTrueBest network.now findings.old.best }
     requires cuts { AreCutsFor network.now findings.old.cuts }
     ensures explored { OnOk result (Explores network.now node.old name.now
         findings.old.best findings.new.best findings.old.counts findings.new.counts (H.state shelf.old)
@@ -93,7 +93,7 @@ fn explore<H: Shelf>(
     ensures node { OnOk result (node.new ≡ node.old) }
     ensures room { OnOk result (IsRoomOf network.now findings.new.room) }
     ensures cuts { OnOk result (AreCutsFor network.now findings.new.cuts) }
-    ensures refused { IfErr result (λ why. BreaksOff network.now node.old name.now why (H.state shelf.old)
+    ensures refused { IfErr result (λ why. BreaksTree network.now node.old name.now why (H.state shelf.old)
         (H.state shelf.new)) }
 {
     let mut inherited = inherited;
@@ -156,8 +156,8 @@ fn first_plan(alloc: Global, network: &Network) -> Result<Best, NoMemory>
 /// Writes the first line of a log. `buffer` is room for its bytes.
 fn begin_log<H: Shelf>(shelf: &mut H, name: &str, buffer: &mut Vec<u8>) -> Result<(), SearchFault>
     requires { (H.state shelf.old).started ≡ Some name.now }
-    ensures added { OnOk result (Adds name.now head_text (H.state shelf.old) (H.state shelf.new)) }
-    ensures refused { IfErr result (λ why. Breaks name.now head_text why (H.state shelf.old) (H.state shelf.new)) }
+    ensures added { OnOk result (AddsText name.now head_text (H.state shelf.old) (H.state shelf.new)) }
+    ensures refused { IfErr result (λ why. BreaksText name.now head_text why (H.state shelf.old) (H.state shelf.new)) }
 {
     buffer.clear();
     put_head(buffer)?;

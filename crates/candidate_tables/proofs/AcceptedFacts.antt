@@ -19,8 +19,8 @@ use Rattle.point_tables.specs.PointTable as points_table
 use Rattle.table_columns.proofs.PlaceFacts.{among-is, place-at}
 use Rattle.candidate_tables.specs.declared.kind.Kind.{Kind}
 use Rattle.candidate_tables.specs.declared.kind_rules.LineBounds.{LineBounds}
-use Rattle.candidate_tables.specs.Accepted.{IsBetween, IsCandidateRecord, IsEnd, IsLine, IsWithin}
-use Rattle.candidate_tables.specs.CandidateTable.{bound_rules, candidate_of, column_rules, deviation_of, deviation_rules, end_rules, figure_rules, foresight_in, foresight_rules, height_deviation_of, height_rules, kind_at, length_rules, line_rules, lines_rules, part_rules, place_rules, point_rules, price_of, price_rules}
+use Rattle.candidate_tables.specs.Accepted.{IsBetween, IsCandidateRecord, IsEnd, IsLineInBounds, IsSquareWithin}
+use Rattle.candidate_tables.specs.CandidateTable.{bound_rules, candidate_record_of, candidate_column_rules, deviation_of, deviation_rules, end_rules, figure_rules, foresight_in, foresight_rules, height_deviation_of, height_rules, kind_at, length_rules, line_length_rules, lines_rules, needed_part_rules, place_rules, known_point_rules, written_price, price_rules}
 use Rattle.candidate_tables.specs.Kinds.{rules_of}
 use Rattle.candidate_tables.specs.Lines.{length_squared}
 use Rattle.candidate_tables.specs.Places.{has_repeat, lacks_height, lacks_plane, named, place_in}
@@ -74,17 +74,17 @@ mapped-some : {A B : Type 0} (f : A → B) (o : Option A) (y : B) → option_map
 mapped-some f None y e = absurd (cc e)
 mapped-some f (Some x) y e = (x, refl)
 
-place-is : (points : List PointRecord) (text : List ℕ) (place : ℕ) → place_of text (points_table.names_of points) ≡ Some place → place_in points text ≡ place
+place-is : (points : List PointRecord) (text : List ℕ) (place : ℕ) → place_of text (points_table.point_names points) ≡ Some place → place_in points text ≡ place
 unfolding place_in
 place-is points text place e = rw e refl
 
 -- a name that some point has is that of a point
-pub point-named : (points : List PointRecord) (text : List ℕ) → first_broken (point_rules points text) ≡ None → (point : PointRecord) × (slice_get points (place_in points text) ≡ Some point)
-unfolding point_rules
+pub point-named : (points : List PointRecord) (text : List ℕ) → first_broken (known_point_rules points text) ≡ None → (point : PointRecord) × (slice_get points (place_in points text) ≡ Some point)
+unfolding known_point_rules
 point-named points text e =
-    let among = not-false (is_among text (points_table.names_of points)) (each-kept _ [] e).0 in
-    let (place, is) = some-of (place_of text (points_table.names_of points)) (sym (among-is text (points_table.names_of points)) ∙ among) in
-    let at = place-at text (points_table.names_of points) place is in
+    let among = not-false (is_among text (points_table.point_names points)) (each-kept _ [] e).0 in
+    let (place, is) = some-of (place_of text (points_table.point_names points)) (sym (among-is text (points_table.point_names points)) ∙ among) in
+    let at = place-at text (points_table.point_names points) place is in
     let (point, here) = mapped-some (λ (p : PointRecord). p.name) (slice_get points place) text (sym (slice_get-map (λ (p : PointRecord). p.name) points place) ∙ at) in
     (point, subst (λ (k : ℕ). slice_get points k ≡ Some point) (sym (place-is points text place is)) here)
 
@@ -106,7 +106,7 @@ end-of points kind place (point, is) plane height = record {
 }
 
 -- a square of a length that breaks no rule
-within-of : (square : ℕ) (bounds : LineBounds) → first_broken (bound_rules square bounds) ≡ None → IsWithin square bounds
+within-of : (square : ℕ) (bounds : LineBounds) → first_broken (bound_rules square bounds) ≡ None → IsSquareWithin square bounds
 unfolding bound_rules
 within-of square bounds e =
     let (near, rest) = each-kept _ _ e in
@@ -114,19 +114,19 @@ within-of square bounds e =
     record { least = grind (arith, nat_tests); greatest = grind (arith, nat_tests) }
 
 -- a line that breaks no rule
-line-of : (points : List PointRecord) (kind : Kind) (from to : ℕ) → first_broken (line_rules points kind from to) ≡ None → IsLine points kind from to
+line-of : (points : List PointRecord) (kind : Kind) (from to : ℕ) → first_broken (line_length_rules points kind from to) ≡ None → IsLineInBounds points kind from to
 unfolding length_rules
 line-of points kind from to e = λ bounds is.
     within-of (length_squared points from to) bounds (subst (λ (o : Option LineBounds). first_broken (option_map_or (bound_rules (length_squared points from to)) o []) ≡ None) is e)
 
 -- the lines from the station, where they break no rule
 lines-of : (points : List PointRecord) (kind : Kind) (from to : ℕ) (to2 : Option ℕ) → first_broken (lines_rules points kind from to to2) ≡ None
-    → IsLine points kind from to × ForSome to2 (IsLine points kind from)
+    → IsLineInBounds points kind from to × ForSome to2 (IsLineInBounds points kind from)
 unfolding lines_rules
 lines-of points kind from to to2 e =
     let (first, second) = both-kept _ _ e in (
       line-of points kind from to first,
-      λ foresight is. line-of points kind from foresight (subst (λ (o : Option ℕ). first_broken (option_map_or (line_rules points kind from) o []) ≡ None) is second),
+      λ foresight is. line-of points kind from foresight (subst (λ (o : Option ℕ). first_broken (option_map_or (line_length_rules points kind from) o []) ≡ None) is second),
     )
 
 -- the points that are named, where they and their parts break no rule
@@ -135,8 +135,8 @@ record PartsKept (points : List PointRecord) (kind : Kind) (from to : ℕ) (to2 
   plane : (rules_of kind).needs_plane ≡ true → (lacks_plane points from ≡ false) × (lacks_plane points to ≡ false) × ForSome to2 (λ foresight. lacks_plane points foresight ≡ false)
   height : (rules_of kind).needs_height ≡ true → (lacks_height points from ≡ false) × (lacks_height points to ≡ false) × ForSome to2 (λ foresight. lacks_height points foresight ≡ false)
 
-parts-of : (points : List PointRecord) (kind : Kind) (from to : ℕ) (to2 : Option ℕ) → first_broken (part_rules points kind (named from to to2)) ≡ None → PartsKept points kind from to to2
-unfolding part_rules
+parts-of : (points : List PointRecord) (kind : Kind) (from to : ℕ) (to2 : Option ℕ) → first_broken (needed_part_rules points kind (named from to to2)) ≡ None → PartsKept points kind from to to2
+unfolding needed_part_rules
 parts-of points kind from to to2 e =
     let (same, rest) = each-kept _ _ e in
     let (plane, more) = each-kept _ _ rest in
@@ -153,7 +153,7 @@ foresight-named : (points : List PointRecord) (kind : Kind) (text : List ℕ) (f
 unfolding foresight_rules foresight_in
 foresight-named points kind text foresight e is = by (rules_of kind).has_foresight e is
   where
-    by : (t : Bool) → first_broken (if t then point_rules points text else []) ≡ None → (if t then Some (place_in points text) else None) ≡ Some foresight
+    by : (t : Bool) → first_broken (if t then known_point_rules points text else []) ≡ None → (if t then Some (place_in points text) else None) ≡ Some foresight
         → (point : PointRecord) × (slice_get points foresight ≡ Some point)
     by true f same =
         let place : place_in points text ≡ foresight = cc same in
@@ -201,8 +201,8 @@ deviation-of text e =
 most-price : (value : ℤ) → pos 0 ≤ℤ value → value ≤ℤ pos (10 ^ 9) → unsigned_abs value ≤ 10 ^ 9
 most-price value low high = omega (arith, ints)
 
-price-of : (text : List ℕ) → first_broken (price_rules text) ≡ None → price_of text ≤ 10 ^ 9
-unfolding price_rules price_of
+price-of : (text : List ℕ) → first_broken (price_rules text) ≡ None → written_price text ≤ 10 ^ 9
+unfolding price_rules written_price
 price-of text e =
     let (value, written, low, high) = number-kept 0 (pos 0) (pos (10 ^ 9)) text e in
     rw written (most-price value low high)
@@ -221,18 +221,18 @@ height-of kind text e = by (rules_of kind).has_height_deviation e
 
 -- the parts of a record's rules
 record RecordKept (points : List PointRecord) (row : List (List ℕ)) (kind : Kind) (from to : ℕ) (to2 : Option ℕ) : Type 0 where
-  first : first_broken (point_rules points (text_at row 2)) ≡ None
-  second : first_broken (point_rules points (text_at row 3)) ≡ None
+  first : first_broken (known_point_rules points (text_at row 2)) ≡ None
+  second : first_broken (known_point_rules points (text_at row 3)) ≡ None
   third : first_broken (foresight_rules points kind (text_at row 4)) ≡ None
   parts : PartsKept points kind from to to2
-  lines : IsLine points kind from to × ForSome to2 (IsLine points kind from)
+  lines : IsLineInBounds points kind from to × ForSome to2 (IsLineInBounds points kind from)
   sd : first_broken (deviation_rules (text_at row 5)) ≡ None
   sdh : first_broken (height_rules kind (text_at row 6)) ≡ None
   price : first_broken (price_rules (text_at row 7)) ≡ None
 
-record-kept : (points : List PointRecord) (row : List (List ℕ)) → first_broken (column_rules points row (candidate_of points row)) ≡ None
+record-kept : (points : List PointRecord) (row : List (List ℕ)) → first_broken (candidate_column_rules points row (candidate_record_of points row)) ≡ None
     → RecordKept points row (kind_at row) (place_in points (text_at row 2)) (place_in points (text_at row 3)) (foresight_in points (kind_at row) (text_at row 4))
-unfolding candidate_of end_rules place_rules figure_rules
+unfolding candidate_record_of end_rules place_rules figure_rules
 record-kept points row e =
     let (ends, after_ends) = both-kept _ _ e in
     let (kind, after_kind) = both-kept _ _ ends in
@@ -255,9 +255,9 @@ record-kept points row e =
     }
 
 -- what an accepted record is
-pub record-accepted : (points : List PointRecord) (row : List (List ℕ)) → is_name (name_at row) ≡ true → first_broken (column_rules points row (candidate_of points row)) ≡ None
-    → IsCandidateRecord points (candidate_of points row)
-unfolding candidate_of
+pub record-accepted : (points : List PointRecord) (row : List (List ℕ)) → is_name (name_at row) ≡ true → first_broken (candidate_column_rules points row (candidate_record_of points row)) ≡ None
+    → IsCandidateRecord points (candidate_record_of points row)
+unfolding candidate_record_of
 record-accepted points row is_one e =
     let kept = record-kept points row e in
     record {

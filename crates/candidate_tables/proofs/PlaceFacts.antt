@@ -8,7 +8,7 @@ use Rattle.point_tables.specs.declared.fault.FaultKind.{FaultKind}
 use Rattle.point_tables.specs.declared.record.PointRecord.{PointRecord}
 use Rattle.point_tables.specs.Accepted.{is_absent}
 use Rattle.candidate_tables.specs.declared.kind.Kind.{Kind}
-use Rattle.candidate_tables.specs.CandidateTable.{extra_rules, line_rules, lines_rules, part_rules, place_rules}
+use Rattle.candidate_tables.specs.CandidateTable.{extra_rules, line_length_rules, lines_rules, needed_part_rules, place_rules}
 use Rattle.coefficient_round.specs.Coefficient.{square_length}
 use Rattle.candidate_tables.specs.Lines.{length_squared, x_at, y_at}
 use Rattle.candidate_tables.specs.Places.{lacks_height, lacks_plane, named}
@@ -45,18 +45,18 @@ past front back found kept e = e ∙ sym (first_broken-right front back kept)
 
 -- the lines from the station
 module _ (points : List PointRecord) (kind : Kind) (from to : ℕ) where
-  pub lines-first : (to2 : Option ℕ) (broken : FaultKind) → first_broken (line_rules points kind from to) ≡ Some broken → Some broken ≡ first_broken (lines_rules points kind from to to2)
+  pub lines-first : (to2 : Option ℕ) (broken : FaultKind) → first_broken (line_length_rules points kind from to) ≡ Some broken → Some broken ≡ first_broken (lines_rules points kind from to to2)
   unfolding lines_rules
   lines-first to2 broken e = sym (first_broken-left _ _ broken e)
 
-  pub lines-none : (to2 : Option ℕ) → to2 ≡ None → first_broken (line_rules points kind from to) ≡ None → None ≡ first_broken (lines_rules points kind from to to2)
+  pub lines-none : (to2 : Option ℕ) → to2 ≡ None → first_broken (line_length_rules points kind from to) ≡ None → None ≡ first_broken (lines_rules points kind from to to2)
   unfolding lines_rules first_broken
-  lines-none to2 none e = rw none (past (line_rules points kind from to) [] None e refl)
+  lines-none to2 none e = rw none (past (line_length_rules points kind from to) [] None e refl)
 
-  pub lines-second : (to2 : Option ℕ) (foresight : ℕ) (found : Option FaultKind) → to2 ≡ Some foresight → first_broken (line_rules points kind from to) ≡ None
-      → found ≡ first_broken (line_rules points kind from foresight) → found ≡ first_broken (lines_rules points kind from to to2)
+  pub lines-second : (to2 : Option ℕ) (foresight : ℕ) (found : Option FaultKind) → to2 ≡ Some foresight → first_broken (line_length_rules points kind from to) ≡ None
+      → found ≡ first_broken (line_length_rules points kind from foresight) → found ≡ first_broken (lines_rules points kind from to to2)
   unfolding lines_rules
-  lines-second to2 foresight found some e f = rw some (past (line_rules points kind from to) (line_rules points kind from foresight) found e f)
+  lines-second to2 foresight found some e f = rw some (past (line_length_rules points kind from to) (line_length_rules points kind from foresight) found e f)
 
 -- what a record names
 module _ (points : List PointRecord) (row : List (List ℕ)) (kind : Kind) (from to : ℕ) (to2 : Option ℕ) where
@@ -64,12 +64,12 @@ module _ (points : List PointRecord) (row : List (List ℕ)) (kind : Kind) (from
   unfolding place_rules
   broken-extra broken e = sym (first_broken-left _ _ broken e)
 
-  pub broken-part : (broken : FaultKind) → first_broken (extra_rules kind row) ≡ None → first_broken (part_rules points kind (named from to to2)) ≡ Some broken
+  pub broken-part : (broken : FaultKind) → first_broken (extra_rules kind row) ≡ None → first_broken (needed_part_rules points kind (named from to to2)) ≡ Some broken
       → Some broken ≡ first_broken (place_rules points row kind from to to2)
   unfolding place_rules
   broken-part broken e f = past _ _ _ e (sym (first_broken-left _ _ broken f))
 
-  pub broken-lines : (found : Option FaultKind) → first_broken (extra_rules kind row) ≡ None → first_broken (part_rules points kind (named from to to2)) ≡ None
+  pub broken-lines : (found : Option FaultKind) → first_broken (extra_rules kind row) ≡ None → first_broken (needed_part_rules points kind (named from to to2)) ≡ None
       → found ≡ first_broken (lines_rules points kind from to to2) → found ≡ first_broken (place_rules points row kind from to to2)
   unfolding place_rules
   broken-lines found e f g = past _ _ _ e (past _ _ _ f g)

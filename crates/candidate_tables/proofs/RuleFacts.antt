@@ -13,11 +13,11 @@ use Rattle.point_tables.specs.declared.record.PointRecord.{PointRecord}
 use Rattle.point_tables.specs.Columns.{number_kinds}
 use Rattle.table_columns.specs.Columns.{IsNumber, number_rules, text_at}
 use Rattle.table_columns.specs.Names.{place_of}
-use Rattle.point_tables.specs.PointTable.{names_of}
+use Rattle.point_tables.specs.PointTable.{point_names}
 use Rattle.table_columns.proofs.PlaceFacts.{among-is, place-at}
 use Rattle.candidate_tables.specs.declared.kind.Kind.{Kind}
-use Rattle.candidate_tables.specs.CandidateTable.{deviation_of, deviation_rules, end_rules, figure_rules, foresight_in, foresight_rules, height_deviation_of, height_rules, kind_at, kind_rules, point_rules, price_of, price_rules}
-use Rattle.candidate_tables.specs.Kinds.{kind_of, rules_of}
+use Rattle.candidate_tables.specs.CandidateTable.{deviation_of, deviation_rules, end_rules, figure_rules, foresight_in, foresight_rules, height_deviation_of, height_rules, kind_at, kind_rules, known_point_rules, written_price, price_rules}
+use Rattle.candidate_tables.specs.Kinds.{kind_named, rules_of}
 use Rattle.candidate_tables.specs.Places.{place_in}
 use Rattle.candidate_tables.specs.declared.ends.Ends.{Ends}
 use Rattle.candidate_tables.specs.Read.{IsEnds, IsForesight, IsPlaceOf}
@@ -25,27 +25,27 @@ use Rattle.table_columns.proofs.RecordFacts.{at-field, past}
 
 -- ---- the points that are named
 
-place-within : (points : List PointRecord) (text : List ℕ) (place : ℕ) → place_of text (names_of points) ≡ Some place → place < length points
+place-within : (points : List PointRecord) (text : List ℕ) (place : ℕ) → place_of text (point_names points) ≡ Some place → place < length points
 place-within points text place e =
-    let within = slice_get_within (names_of points) place text (place-at text (names_of points) place e) in
+    let within = slice_get_within (point_names points) place text (place-at text (point_names points) place e) in
     omega (arith, within, length-map points (λ (point : PointRecord). point.name))
 
-pub point-found : (points : List PointRecord) (text : List ℕ) (place : ℕ) → place_of text (names_of points) ≡ Some place
-    → (first_broken (point_rules points text) ≡ None) × IsPlaceOf points text place
-unfolding point_rules first_broken place_in
+pub point-found : (points : List PointRecord) (text : List ℕ) (place : ℕ) → place_of text (point_names points) ≡ Some place
+    → (first_broken (known_point_rules points text) ≡ None) × IsPlaceOf points text place
+unfolding known_point_rules first_broken place_in
 point-found points text place e =
-    (rw (among-is text (names_of points), e) refl, record { value = rw e refl; within = place-within points text place e })
+    (rw (among-is text (point_names points), e) refl, record { value = rw e refl; within = place-within points text place e })
 
-pub point-none : (points : List PointRecord) (text : List ℕ) → place_of text (names_of points) ≡ None → first_broken (point_rules points text) ≡ Some fault.NoPoint
-unfolding point_rules first_broken
-point-none points text e = rw (among-is text (names_of points), e) refl
+pub point-none : (points : List PointRecord) (text : List ℕ) → place_of text (point_names points) ≡ None → first_broken (known_point_rules points text) ≡ Some fault.NoPoint
+unfolding known_point_rules first_broken
+point-none points text e = rw (among-is text (point_names points), e) refl
 
 pub foresight-other : (points : List PointRecord) (kind : Kind) (text : List ℕ) → (rules_of kind).has_foresight ≡ false
     → (first_broken (foresight_rules points kind text) ≡ None) × IsForesight points kind text None
 unfolding foresight_rules first_broken foresight_in
 foresight-other points kind text e = (rw e refl, record { value = rw e refl; within = λ x f. cc f })
 
-pub foresight-rules : (points : List PointRecord) (kind : Kind) (text : List ℕ) → (rules_of kind).has_foresight ≡ true → foresight_rules points kind text ≡ point_rules points text
+pub foresight-rules : (points : List PointRecord) (kind : Kind) (text : List ℕ) → (rules_of kind).has_foresight ≡ true → foresight_rules points kind text ≡ known_point_rules points text
 unfolding foresight_rules
 foresight-rules points kind text e = rw e refl
 
@@ -67,8 +67,8 @@ pub deviation-read : (text : List ℕ) (value : ℤ) (size : ℕ) → IsNumber 2
 unfolding deviation_of
 deviation-read text value size is same = size-is text 2 value size is.written same
 
-pub price-read : (text : List ℕ) (value : ℤ) (size : ℕ) → IsNumber 0 (pos 0) (pos (10 ^ 9)) text value → size ≡ unsigned_abs value → size ≡ price_of text
-unfolding price_of
+pub price-read : (text : List ℕ) (value : ℤ) (size : ℕ) → IsNumber 0 (pos 0) (pos (10 ^ 9)) text value → size ≡ unsigned_abs value → size ≡ written_price text
+unfolding written_price
 price-read text value size is same = size-is text 0 value size is.written same
 
 pub deviation-is : (text : List ℕ) → deviation_rules text ≡ number_rules number_kinds 2 (pos 10) (pos 10000) text
@@ -94,7 +94,7 @@ height-found kind text value e same = rw e (ap Some same)
 -- ---- one column after the other
 
 -- the kind of a record whose text names one
-pub kind-at : (row : List (List ℕ)) (kind : Kind) → kind_of (text_at row 1) ≡ Some kind → kind ≡ kind_at row
+pub kind-at : (row : List (List ℕ)) (kind : Kind) → kind_named (text_at row 1) ≡ Some kind → kind ≡ kind_at row
 unfolding kind_at
 kind-at row kind e = rw e refl
 
@@ -103,18 +103,18 @@ module _ (points : List PointRecord) (row : List (List ℕ)) where
   unfolding end_rules
   broken-kind broken kind = first_broken-left _ _ broken kind
 
-  pub broken-from : (broken : FaultKind) → first_broken (kind_rules (text_at row 1)) ≡ None → first_broken (point_rules points (text_at row 2)) ≡ Some broken
+  pub broken-from : (broken : FaultKind) → first_broken (kind_rules (text_at row 1)) ≡ None → first_broken (known_point_rules points (text_at row 2)) ≡ Some broken
       → first_broken (end_rules points row) ≡ Some broken
   unfolding end_rules
   broken-from broken kind from = past _ _ _ kind (first_broken-left _ _ broken from)
 
-  pub broken-to : (broken : FaultKind) → first_broken (kind_rules (text_at row 1)) ≡ None → first_broken (point_rules points (text_at row 2)) ≡ None
-      → first_broken (point_rules points (text_at row 3)) ≡ Some broken → first_broken (end_rules points row) ≡ Some broken
+  pub broken-to : (broken : FaultKind) → first_broken (kind_rules (text_at row 1)) ≡ None → first_broken (known_point_rules points (text_at row 2)) ≡ None
+      → first_broken (known_point_rules points (text_at row 3)) ≡ Some broken → first_broken (end_rules points row) ≡ Some broken
   unfolding end_rules
   broken-to broken kind from to = past _ _ _ kind (past _ _ _ from (first_broken-left _ _ broken to))
 
-  pub broken-to2 : (found : Option FaultKind) → first_broken (kind_rules (text_at row 1)) ≡ None → first_broken (point_rules points (text_at row 2)) ≡ None
-      → first_broken (point_rules points (text_at row 3)) ≡ None → first_broken (foresight_rules points (kind_at row) (text_at row 4)) ≡ found
+  pub broken-to2 : (found : Option FaultKind) → first_broken (kind_rules (text_at row 1)) ≡ None → first_broken (known_point_rules points (text_at row 2)) ≡ None
+      → first_broken (known_point_rules points (text_at row 3)) ≡ None → first_broken (foresight_rules points (kind_at row) (text_at row 4)) ≡ found
       → first_broken (end_rules points row) ≡ found
   unfolding end_rules
   broken-to2 found kind from to to2 = past _ _ _ kind (past _ _ _ from (past _ _ _ to to2))
@@ -139,8 +139,8 @@ pub keeps-kind : (row : List (List ℕ)) (text : List ℕ) → slice_get row 1 �
 keeps-kind row text e p = at-field (λ t. first_broken (kind_rules t) ≡ None) row 1 text e p
 
 pub keeps-point : (points : List PointRecord) (row : List (List ℕ)) (place : ℕ) (text : List ℕ) → slice_get row place ≡ Some text
-    → first_broken (point_rules points text) ≡ None → first_broken (point_rules points (text_at row place)) ≡ None
-keeps-point points row place text e p = at-field (λ t. first_broken (point_rules points t) ≡ None) row place text e p
+    → first_broken (known_point_rules points text) ≡ None → first_broken (known_point_rules points (text_at row place)) ≡ None
+keeps-point points row place text e p = at-field (λ t. first_broken (known_point_rules points t) ≡ None) row place text e p
 
 pub keeps-deviation : (row : List (List ℕ)) (text : List ℕ) → slice_get row 5 ≡ Some text → first_broken (deviation_rules text) ≡ None
     → first_broken (deviation_rules (text_at row 5)) ≡ None

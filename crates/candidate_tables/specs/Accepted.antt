@@ -19,20 +19,20 @@ pub record IsEnd (points : List PointRecord) (kind : Kind) (place : ℕ) : Type 
   pub height : (rules_of kind).needs_height ≡ true → is_absent point.height ≡ false
 
 -- the square of a length is within these bounds
-pub record IsWithin (square : ℕ) (bounds : LineBounds) : Type 0 where
+pub record IsSquareWithin (square : ℕ) (bounds : LineBounds) : Type 0 where
   pub least : bounds.least ≤ square
   pub greatest : square ≤ bounds.greatest
 
 -- the line between two points is within the bounds of the kind, if it has any
-abbrev pub IsLine : List PointRecord → Kind → ℕ → ℕ → Type 0
-IsLine points kind from to = ForSome (rules_of kind).line (IsWithin (length_squared points from to))
+abbrev pub IsLineInBounds : List PointRecord → Kind → ℕ → ℕ → Type 0
+IsLineInBounds points kind from to = ForSome (rules_of kind).line (IsSquareWithin (length_squared points from to))
 
 -- a foresight is a point other than the vertex and the backsight, on a line from the vertex within the bounds
 pub record IsForesightOf (points : List PointRecord) (kind : Kind) (from to foresight : ℕ) : Type 0 where
   pub end : IsEnd points kind foresight
   pub other_from : from ≢ foresight
   pub other_to : to ≢ foresight
-  pub line : IsLine points kind from foresight
+  pub line : IsLineInBounds points kind from foresight
 
 -- a standard deviation is from 0.10 to 100.00
 abbrev pub IsBetween : ℕ → Type 0
@@ -45,7 +45,7 @@ pub record IsCandidateRecord (points : List PointRecord) (candidate : CandidateR
   pub from : IsEnd points candidate.kind candidate.from
   pub to : IsEnd points candidate.kind candidate.to
   pub other : candidate.from ≢ candidate.to
-  pub line : IsLine points candidate.kind candidate.from candidate.to
+  pub line : IsLineInBounds points candidate.kind candidate.from candidate.to
   pub has_to2 : is_some candidate.to2 ≡ (rules_of candidate.kind).has_foresight
   pub to2 : ForSome candidate.to2 (IsForesightOf points candidate.kind candidate.from candidate.to)
   pub sd : IsBetween candidate.sd

@@ -16,7 +16,7 @@ use Rattle.candidate_tables.specs.declared.kind.Kind.{Kind}
 use Rattle.candidate_tables.specs.declared.kind.Kind.TheVariants as kind
 use Rattle.candidate_tables.specs.declared.record.CandidateRecord.{CandidateRecord}
 use Rattle.candidate_tables.specs.declared.kind_rules.LineBounds.{LineBounds}
-use Rattle.candidate_tables.specs.Kinds.{kind_of, rules_of}
+use Rattle.candidate_tables.specs.Kinds.{kind_named, rules_of}
 use Rattle.candidate_tables.specs.Lines.{length_squared}
 use Rattle.candidate_tables.specs.Places.{has_repeat, lacks_height, lacks_plane, named, place_in}
 
@@ -29,7 +29,7 @@ candidate_header =
 
 -- the kind of a record, and a distance where its text names none of the kinds
 unfoldable pub kind_at : List (List ℕ) → Kind
-kind_at row = unwrap_or (kind_of (text_at row 1)) kind.Distance
+kind_at row = unwrap_or (kind_named (text_at row 1)) kind.Distance
 
 -- the number of the foresight, if the kind has one
 unfoldable pub foresight_in : List PointRecord → Kind → List ℕ → Option ℕ
@@ -44,12 +44,12 @@ unfoldable pub height_deviation_of : Kind → List ℕ → Option ℕ
 height_deviation_of kind text = if (rules_of kind).has_height_deviation then Some (deviation_of text) else None
 
 -- a price, and 0 outside the grammar
-unfoldable pub price_of : List ℕ → ℕ
-price_of text = option_map_or unsigned_abs (decimal_of 0 text) 0
+unfoldable pub written_price : List ℕ → ℕ
+written_price text = option_map_or unsigned_abs (decimal_of 0 text) 0
 
 -- a record read by field, against the points; it is what the record says only where no rule on it is broken
-unfoldable pub candidate_of : List PointRecord → List (List ℕ) → CandidateRecord
-candidate_of points row = record {
+unfoldable pub candidate_record_of : List PointRecord → List (List ℕ) → CandidateRecord
+candidate_record_of points row = record {
   name = name_at row;
   kind = kind_at row;
   from = place_in points (text_at row 2);
@@ -57,29 +57,29 @@ candidate_of points row = record {
   to2 = foresight_in points (kind_at row) (text_at row 4);
   sd = deviation_of (text_at row 5);
   sdh = height_deviation_of (kind_at row) (text_at row 6);
-  price = price_of (text_at row 7);
+  price = written_price (text_at row 7);
 }
 
 -- ---- the rules, in their order
 
 -- the text is the word of a kind
 unfoldable pub kind_rules : List ℕ → List (Rule FaultKind)
-kind_rules text = rule (is_none (kind_of text)) fault.Kind ∷ []
+kind_rules text = rule (is_none (kind_named text)) fault.Kind ∷ []
 
 -- a point has this name
-unfoldable pub point_rules : List PointRecord → List ℕ → List (Rule FaultKind)
-point_rules points text = rule (not (is_among text (points_table.names_of points))) fault.NoPoint ∷ []
+unfoldable pub known_point_rules : List PointRecord → List ℕ → List (Rule FaultKind)
+known_point_rules points text = rule (not (is_among text (points_table.point_names points))) fault.NoPoint ∷ []
 
 -- a point has the name of the foresight, if the kind has one
 unfoldable pub foresight_rules : List PointRecord → Kind → List ℕ → List (Rule FaultKind)
-foresight_rules points kind text = if (rules_of kind).has_foresight then point_rules points text else []
+foresight_rules points kind text = if (rules_of kind).has_foresight then known_point_rules points text else []
 
 -- the kind, and then the points that are named: from, to, and to2 if the kind has a foresight
 unfoldable pub end_rules : List PointRecord → List (List ℕ) → List (Rule FaultKind)
 end_rules points row =
     kind_rules (text_at row 1)
-    ++ (point_rules points (text_at row 2)
-    ++ (point_rules points (text_at row 3)
+    ++ (known_point_rules points (text_at row 2)
+    ++ (known_point_rules points (text_at row 3)
     ++ foresight_rules points (kind_at row) (text_at row 4)))
 
 -- to2 is empty but for a kind with a foresight, and sdh but for one with a standard deviation of the height
@@ -90,8 +90,8 @@ extra_rules kind row =
     ∷ []
 
 -- the points that are named differ, and have the parts that the kind needs
-unfoldable pub part_rules : List PointRecord → Kind → List ℕ → List (Rule FaultKind)
-part_rules points kind places =
+unfoldable pub needed_part_rules : List PointRecord → Kind → List ℕ → List (Rule FaultKind)
+needed_part_rules points kind places =
     rule (has_repeat places) fault.SamePoint
     ∷ rule ((rules_of kind).needs_plane && list_any (lacks_plane points) places) fault.NoPlane
     ∷ rule ((rules_of kind).needs_height && list_any (lacks_height points) places) fault.NoHeight
@@ -106,19 +106,19 @@ unfoldable pub length_rules : Kind → ℕ → List (Rule FaultKind)
 length_rules kind square = option_map_or (bound_rules square) (rules_of kind).line []
 
 -- the line between two points
-abbrev pub line_rules : List PointRecord → Kind → ℕ → ℕ → List (Rule FaultKind)
-line_rules points kind from to = length_rules kind (length_squared points from to)
+abbrev pub line_length_rules : List PointRecord → Kind → ℕ → ℕ → List (Rule FaultKind)
+line_length_rules points kind from to = length_rules kind (length_squared points from to)
 
 -- the line to the second point, and then the line to the foresight
 unfoldable pub lines_rules : List PointRecord → Kind → ℕ → ℕ → Option ℕ → List (Rule FaultKind)
-lines_rules points kind from to to2 = line_rules points kind from to ++ option_map_or (line_rules points kind from) to2 []
+lines_rules points kind from to to2 = line_length_rules points kind from to ++ option_map_or (line_length_rules points kind from) to2 []
 
 -- the rules on what a record of this kind names: the fields it has not, the points and their parts, the lines. The kind
--- and the numbers are those of `candidate_of`, where an unknown kind is a distance and an unknown name is point 0, so
+-- and the numbers are those of `candidate_record_of`, where an unknown kind is a distance and an unknown name is point 0, so
 -- these rules say something of the record only where the rules on its kind and on its names before them hold
 unfoldable pub place_rules : List PointRecord → List (List ℕ) → Kind → ℕ → ℕ → Option ℕ → List (Rule FaultKind)
 place_rules points row kind from to to2 =
-    extra_rules kind row ++ (part_rules points kind (named from to to2) ++ lines_rules points kind from to to2)
+    extra_rules kind row ++ (needed_part_rules points kind (named from to to2) ++ lines_rules points kind from to to2)
 
 -- a standard deviation has 2 places and is from 0.10 to 100.00
 unfoldable pub deviation_rules : List ℕ → List (Rule FaultKind)
@@ -137,8 +137,8 @@ unfoldable pub figure_rules : Kind → List (List ℕ) → List (Rule FaultKind)
 figure_rules kind row = deviation_rules (text_at row 5) ++ (height_rules kind (text_at row 6) ++ price_rules (text_at row 7))
 
 -- the rules on the columns after the name of a record that reads as this candidate
-abbrev pub column_rules : List PointRecord → List (List ℕ) → CandidateRecord → List (Rule FaultKind)
-column_rules points row candidate =
+abbrev pub candidate_column_rules : List PointRecord → List (List ℕ) → CandidateRecord → List (Rule FaultKind)
+candidate_column_rules points row candidate =
     end_rules points row
     ++ (place_rules points row candidate.kind candidate.from candidate.to candidate.to2
     ++ figure_rules candidate.kind row)
@@ -152,7 +152,7 @@ candidate_rules points = record {
   header = candidate_header;
   shape = shape_of 257 8;
   name = name_kinds;
-  columns = λ row. column_rules points row (candidate_of points row);
+  columns = λ row. candidate_column_rules points row (candidate_record_of points row);
 }
 
 -- the same as a table's
@@ -165,13 +165,13 @@ candidates_fault points bytes = first_fault (candidates_table points) bytes
 
 -- the candidates of a table: each record under the header row, read by field
 unfoldable pub candidates_of : List PointRecord → List ℕ → List CandidateRecord
-candidates_of points bytes = map (candidate_of points) (drop 1 (table_rows bytes))
+candidates_of points bytes = map (candidate_record_of points) (drop 1 (table_rows bytes))
 
 -- the names of candidates, in their order
-abbrev pub names_of : List CandidateRecord → List (List ℕ)
-names_of candidates = map (λ candidate. candidate.name) candidates
+abbrev pub candidate_names : List CandidateRecord → List (List ℕ)
+candidate_names candidates = map (λ candidate. candidate.name) candidates
 
 -- a candidate's name is the text of its record's first field
-pub candidate_of-name : (points : List PointRecord) (row : List (List ℕ)) → (candidate_of points row).name ≡ name_at row
-unfolding candidate_of
-candidate_of-name points row = refl
+pub candidate_record_of-name : (points : List PointRecord) (row : List (List ℕ)) → (candidate_record_of points row).name ≡ name_at row
+unfolding candidate_record_of
+candidate_record_of-name points row = refl

@@ -78,9 +78,9 @@ abbrev pub all_kinds : List Kind
 all_kinds = kind.Distance ∷ kind.Direction ∷ kind.Angle ∷ kind.Level ∷ kind.Vector ∷ []
 
 -- the kind whose word a text is
-unfoldable pub kind_of : List ℕ → Option Kind
-kind_of text = find (λ kind. bytes_eq text (rules_of kind).word) all_kinds
+unfoldable pub kind_named : List ℕ → Option Kind
+kind_named text = find (λ kind. bytes_eq text (rules_of kind).word) all_kinds
 
 -- the word of each kind names that kind
 abbrev pub WordsNameKinds : Type 0
-WordsNameKinds = (kind : Kind) → kind_of (rules_of kind).word ≡ Some kind
+WordsNameKinds = (kind : Kind) → kind_named (rules_of kind).word ≡ Some kind

@@ -5,11 +5,11 @@ use Rattle.std.specs.Option.{option_map_or, option_to_list}
 use Rattle.point_tables.specs.declared.record.PointRecord.{PointRecord}
 use Rattle.point_tables.specs.Accepted.{is_absent}
 use Rattle.point_tables.specs.Names.{place_of}
-use Rattle.point_tables.specs.PointTable.{names_of}
+use Rattle.point_tables.specs.PointTable.{point_names}
 
 -- the number of the point of a name, and 0 where no point has it
 unfoldable pub place_in : List PointRecord → List ℕ → ℕ
-place_in points name = unwrap_or (place_of name (names_of points)) 0
+place_in points name = unwrap_or (place_of name (point_names points)) 0
 
 -- the numbers of the points that a record names: from, to, and to2 where there is one
 abbrev pub named : ℕ → ℕ → Option ℕ → List ℕ

@@ -6,13 +6,13 @@ use Rattle.table_columns.specs.Columns.{text_at}
 use Rattle.candidate_tables.specs.declared.ends.Ends.{Ends}
 use Rattle.candidate_tables.specs.declared.figures.Figures.{Figures}
 use Rattle.candidate_tables.specs.declared.kind.Kind.{Kind}
-use Rattle.candidate_tables.specs.CandidateTable.{deviation_of, foresight_in, height_deviation_of, kind_at, price_of}
-use Rattle.candidate_tables.specs.Kinds.{kind_of}
+use Rattle.candidate_tables.specs.CandidateTable.{deviation_of, foresight_in, height_deviation_of, kind_at, written_price}
+use Rattle.candidate_tables.specs.Kinds.{kind_named}
 use Rattle.candidate_tables.specs.Places.{place_in}
 
 -- a kind is the one that a text names
 abbrev pub IsKindOf : List ℕ → Kind → Type 0
-IsKindOf text kind = kind_of text ≡ Some kind
+IsKindOf text kind = kind_named text ≡ Some kind
 
 -- a number is that of the point with this name
 pub record IsPlaceOf (points : List PointRecord) (text : List ℕ) (place : ℕ) : Type 0 where
@@ -42,7 +42,7 @@ pub record IsEnds (points : List PointRecord) (row : List (List ℕ)) (ends : En
 pub record AreFigures (kind : Kind) (row : List (List ℕ)) (figures : Figures) : Type 0 where
   pub sd : figures.sd ≡ deviation_of (text_at row 5)
   pub sdh : figures.sdh ≡ height_deviation_of kind (text_at row 6)
-  pub price : figures.price ≡ price_of (text_at row 7)
+  pub price : figures.price ≡ written_price (text_at row 7)
 
 -- the columns of a record after its name
 pub record AreColumns (points : List PointRecord) (row : List (List ℕ)) (columns : Ends × Figures) : Type 0 where

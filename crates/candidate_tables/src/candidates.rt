@@ -1,6 +1,6 @@
 ghost use Rattle.std.specs.Prelude.{◌≡◌, ◌↔◌, ◌≢◌, ◌<◌, ◌≤◌, ℕ, length, Some, IsNone, slice_get};
 ghost use Rattle.table_columns.specs.Names.{place_of};
-ghost use Rattle.candidate_tables.specs.CandidateTable.{names_of};
+ghost use Rattle.candidate_tables.specs.CandidateTable.{candidate_names};
 
 use crate::record::CandidateRecord;
 use std::marker::Model;
@@ -52,9 +52,9 @@ impl Candidates {
 
     /// The number of the candidate of this name, counted from 0. None where no candidate has it.
     pub fn find(&self, name: &[u8]) -> Option<u32>
-        ensures place { result ≡ place_of name.now (names_of self.now) }
-        ensures found { (k : ℕ) → (result ≡ Some k) ↔ (slice_get (names_of self.now) k ≡ Some name.now) }
-        ensures none { IsNone result ↔ ((k : ℕ) → slice_get (names_of self.now) k ≢ Some name.now) }
+        ensures place { result ≡ place_of name.now (candidate_names self.now) }
+        ensures found { (k : ℕ) → (result ≡ Some k) ↔ (slice_get (candidate_names self.now) k ≡ Some name.now) }
+        ensures none { IsNone result ↔ ((k : ℕ) → slice_get (candidate_names self.now) k ≢ Some name.now) }
     {
         self.records.find(name)
     }

@@ -1,6 +1,6 @@
 ghost use Rattle.std.specs.Prelude.{◌≡◌, length};
 ghost use Rattle.table_columns.specs.Read.{Reads};
-ghost use Rattle.candidate_tables.specs.CandidateTable.{end_rules, foresight_rules, point_rules};
+ghost use Rattle.candidate_tables.specs.CandidateTable.{end_rules, foresight_rules, known_point_rules};
 ghost use Rattle.candidate_tables.specs.Read.{IsEnds, IsForesight, IsPlaceOf};
 
 use crate::kind::{Kind, read_kind};
@@ -18,7 +18,7 @@ pub(crate) struct Ends {
 
 // The number of the point of this name.
 fn read_point(text: &[u8], points: &Points) -> Result<u32, FaultKind>
-    ensures { Reads (point_rules points.now text.now) (IsPlaceOf points.now text.now) result }
+    ensures { Reads (known_point_rules points.now text.now) (IsPlaceOf points.now text.now) result }
 {
     match points.find(text) {
         Some(place) => Ok(place),

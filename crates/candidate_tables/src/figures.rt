@@ -1,6 +1,6 @@
 ghost use Rattle.std.specs.Prelude.{◌≡◌, length};
 ghost use Rattle.table_columns.specs.Read.{Reads};
-ghost use Rattle.candidate_tables.specs.CandidateTable.{deviation_of, deviation_rules, figure_rules, height_deviation_of, height_rules, price_of, price_rules};
+ghost use Rattle.candidate_tables.specs.CandidateTable.{deviation_of, deviation_rules, figure_rules, height_deviation_of, height_rules, written_price, price_rules};
 ghost use Rattle.candidate_tables.specs.Read.{AreFigures};
 
 use crate::kind::Kind;
@@ -48,7 +48,7 @@ fn read_height(kind: Kind, text: &[u8]) -> Result<Option<u32>, FaultKind>
 
 // The price.
 fn read_price(text: &[u8]) -> Result<u64, FaultKind>
-    ensures { Reads (price_rules text.now) (λ value. value ≡ price_of text.now) result }
+    ensures { Reads (price_rules text.now) (λ value. value ≡ written_price text.now) result }
 {
     match NUMBER_KINDS.read(text, 0, 0, MOST_PRICE) {
         Ok(value) => Ok(value as u64),

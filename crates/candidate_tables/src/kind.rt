@@ -3,7 +3,7 @@ ghost use Rattle.std.specs.Str.{bytes_eq};
 ghost use Rattle.table_columns.specs.Read.{Reads};
 ghost use Rattle.candidate_tables.specs.CandidateTable.{kind_rules};
 ghost use Rattle.candidate_tables.specs.Read.{IsKindOf};
-ghost use Rattle.candidate_tables.specs.Kinds.{kind_of, rules_of};
+ghost use Rattle.candidate_tables.specs.Kinds.{kind_named, rules_of};
 
 use crate::kind_rules::{KindRules, LineBounds};
 use point_tables::FaultKind;
@@ -125,8 +125,8 @@ const KINDS: [Kind; 5] = [
 ];
 
 // The kind whose word a text is.
-fn kind_of(text: &[u8]) -> Option<Kind>
-    ensures { result ≡ kind_of text.now }
+fn kind_named(text: &[u8]) -> Option<Kind>
+    ensures { result ≡ kind_named text.now }
 {
     KINDS.iter().copied().find(|kind| kind.is_named(text))
 }
@@ -136,7 +136,7 @@ fn kind_of(text: &[u8]) -> Option<Kind>
 pub(crate) fn read_kind(text: &[u8]) -> Result<Kind, FaultKind>
     ensures { Reads (kind_rules text.now) (IsKindOf text.now) result }
 {
-    match kind_of(text) {
+    match kind_named(text) {
         Some(kind) => Ok(kind),
         None => Err(FaultKind::Kind),
     }

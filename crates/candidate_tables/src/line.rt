@@ -1,7 +1,7 @@
 ghost use Rattle.std.specs.Prelude.{◌≡◌, ◌<◌, length};
 ghost use Rattle.table_rows.specs.Faults.{first_broken};
 ghost use Rattle.candidate_tables.specs.Lines.{length_squared};
-ghost use Rattle.candidate_tables.specs.CandidateTable.{length_rules, line_rules};
+ghost use Rattle.candidate_tables.specs.CandidateTable.{length_rules, line_length_rules};
 
 use crate::kind::Kind;
 use coefficient_round::length_squared;
@@ -37,7 +37,7 @@ fn broken_length(kind: Kind, square: u128) -> Option<FaultKind>
 pub(crate) fn broken_line(kind: Kind, points: &Points, from: u32, to: u32) -> Option<FaultKind>
     requires from { from < length points.now }
     requires to { to < length points.now }
-    ensures { result ≡ first_broken (line_rules points.now kind from to) }
+    ensures { result ≡ first_broken (line_length_rules points.now kind from to) }
 {
     broken_length(kind, square_between(points, from, to))
 }

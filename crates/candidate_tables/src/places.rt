@@ -1,7 +1,7 @@
 ghost use Rattle.std.specs.Prelude.{◌≡◌, ◌<◌, length};
 ghost use Rattle.std.specs.List.{list_any};
 ghost use Rattle.table_rows.specs.Faults.{first_broken};
-ghost use Rattle.candidate_tables.specs.CandidateTable.{extra_rules, lines_rules, part_rules, place_rules};
+ghost use Rattle.candidate_tables.specs.CandidateTable.{extra_rules, lines_rules, needed_part_rules, place_rules};
 ghost use Rattle.candidate_tables.specs.Places.{has_repeat, lacks_height, lacks_plane, named};
 ghost use Rattle.candidate_tables.specs.Read.{AreWithin};
 
@@ -79,10 +79,10 @@ impl Ends {
     }
 
     // The first rule that is broken on the points that are named and on their parts.
-    #[tactic(auto, unfolding(table_rows::specs::Faults::first_broken, crate::specs::CandidateTable::part_rules))]
+    #[tactic(auto, unfolding(table_rows::specs::Faults::first_broken, crate::specs::CandidateTable::needed_part_rules))]
     fn broken_part(&self, points: &Points) -> Option<FaultKind>
         requires { AreWithin points.now self.now.from self.now.to self.now.to2 }
-        ensures { result ≡ first_broken (part_rules points.now self.now.kind (named self.now.from self.now.to self.now.to2)) }
+        ensures { result ≡ first_broken (needed_part_rules points.now self.now.kind (named self.now.from self.now.to self.now.to2)) }
     {
         if self.has_repeat() {
             return Some(FaultKind::SamePoint);

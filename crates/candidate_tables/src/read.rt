@@ -3,7 +3,7 @@ ghost use Rattle.point_tables.specs.declared.fault.TableName.TheVariants as tabl
 ghost use Rattle.point_tables.specs.Columns.{Answers};
 ghost use Rattle.table_columns.specs.Read.{Reads};
 ghost use Rattle.candidate_tables.specs.Accepted.{AreCandidates, IsCandidateRecord};
-ghost use Rattle.candidate_tables.specs.CandidateTable.{candidate_of, candidate_of-name, candidate_rules, candidates_fault, candidates_of, column_rules};
+ghost use Rattle.candidate_tables.specs.CandidateTable.{candidate_record_of, candidate_record_of-name, candidate_rules, candidates_fault, candidates_of, candidate_column_rules};
 ghost use Rattle.candidate_tables.specs.Read.{AreColumns};
 
 use crate::candidates::Candidates;
@@ -21,7 +21,7 @@ const MOST_RECORDS: u16 = 257;
 // The columns of a record after its name.
 fn read_columns(row: &TableRow, points: &Points) -> Result<(Ends, Figures), FaultKind>
     requires { length row.now ≡ 8 }
-    ensures { Reads (column_rules points.now row.now (candidate_of points.now row.now)) (AreColumns points.now row.now) result }
+    ensures { Reads (candidate_column_rules points.now row.now (candidate_record_of points.now row.now)) (AreColumns points.now row.now) result }
 {
     let ends = read_ends(row, points)?;
     if let Some(broken) = ends.broken_place(row, points) {
@@ -44,7 +44,7 @@ impl<'a> NamedTable for CandidateTable<'a> {
 
     ghost asks = { λ table. candidate_rules table.points.now };
 
-    ghost value_of = { λ table. candidate_of table.points.now };
+    ghost value_of = { λ table. candidate_record_of table.points.now };
 
     ghost IsRight = { λ table. IsCandidateRecord table.points.now };
 
@@ -76,7 +76,7 @@ impl<'a> NamedTable for CandidateTable<'a> {
         }
     }
 
-    ghost named = { λ table. candidate_of-name table.points.now };
+    ghost named = { λ table. candidate_record_of-name table.points.now };
 }
 
 /// Reads a candidates table against the points of an accepted points table: the candidates of its

@@ -7,7 +7,7 @@ use Rattle.std.proofs.lemmas.Nat.{mul-le}
 use Rattle.geo_base.specs.Division.{IsFloor, IsNearest}
 use Rattle.geo_base.proofs.Rounding.{mul_keeps_order, add-*ℤ, half_up_IsNearest, IsNearest-neg}
 use Rattle.std.proofs.Math.Nat.{add-mul, mul-add, mul_assoc}
-use Rattle.coefficient_round.specs.Coefficient.{radian, scale, square, square_length, nearest_size, direction_coefficient, weight_for}
+use Rattle.coefficient_round.specs.Coefficient.{radian, coefficient_scale, square, square_length, nearest_size, direction_coefficient, weight_for}
 
 -- a number less than z is at least one step of d below it
 step_below : (d q z : ℤ) → pos 0 <ℤ d → q <ℤ z → (q *ℤ d +ℤ d) ≤ℤ (z *ℤ d)
@@ -39,13 +39,13 @@ part_room a d within long = elim (cases_lt a 10000) [
 ]
 
 -- the coefficient of a direction is at most a radian's
-pub direction-size : (part : ℤ) (d : ℕ) (q : ℤ) → square (unsigned_abs part) ≤ d → 10 ^ 8 ≤ d → IsNearest (pos (radian * scale) *ℤ part) (pos d) q → unsigned_abs q ≤ radian
+pub direction-size : (part : ℤ) (d : ℕ) (q : ℤ) → square (unsigned_abs part) ≤ d → 10 ^ 8 ≤ d → IsNearest (pos (radian * coefficient_scale) *ℤ part) (pos d) q → unsigned_abs q ≤ radian
 direction-size part d q within long near =
     let room : unsigned_abs part * 10000 ≤ d = part_room (unsigned_abs part) d within long in
     let some : pos 0 <ℤ pos d = omega (arith, ints) in
-    let below : (negsuc 636619 *ℤ pos d) ≤ℤ (pos (radian * scale) *ℤ part) = omega (arith, ints) in
-    let above : (pos (radian * scale) *ℤ part) ≤ℤ (pos 636620 *ℤ pos d) = omega (arith, ints) in
-    omega (arith, ints, nearest-at_least (pos (radian * scale) *ℤ part) (pos d) q (negsuc 636619) some near below, nearest-at_most (pos (radian * scale) *ℤ part) (pos d) q (pos 636620) some near above)
+    let below : (negsuc 636619 *ℤ pos d) ≤ℤ (pos (radian * coefficient_scale) *ℤ part) = omega (arith, ints) in
+    let above : (pos (radian * coefficient_scale) *ℤ part) ≤ℤ (pos 636620 *ℤ pos d) = omega (arith, ints) in
+    omega (arith, ints, nearest-at_least (pos (radian * coefficient_scale) *ℤ part) (pos d) q (negsuc 636619) some near below, nearest-at_most (pos (radian * coefficient_scale) *ℤ part) (pos d) q (pos 636620) some near above)
 
 pub record IsWeightSize (w : ℤ) : Type 0 where
   pub least : pos 1 ≤ℤ w
@@ -107,18 +107,18 @@ nearest_size-IsNearest n d most some large =
     (half_up-IsFloor n d (nearest_size n d most) (nearest_size-IsHalfUp n d most large)) (omega (arith, ints))
 
 -- of a part that is short over the square of its line, the greatest size is large enough
-direction_room : (a d : ℕ) → square a ≤ d → 10 ^ 8 ≤ d → 2 * (radian * scale * a) < (2 * radian + 1) * d
+direction_room : (a d : ℕ) → square a ≤ d → 10 ^ 8 ≤ d → 2 * (radian * coefficient_scale * a) < (2 * radian + 1) * d
 direction_room a d within long = omega (arith, part_room a d within long)
 
-pub direction_coefficient-IsNearest : (part dx dy : ℤ) → (part ≡ dx) ⊎ (part ≡ dy) → 10 ^ 8 ≤ square_length dx dy → IsNearest (pos (radian * scale) *ℤ part) (pos (square_length dx dy)) (direction_coefficient part dx dy)
+pub direction_coefficient-IsNearest : (part dx dy : ℤ) → (part ≡ dx) ⊎ (part ≡ dy) → 10 ^ 8 ≤ square_length dx dy → IsNearest (pos (radian * coefficient_scale) *ℤ part) (pos (square_length dx dy)) (direction_coefficient part dx dy)
 unfolding direction_coefficient
 direction_coefficient-IsNearest (pos a) dx dy of_line long =
     let room = direction_room a (square_length dx dy) (part-within (pos a) dx dy of_line) long in
-    nearest_size-IsNearest (radian * scale * a) (square_length dx dy) radian (omega arith) room
+    nearest_size-IsNearest (radian * coefficient_scale * a) (square_length dx dy) radian (omega arith) room
 direction_coefficient-IsNearest (negsuc a) dx dy of_line long =
     let room = direction_room (suc a) (square_length dx dy) (part-within (negsuc a) dx dy of_line) long in
-    IsNearest-neg (pos (radian * scale * suc a)) (pos (square_length dx dy)) (pos (nearest_size (radian * scale * suc a) (square_length dx dy) radian))
-    (nearest_size-IsNearest (radian * scale * suc a) (square_length dx dy) radian (omega arith) room)
+    IsNearest-neg (pos (radian * coefficient_scale * suc a)) (pos (square_length dx dy)) (pos (nearest_size (radian * coefficient_scale * suc a) (square_length dx dy) radian))
+    (nearest_size-IsNearest (radian * coefficient_scale * suc a) (square_length dx dy) radian (omega arith) room)
 
 pub direction_coefficient-size : (part dx dy : ℤ) → (part ≡ dx) ⊎ (part ≡ dy) → 10 ^ 8 ≤ square_length dx dy → unsigned_abs (direction_coefficient part dx dy) ≤ radian
 direction_coefficient-size part dx dy of_line long =

@@ -3,8 +3,8 @@
 use Rattle.std.specs.Prelude.{ℕ, zero, suc, ◌+◌, ◌-◌, ◌*◌, ◌^◌, ◌<◌, ◌≤◌, nat_le, Bool, ℤ, pos, negsuc, neg_ℤ, ◌≤ℤ◌, unsigned_abs, if◌then◌else◌}
 
 -- what a coefficient of 1 is multiplied by before it is rounded
-abbrev pub scale : ℕ
-scale = 10000
+abbrev pub coefficient_scale : ℕ
+coefficient_scale = 10000
 
 -- one radian in cc, rounded
 abbrev pub radian : ℕ
@@ -19,19 +19,19 @@ abbrev pub square_length : ℤ → ℤ → ℕ
 square_length dx dy = square (unsigned_abs dx) + square (unsigned_abs dy)
 
 -- (2 c - 1) ^ 2 * D is at most 4 * 10000 ^ 2 * part ^ 2: 10000 times the ratio of part to the length is c - 1/2 or more
-abbrev pub Reaches : ℕ → ℕ → ℕ → Type 0
-Reaches part length_squared c = square (2 * c - 1) * length_squared ≤ 4 * square scale * square part
+abbrev pub ReachesCoefficient : ℕ → ℕ → ℕ → Type 0
+ReachesCoefficient part length_squared c = square (2 * c - 1) * length_squared ≤ 4 * square coefficient_scale * square part
 
 -- c is 10000 times part over the length of the line, rounded to the nearest, with the sign of part
 pub record IsDistanceCoefficient (part : ℤ) (length_squared : ℕ) (c : ℤ) : Type 0 where
   pub not_negative : pos 0 ≤ℤ part → pos 0 ≤ℤ c
   pub not_positive : part ≤ℤ pos 0 → c ≤ℤ pos 0
-  pub reached : 0 < unsigned_abs c → Reaches (unsigned_abs part) length_squared (unsigned_abs c)
-  pub next_above : 4 * square scale * square (unsigned_abs part) < square (2 * unsigned_abs c + 1) * length_squared
+  pub reached : 0 < unsigned_abs c → ReachesCoefficient (unsigned_abs part) length_squared (unsigned_abs c)
+  pub next_above : 4 * square coefficient_scale * square (unsigned_abs part) < square (2 * unsigned_abs c + 1) * length_squared
 
--- the test of `Reaches`
+-- the test of `ReachesCoefficient`
 abbrev pub reaches : ℕ → ℕ → ℕ → Bool
-reaches part length_squared c = nat_le (square (2 * c - 1) * length_squared) (4 * square scale * square part)
+reaches part length_squared c = nat_le (square (2 * c - 1) * length_squared) (4 * square coefficient_scale * square part)
 
 -- the greatest number from 1 up to `most` that is reached, or 0
 unfoldable pub greatest_reached : ℕ → ℕ → ℕ → ℕ
@@ -45,7 +45,7 @@ with_sign_of (negsuc n) size = neg_ℤ (pos size)
 
 -- the coefficient of a distance for one part of its line: 10000 times the cosine or the sine of the bearing
 unfoldable pub distance_coefficient : ℤ → ℤ → ℤ → ℤ
-distance_coefficient part dx dy = with_sign_of part (greatest_reached (unsigned_abs part) (square_length dx dy) scale)
+distance_coefficient part dx dy = with_sign_of part (greatest_reached (unsigned_abs part) (square_length dx dy) coefficient_scale)
 
 -- the greatest number q from 1 up to `most` with (2 q - 1) * d at most 2 * n, or 0: where n / d is at most `most`, it is n / d
 -- rounded to the nearest, a half going up
@@ -55,7 +55,7 @@ nearest_size n d (suc most) = if nat_le ((2 * suc most - 1) * d) (2 * n) then su
 
 -- the coefficient of a direction for one part of its line: 10000 times the change of the bearing in cc by a mm, up to the sign
 unfoldable pub direction_coefficient : ℤ → ℤ → ℤ → ℤ
-direction_coefficient part dx dy = with_sign_of part (nearest_size (radian * scale * unsigned_abs part) (square_length dx dy) radian)
+direction_coefficient part dx dy = with_sign_of part (nearest_size (radian * coefficient_scale * unsigned_abs part) (square_length dx dy) radian)
 
 -- the weight of an observation with a standard deviation of u hundredths of a mm or cc: 10 ^ 8 over the square of u
 unfoldable pub weight_for : ℕ → ℤ

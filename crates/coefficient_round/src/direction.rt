@@ -1,4 +1,4 @@
-ghost use Rattle.coefficient_round.specs.Coefficient.{direction_coefficient, radian, scale, square_length};
+ghost use Rattle.coefficient_round.specs.Coefficient.{direction_coefficient, radian, coefficient_scale, square_length};
 ghost use Rattle.geo_base.specs.Division.{IsNearest};
 ghost use Rattle.std.specs.Prelude.{◌≡◌, ◌*◌, ◌^◌, ◌≤◌, ◌⊎◌, ◌*ℤ◌, pos, unsigned_abs};
 
@@ -17,7 +17,7 @@ pub fn dir_coef(part: i64, dx: i64, dy: i64) -> i64
     requires least { 10 ^ 8 ≤ square_length dx dy }
     requires most { square_length dx dy ≤ 10 ^ 16 }
     ensures value { result ≡ direction_coefficient part dx dy }
-    ensures nearest { IsNearest (pos (radian * scale) *ℤ part) (pos (square_length dx dy)) result }
+    ensures nearest { IsNearest (pos (radian * coefficient_scale) *ℤ part) (pos (square_length dx dy)) result }
     ensures size { unsigned_abs result ≤ radian }
 {
     let change = RADIAN * SCALE as i128 * i128::from(part);

@@ -1,4 +1,4 @@
-ghost use Rattle.coefficient_round.specs.Coefficient.{IsDistanceCoefficient, distance_coefficient, greatest_reached, scale, square, square_length};
+ghost use Rattle.coefficient_round.specs.Coefficient.{IsDistanceCoefficient, distance_coefficient, greatest_reached, coefficient_scale, square, square_length};
 ghost use Rattle.std.specs.Prelude.{◌≡◌, ◌+◌, ◌-◌, ◌*◌, ◌^◌, ◌<◌, ◌≤◌, ◌⊎◌, unsigned_abs};
 
 use crate::line::length_squared;
@@ -16,7 +16,7 @@ pub fn dist_coef(part: i64, dx: i64, dy: i64) -> i64
     requires most { square_length dx dy ≤ 10 ^ 16 }
     ensures value { result ≡ distance_coefficient part dx dy }
     ensures rounded { IsDistanceCoefficient part (square_length dx dy) result }
-    ensures size { unsigned_abs result ≤ scale }
+    ensures size { unsigned_abs result ≤ coefficient_scale }
 {
     let size = coefficient_size(u128::from(part.unsigned_abs()), length_squared(dx, dy));
     if part < 0 {
@@ -31,10 +31,10 @@ fn coefficient_size(part: u128, length_squared: u128) -> u64
     requires some { 0 < length_squared }
     requires most { length_squared ≤ 10 ^ 16 }
     requires within { square part ≤ length_squared }
-    ensures value { result ≡ greatest_reached part length_squared scale }
-    ensures reached { 0 < result → square (2 * result - 1) * length_squared ≤ 4 * square scale * square part }
-    ensures next_above { 4 * square scale * square part < square (2 * result + 1) * length_squared }
-    ensures size { result ≤ scale }
+    ensures value { result ≡ greatest_reached part length_squared coefficient_scale }
+    ensures reached { 0 < result → square (2 * result - 1) * length_squared ≤ 4 * square coefficient_scale * square part }
+    ensures next_above { 4 * square coefficient_scale * square part < square (2 * result + 1) * length_squared }
+    ensures size { result ≤ coefficient_scale }
 {
     let ratio_squared = 4 * SCALE * SCALE * (part * part) / length_squared;
     (root_floor(ratio_squared) + 1) / 2

@@ -19,7 +19,7 @@ use Rattle.whole_algebra.proofs.Order.{le_of_mul_le, le_trans, mul_le_mul, mul_n
 use Rattle.whole_algebra.proofs.Normal.{ring, x0, x1, x2, x3, ◌⊗◌}
 use Rattle.covariance_law.specs.Vectors.{Vector, Matrix, inner, applied, form}
 use Rattle.covariance_law.specs.Covariance.{IsNormalMatrix, IsInverse, squares, EnergyBearsLoad, VarianceIsWithin, EnergiesBoundCovariances}
-use Rattle.covariance_law.proofs.Sums.{sum_below-nonneg, inner_comm, inner-same, inner-scale}
+use Rattle.covariance_law.proofs.Sums.{vector_sum-nonneg, inner_comm, inner-same, inner-scale}
 use Rattle.covariance_law.proofs.Products.{combined, moved, undone, form-sum, inner-sum, propagated-form}
 use Rattle.covariance_law.proofs.Cauchy.{cauchy}
 
@@ -31,7 +31,7 @@ form-cauchy n m x y normal =
     (λ s t. subst (λ z. pos 0 ≤ℤ z) (form-sum n m x y s t normal.symmetric) (normal.nonnegative (λ i. s *ℤ x i +ℤ t *ℤ y i)))
 
 pub inner-nonneg : (n : ℕ) (x : Vector) → pos 0 ≤ℤ inner n x x
-inner-nonneg n x = sum_below-nonneg n (λ i. x i *ℤ x i) (λ i. square_nonneg (x i))
+inner-nonneg n x = vector_sum-nonneg n (λ i. x i *ℤ x i) (λ i. square_nonneg (x i))
 
 pub inner-cauchy : (n : ℕ) (x y : Vector) → (inner n x y *ℤ inner n x y) ≤ℤ (inner n x x *ℤ inner n y y)
 inner-cauchy n x y =

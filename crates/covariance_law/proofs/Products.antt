@@ -1,9 +1,9 @@
 -- Products of vectors and matrices: a matrix moved to the other side, an inverse undone, and forms of sums.
 use Rattle.std.proofs.Common.{◌≡◌, ◌==◌, if◌then◌else◌, ℕ, ◌<◌, [], ◌∷◌, refl, sym, ◌∙◌, ap, ap₂, ℤ, pos, ◌+ℤ◌, ◌*ℤ◌}
 use Rattle.whole_algebra.proofs.Normal.{ring, x0, x1, x2, x3, x4, lit, ◌⊕◌, ◌⊗◌}
-use Rattle.covariance_law.specs.Vectors.{Vector, Matrix, sum_below, inner, applied, form}
+use Rattle.covariance_law.specs.Vectors.{Vector, Matrix, vector_sum, inner, applied, form}
 use Rattle.covariance_law.specs.Covariance.{IsInverse, propagated}
-use Rattle.covariance_law.proofs.Sums.{sum_below-same, sum_below-scale, sum_below-swap, inner_comm, inner-same, inner-linear, inner-unit}
+use Rattle.covariance_law.proofs.Sums.{vector_sum-same, vector_sum-scale, vector_sum-swap, inner_comm, inner-same, inner-linear, inner-unit}
 
 -- the rows of g put together with the factors u: the vector g' u
 abbrev pub combined : ℕ → Matrix → Vector → Vector
@@ -12,12 +12,12 @@ combined p g u = λ i. inner p u (λ k. g k i)
 -- u' (g x) is (g' u)' x
 pub moved : (p n : ℕ) (g : Matrix) (u x : Vector) → inner p u (applied n g x) ≡ inner n (combined p g u) x
 moved p n g u x =
-    sum_below-same p (λ k. u k *ℤ inner n (g k) x) (λ k. sum_below n (λ i. u k *ℤ (g k i *ℤ x i)))
-    (λ k lt. sym (sum_below-scale n (u k) (λ i. g k i *ℤ x i)))
-    ∙ sum_below-swap p n (λ k i. u k *ℤ (g k i *ℤ x i))
-    ∙ sum_below-same n (λ i. sum_below p (λ k. u k *ℤ (g k i *ℤ x i))) (λ i. inner p u (λ k. g k i) *ℤ x i)
-    (λ i lt. sum_below-same p (λ k. u k *ℤ (g k i *ℤ x i)) (λ k. x i *ℤ (u k *ℤ g k i)) (λ k inside. ring (x0 ⊗ (x1 ⊗ x2)) (x2 ⊗ (x0 ⊗ x1)) (u k ∷ g k i ∷ x i ∷ []) refl)
-    ∙ sum_below-scale p (x i) (λ k. u k *ℤ g k i)
+    vector_sum-same p (λ k. u k *ℤ inner n (g k) x) (λ k. vector_sum n (λ i. u k *ℤ (g k i *ℤ x i)))
+    (λ k lt. sym (vector_sum-scale n (u k) (λ i. g k i *ℤ x i)))
+    ∙ vector_sum-swap p n (λ k i. u k *ℤ (g k i *ℤ x i))
+    ∙ vector_sum-same n (λ i. vector_sum p (λ k. u k *ℤ (g k i *ℤ x i))) (λ i. inner p u (λ k. g k i) *ℤ x i)
+    (λ i lt. vector_sum-same p (λ k. u k *ℤ (g k i *ℤ x i)) (λ k. x i *ℤ (u k *ℤ g k i)) (λ k inside. ring (x0 ⊗ (x1 ⊗ x2)) (x2 ⊗ (x0 ⊗ x1)) (u k ∷ g k i ∷ x i ∷ []) refl)
+    ∙ vector_sum-scale p (x i) (λ k. u k *ℤ g k i)
     ∙ ring (x0 ⊗ x1) (x1 ⊗ x0) (x i ∷ inner p u (λ k. g k i) ∷ []) refl)
 
 -- a symmetric matrix stands between two vectors either way round
@@ -26,7 +26,7 @@ between_comm n m x y symmetric =
     moved n n m x y
     ∙ inner_comm n (combined n m x) y
     ∙ inner-same n y (combined n m x) (applied n m x)
-    (λ i lt. inner_comm n x (λ k. m k i) ∙ sum_below-same n (λ k. m k i *ℤ x k) (λ k. m i k *ℤ x k) (λ k inside. ap (λ t. t *ℤ x k) (symmetric k i inside lt)))
+    (λ i lt. inner_comm n x (λ k. m k i) ∙ vector_sum-same n (λ k. m k i *ℤ x k) (λ k. m i k *ℤ x k) (λ k inside. ap (λ t. t *ℤ x k) (symmetric k i inside lt)))
 
 -- what is multiplied by an inverse and then by the matrix comes back, d times
 pub undone : (n : ℕ) (m c : Matrix) (d : ℤ) (y : Vector) → IsInverse n m c d → (i : ℕ) → i < n → applied n m (applied n c y) i ≡ d *ℤ y i

@@ -1,7 +1,7 @@
 -- Loads and covariances. A normal matrix m of n unknowns is given, and p linear forms of them, the rows of h. With unit
 -- variance 1 the covariance matrix of the unknowns is the inverse of m, and that of the forms follows from it.
 use Rattle.std.specs.Prelude.{◌≡◌, ◌↔◌, ◌==◌, if◌then◌else◌, ℕ, ◌<◌, ℤ, pos, ◌+ℤ◌, ◌-ℤ◌, ◌*ℤ◌, ◌≤ℤ◌, ◌<ℤ◌}
-use Rattle.covariance_law.specs.Vectors.{Vector, Matrix, sum_below, inner, applied, form}
+use Rattle.covariance_law.specs.Vectors.{Vector, Matrix, vector_sum, inner, applied, form}
 
 -- a matrix of n rows is symmetric, and its form is nowhere negative
 pub record IsNormalMatrix (n : ℕ) (m : Matrix) : Type 0 where
@@ -21,7 +21,7 @@ propagated n h c = λ j k. inner n (h j) (applied n c (h k))
 
 -- the sum of the squares of the forms
 abbrev pub squares : ℕ → ℕ → Matrix → Vector → ℤ
-squares p n h x = sum_below p (λ k. inner n (h k) x *ℤ inner n (h k) x)
+squares p n h x = vector_sum p (λ k. inner n (h k) x *ℤ inner n (h k) x)
 
 -- at every displacement alpha times the energy is at least beta times the sum of the squares of the forms
 abbrev pub EnergyBearsLoad : (n p : ℕ) (m h : Matrix) (alpha beta : ℤ) → Type 0

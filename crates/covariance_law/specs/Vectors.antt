@@ -9,13 +9,13 @@ abbrev pub Matrix : Type 0
 Matrix = ℕ → ℕ → ℤ
 
 -- the sum of f over the numbers below n
-abbrev pub sum_below : ℕ → (ℕ → ℤ) → ℤ
-sum_below zero f = pos 0
-sum_below (suc n) f = sum_below n f +ℤ f n
+abbrev pub vector_sum : ℕ → (ℕ → ℤ) → ℤ
+vector_sum zero f = pos 0
+vector_sum (suc n) f = vector_sum n f +ℤ f n
 
 -- the product x' y
 abbrev pub inner : ℕ → Vector → Vector → ℤ
-inner n x y = sum_below n (λ i. x i *ℤ y i)
+inner n x y = vector_sum n (λ i. x i *ℤ y i)
 
 -- the vector m x
 abbrev pub applied : ℕ → Matrix → Vector → Vector

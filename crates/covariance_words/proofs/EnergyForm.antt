@@ -8,7 +8,7 @@ use Rattle.whole_algebra.proofs.Order.{le_refl, add_nonneg}
 use Rattle.whole_algebra.proofs.Normal.{ring, x0, x1, x2, lit, ◌⊕◌, ◌⊗◌}
 use Rattle.covariance_law.specs.Vectors.{Vector, Matrix, inner, applied, form}
 use Rattle.covariance_law.specs.Covariance.{IsNormalMatrix}
-use Rattle.covariance_law.proofs.Sums.{sum_below-zero, sum_below-same, inner_comm, inner-same, inner-scale, inner-linear, inner-unit}
+use Rattle.covariance_law.proofs.Sums.{vector_sum-zero, vector_sum-same, inner_comm, inner-same, inner-scale, inner-linear, inner-unit}
 use Rattle.geo_model.specs.Row.{Displaced, Entries, RowOf, unit_at, form_at, row_energy}
 use Rattle.geo_model.specs.Candidate.{CandidateOf, IsCandidate, candidate_energy}
 use Rattle.geo_model.specs.Energy.{energy}
@@ -18,7 +18,7 @@ use Rattle.normal_matrix.proofs.PlanSteps.{normal_entry-symmetric}
 
 -- ---- sums of vectors and of matrices
 inner-zero : (n : ℕ) (x : Vector) → inner n x (λ i. pos 0) ≡ pos 0
-inner-zero n x = sum_below-same n (λ i. x i *ℤ pos 0) (λ i. pos 0) (λ i lt. mul_zero (x i)) ∙ sum_below-zero n
+inner-zero n x = vector_sum-same n (λ i. x i *ℤ pos 0) (λ i. pos 0) (λ i lt. mul_zero (x i)) ∙ vector_sum-zero n
 
 inner-plus : (n : ℕ) (x a b : Vector) → inner n x (λ i. a i +ℤ b i) ≡ inner n x a +ℤ inner n x b
 inner-plus n x a b =

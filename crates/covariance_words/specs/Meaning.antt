@@ -19,8 +19,8 @@ use Rattle.net_build.specs.Build.{axis_limit, height_limit, redundancy_limit, ne
 use Rattle.covariance_words.specs.Precision.{square_tenths, IsCovariance, HasAxisWithin, HasHeightWithin, HasRedundancy}
 
 -- an unknown of a network stands at this number
-abbrev pub StandsAt : NetworkOf → Unknown → ℕ → Type 0
-StandsAt network wanted k = slice_get network.unknowns k ≡ Some wanted
+abbrev pub UnknownStandsAt : NetworkOf → Unknown → ℕ → Type 0
+UnknownStandsAt network wanted k = slice_get network.unknowns k ≡ Some wanted
 
 -- c / d is the covariance matrix of a plan for the network of two accepted tables
 pub record IsCovarianceOf
@@ -47,8 +47,8 @@ AxisLimitsBoundEllipses =
     (points : List PointRecord) (candidates : List CandidateRecord) (q : ℕ) (plan : List Bool) (c : Matrix) (d : ℤ)
     (place s x y : ℕ) →
     IsCovarianceOf points candidates q plan c d → 1 ≤ s →
-    StandsAt (network_of points candidates q) (unknown place component.X) x →
-    StandsAt (network_of points candidates q) (unknown place component.Y) y →
+    UnknownStandsAt (network_of points candidates q) (unknown place component.X) x →
+    UnknownStandsAt (network_of points candidates q) (unknown place component.Y) y →
     MeetsLimit (network_of points candidates q) plan (axis_limit (network_of points candidates q).unknowns place s)
     ↔ HasAxisWithin c d x y s
 
@@ -58,7 +58,7 @@ HeightLimitsBoundVariances =
     (points : List PointRecord) (candidates : List CandidateRecord) (q : ℕ) (plan : List Bool) (c : Matrix) (d : ℤ)
     (place s z : ℕ) →
     IsCovarianceOf points candidates q plan c d → 1 ≤ s →
-    StandsAt (network_of points candidates q) (unknown place component.Z) z →
+    UnknownStandsAt (network_of points candidates q) (unknown place component.Z) z →
     MeetsLimit (network_of points candidates q) plan (height_limit (network_of points candidates q).unknowns place s)
     ↔ HasHeightWithin c d z s
 
@@ -78,10 +78,10 @@ RedundancyLimitsBoundRedundancies =
 -- a displacement leaves a point where it is, where a plan meets the point's axis or height limit of s
 pub record StaysPut (network : NetworkOf) (plan : List Bool) (x : Displaced) (place s : ℕ) : Type 0 where
   pub plane : MeetsLimit network plan (axis_limit network.unknowns place s) → (i j : ℕ) →
-      StandsAt network (unknown place component.X) i → StandsAt network (unknown place component.Y) j →
+      UnknownStandsAt network (unknown place component.X) i → UnknownStandsAt network (unknown place component.Y) j →
       (x i ≡ pos 0) × (x j ≡ pos 0)
   pub height : MeetsLimit network plan (height_limit network.unknowns place s) → (k : ℕ) →
-      StandsAt network (unknown place component.Z) k → x k ≡ pos 0
+      UnknownStandsAt network (unknown place component.Z) k → x k ≡ pos 0
 
 -- a displacement that costs no energy leaves each point where it is whose limit is met
 abbrev pub FreeMovementsLeaveLimitedPoints : Type 0
@@ -100,11 +100,11 @@ pub record IsPrecise
   where
     pub ellipses : (place s x y : ℕ) (point : PointRecord) →
         slice_get points place ≡ Some point → point.plane ≡ part.New s →
-        StandsAt network (unknown place component.X) x → StandsAt network (unknown place component.Y) y →
+        UnknownStandsAt network (unknown place component.X) x → UnknownStandsAt network (unknown place component.Y) y →
         HasAxisWithin c d x y s
     pub heights : (place s z : ℕ) (point : PointRecord) →
         slice_get points place ≡ Some point → point.height ≡ part.New s →
-        StandsAt network (unknown place component.Z) z → HasHeightWithin c d z s
+        UnknownStandsAt network (unknown place component.Z) z → HasHeightWithin c d z s
     pub redundancies : (owner k : ℕ) (candidate : CandidateOf) (row : RowOf) →
         q ≢ 0 → slice_get plan owner ≡ Some true →
         slice_get network.candidates owner ≡ Some candidate → slice_get candidate.rows k ≡ Some row →
@@ -123,11 +123,11 @@ LimitsMeanPrecision =
 pub record HoldsNewPoints (points : List PointRecord) (network : NetworkOf) (plan : List Bool) : Type 0 where
   pub planes : (x : Displaced) (place s i j : ℕ) (point : PointRecord) → energy network.candidates plan x ≡ pos 0 →
       slice_get points place ≡ Some point → point.plane ≡ part.New s →
-      StandsAt network (unknown place component.X) i → StandsAt network (unknown place component.Y) j →
+      UnknownStandsAt network (unknown place component.X) i → UnknownStandsAt network (unknown place component.Y) j →
       (x i ≡ pos 0) × (x j ≡ pos 0)
   pub heights : (x : Displaced) (place s k : ℕ) (point : PointRecord) → energy network.candidates plan x ≡ pos 0 →
       slice_get points place ≡ Some point → point.height ≡ part.New s →
-      StandsAt network (unknown place component.Z) k → x k ≡ pos 0
+      UnknownStandsAt network (unknown place component.Z) k → x k ≡ pos 0
 
 -- it holds the new points, and it is precise with its covariance matrix, where it has one
 pub record HoldsAndIsPrecise (points : List PointRecord) (network : NetworkOf) (q : ℕ) (plan : List Bool) : Type 0 where

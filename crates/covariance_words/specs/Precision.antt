@@ -5,7 +5,7 @@
 use Rattle.std.specs.Prelude.{ℕ, ◌*◌, ◌/◌, ◌^◌, ℤ, pos, ◌+ℤ◌, ◌-ℤ◌, ◌*ℤ◌, ◌≤ℤ◌, List, Bool, length}
 use Rattle.covariance_law.specs.Vectors.{Matrix, inner, applied}
 use Rattle.covariance_law.specs.Covariance.{IsInverse}
-use Rattle.coefficient_round.specs.Coefficient.{scale, square}
+use Rattle.coefficient_round.specs.Coefficient.{coefficient_scale, square}
 use Rattle.geo_model.specs.Row.{RowOf}
 use Rattle.geo_model.specs.Network.{NetworkOf}
 use Rattle.normal_matrix.specs.Entries.{coefficient, normal_entry}
@@ -19,7 +19,7 @@ IsCovariance network plan c d = IsInverse (length network.unknowns) (normal_entr
 -- in square mm. Hence the normal matrix is 10 ^ 12 times that of mm, and 10 ^ 12 times its inverse is in square mm, of
 -- 100 square tenths.
 abbrev pub square_tenths : ℤ
-square_tenths = pos (square scale * (10 ^ 8 / square 100) * square 10)
+square_tenths = pos (square coefficient_scale * (10 ^ 8 / square 100) * square 10)
 
 -- ---- the position of a point, by the numbers x and y of its two coordinates
 

@@ -18,7 +18,7 @@ use Rattle.geo_model.specs.Meeting.{MeetsLimit}
 use Rattle.geo_model.specs.Cover.{chosen_sum, Satisfies}
 use Rattle.geo_model.proofs.EnergyLemmas.{candidate_energy-nonneg}
 use Rattle.geo_model.proofs.SumSteps.{load_take-nonneg}
-use Rattle.cut_pool.specs.Cut.{shift_of, load_number, energy_number, rounded_up, divisor_of, bound_of, coefficient_of, cover_of}
+use Rattle.cut_pool.specs.Cut.{cut_shift, load_number, energy_number, rounded_up, divisor_of, bound_of, coefficient_of, cover_of}
 
 -- ---- the parts of the chosen candidates are the factor times the energy
 nonneg_is : (z : ℤ) → pos 0 ≤ℤ z → pos (unsigned_abs z) ≡ z
@@ -83,7 +83,7 @@ meeting_plan-satisfies network limit plan x kept bounds meets =
     let over : load_number limit x ≤ numbers = reached (load limit.squares x) (limit.alpha *ℤ energy network.candidates plan x) numbers (load-nonneg limit.squares x bounds.bounded.beta_low) (meets x) energies in
     let d = divisor_of limit x in
     let coefficients = chosen_sum (map (coefficient_of limit x) network.candidates) plan in
-    elim (chosen_coefficients (bound_of limit x) d (energy_number limit x) network.candidates plan (pow_pos (shift_of (load_number limit x)))) [
+    elim (chosen_coefficients (bound_of limit x) d (energy_number limit x) network.candidates plan (pow_pos (cut_shift (load_number limit x)))) [
       | inl enough ↦ enough
       | inr more ↦
           let flipped = mul_comm coefficients d in

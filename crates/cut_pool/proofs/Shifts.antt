@@ -3,7 +3,7 @@ use Rattle.std.proofs.Common.{◌≡◌, ℕ, zero, suc, ◌+◌, ◌/◌, ◌^�
 use Rattle.std.specs.Prelude.{nat_lt}
 use Rattle.std.proofs.Math.Pow.{shr_lt}
 use Rattle.std.proofs.lemmas.Bool.{cases_lt, false≢true, ltb-true, lt-ltb}
-use Rattle.cut_pool.specs.Cut.{IsShift, first_shift, shift_of}
+use Rattle.cut_pool.specs.Cut.{IsShift, first_shift, cut_shift}
 
 -- there is one least number alone
 pub shift-unique : (n s t : ℕ) → IsShift n s → IsShift n t → s ≡ t
@@ -42,6 +42,6 @@ first_shift-least (suc many) from n below small =
         elim (cases_lt (n / 2 ^ from) (2 ^ 24)) [ inl less ↦ absurd (false≢true (there less)) | inr le ↦ later le ]
 
 -- the shift of a cut is the least one
-pub shift_of-least : (n : ℕ) → n < 2 ^ 120 → IsShift n (shift_of n)
-unfolding shift_of
-shift_of-least n small = first_shift-least 128 0 n (λ s lt. absurd (omega arith)) (omega arith)
+pub cut_shift-least : (n : ℕ) → n < 2 ^ 120 → IsShift n (cut_shift n)
+unfolding cut_shift
+cut_shift-least n small = first_shift-least 128 0 n (λ s lt. absurd (omega arith)) (omega arith)

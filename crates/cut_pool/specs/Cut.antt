@@ -20,8 +20,8 @@ first_shift zero from n = from
 first_shift (suc many) from n = if nat_lt (n / 2 ^ from) (2 ^ 24) then from else first_shift many (suc from) n
 
 -- the least such number of all, for n below 2 ^ 120
-unfoldable pub shift_of : ℕ → ℕ
-shift_of n = first_shift 128 0 n
+unfoldable pub cut_shift : ℕ → ℕ
+cut_shift n = first_shift 128 0 n
 
 -- what the load of a limit is at a displacement: it is never negative
 abbrev pub load_number : LimitOf → Displaced → ℕ
@@ -37,7 +37,7 @@ rounded_up n d = (n + (d - 1)) / d
 
 -- the divisor of the cut of a limit and a displacement
 abbrev pub divisor_of : LimitOf → Displaced → ℕ
-divisor_of limit x = 2 ^ shift_of (load_number limit x)
+divisor_of limit x = 2 ^ cut_shift (load_number limit x)
 
 -- the bound of the cut: the load over the divisor, rounded down
 abbrev pub bound_of : LimitOf → Displaced → ℕ

@@ -2,7 +2,7 @@ ghost use Rattle.std.specs.Prelude.{◌≡◌, ◌+◌, ◌-◌, ◌/◌, ◌*�
 ghost use Rattle.whole_algebra.specs.Matrices.{at};
 ghost use Rattle.geo_model.specs.Candidate.{IsCandidate, candidate_energy};
 ghost use Rattle.geo_model.specs.Limit.{LimitOf};
-ghost use Rattle.cut_pool.specs.Cut.{shift_of, rounded_up, cover_of, IsCutOf};
+ghost use Rattle.cut_pool.specs.Cut.{cut_shift, rounded_up, cover_of, IsCutOf};
 
 use geo_base::NoMemory;
 use geo_model::{Candidate, Displacement, Network, candidate_energy, load};
@@ -70,7 +70,7 @@ pub fn cut_into(network: &Network, limit: u32, x: &Displacement, coefficients: &
     let limits = network.limits();
     let form = &limits[limit as usize];
     let number = load(network, limit, x).unsigned_abs();
-    let shift = shift_of(number);
+    let shift = cut_shift(number);
     let bound = (number >> shift) as u32;
     let candidates = network.candidates();
     for (i, candidate) in candidates.iter().enumerate() {
@@ -80,9 +80,9 @@ pub fn cut_into(network: &Network, limit: u32, x: &Displacement, coefficients: &
 }
 
 // The least number with `n / 2^t`, rounded down, below 2^24.
-fn shift_of(n: u128) -> u32
+fn cut_shift(n: u128) -> u32
     requires { n < 2 ^ 120 }
-    ensures value { result ≡ shift_of n }
+    ensures value { result ≡ cut_shift n }
     ensures reached { n / 2 ^ result < 2 ^ 24 }
     ensures size { result ≤ 96 }
 {

@@ -4,7 +4,7 @@ use Rattle.std.specs.Prelude.{◌-ℤ◌, neg_ℤ, is_some, unsigned_abs, unwrap
 use Rattle.std.specs.List.{AllByRecursion, IsDistinct}
 use Rattle.std.proofs.lemmas.Bool.Decides.{nat_tests}
 use Rattle.std.proofs.lemmas.Int.{ints}
-use Rattle.coefficient_round.specs.Coefficient.{radian, scale}
+use Rattle.coefficient_round.specs.Coefficient.{radian, coefficient_scale}
 use Rattle.coefficient_round.proofs.Bounds.{direction_coefficient-size}
 use Rattle.coefficient_round.proofs.Ratio.{distance_coefficient-size}
 use Rattle.geo_model.specs.declared.network.Component.{Component}
@@ -13,7 +13,7 @@ use Rattle.point_tables.specs.declared.record.PointRecord.{PointRecord}
 use Rattle.candidate_tables.specs.declared.kind.Kind.{Kind}
 use Rattle.candidate_tables.specs.declared.kind.Kind.TheVariants as kind
 use Rattle.candidate_tables.specs.declared.record.CandidateRecord.{CandidateRecord}
-use Rattle.candidate_tables.specs.Accepted.{IsBetween, IsCandidateRecord, IsForesightOf, IsLine, IsWithin}
+use Rattle.candidate_tables.specs.Accepted.{IsBetween, IsCandidateRecord, IsForesightOf, IsLineInBounds, IsSquareWithin}
 use Rattle.candidate_tables.specs.Kinds.{line_from, rules_of}
 use Rattle.candidate_tables.specs.Lines.{length_squared}
 use Rattle.candidate_tables.proofs.PlaceFacts.{squared-is}
@@ -29,10 +29,10 @@ pub record IsEquation (equation : Equation) : Type 0 where
 
 -- ---- sizes
 
-pub cosine-size : (points : List PointRecord) (a b : ℕ) → unsigned_abs (cosine points a b) ≤ scale
+pub cosine-size : (points : List PointRecord) (a b : ℕ) → unsigned_abs (cosine points a b) ≤ coefficient_scale
 cosine-size points a b = distance_coefficient-size (x_part points a b) (x_part points a b) (y_part points a b)
 
-pub sine-size : (points : List PointRecord) (a b : ℕ) → unsigned_abs (sine points a b) ≤ scale
+pub sine-size : (points : List PointRecord) (a b : ℕ) → unsigned_abs (sine points a b) ≤ coefficient_scale
 sine-size points a b = distance_coefficient-size (y_part points a b) (x_part points a b) (y_part points a b)
 
 pub q_coefficient-size : (points : List PointRecord) (a b : ℕ) → 10 ^ 8 ≤ length_squared points a b → unsigned_abs (q_coefficient points a b) ≤ radian
@@ -69,8 +69,8 @@ distance-terms points a b differ =
     let ab = other a b differ in
     let c = cosine-size points a b in
     let s = sine-size points a b in
-    let d = negated (cosine points a b) scale c in
-    let t = negated (sine points a b) scale s in
+    let d = negated (cosine points a b) coefficient_scale c in
+    let t = negated (sine points a b) coefficient_scale s in
     record {
       apart = ((refl, (ab, (refl, tt))), ((refl, (ab, tt)), ((refl, tt), (tt, tt))));
       short = omega arith;
@@ -168,26 +168,26 @@ unfolding rules_of
 angle-line k e = ap (λ (j : Kind). (rules_of j).line) e
 
 -- a line of a kind with bounds is within them
-line-within : (points : List PointRecord) (k : Kind) (from to least : ℕ) → (rules_of k).line ≡ line_from least → IsLine points k from to
-    → IsWithin (length_squared points from to) (record { least = least; greatest = 10 ^ 16 })
+line-within : (points : List PointRecord) (k : Kind) (from to least : ℕ) → (rules_of k).line ≡ line_from least → IsLineInBounds points k from to
+    → IsSquareWithin (length_squared points from to) (record { least = least; greatest = 10 ^ 16 })
 line-within points k from to least e line = line (record { least = least; greatest = 10 ^ 16 }) e
 
 -- the line to the target of an accepted candidate
 pub distance-within : (points : List PointRecord) (candidate : CandidateRecord) → IsCandidateRecord points candidate → candidate.kind ≡ kind.Distance
-    → IsWithin (length_squared points candidate.from candidate.to) (record { least = 10 ^ 6; greatest = 10 ^ 16 })
+    → IsSquareWithin (length_squared points candidate.from candidate.to) (record { least = 10 ^ 6; greatest = 10 ^ 16 })
 distance-within points candidate is e = line-within points candidate.kind candidate.from candidate.to (10 ^ 6) (distance-line candidate.kind e) is.line
 
 pub direction-within : (points : List PointRecord) (candidate : CandidateRecord) → IsCandidateRecord points candidate → candidate.kind ≡ kind.Direction
-    → IsWithin (length_squared points candidate.from candidate.to) (record { least = 10 ^ 8; greatest = 10 ^ 16 })
+    → IsSquareWithin (length_squared points candidate.from candidate.to) (record { least = 10 ^ 8; greatest = 10 ^ 16 })
 direction-within points candidate is e = line-within points candidate.kind candidate.from candidate.to (10 ^ 8) (direction-line candidate.kind e) is.line
 
 pub angle-within : (points : List PointRecord) (candidate : CandidateRecord) → IsCandidateRecord points candidate → candidate.kind ≡ kind.Angle
-    → IsWithin (length_squared points candidate.from candidate.to) (record { least = 10 ^ 8; greatest = 10 ^ 16 })
+    → IsSquareWithin (length_squared points candidate.from candidate.to) (record { least = 10 ^ 8; greatest = 10 ^ 16 })
 angle-within points candidate is e = line-within points candidate.kind candidate.from candidate.to (10 ^ 8) (angle-line candidate.kind e) is.line
 
 -- and the line to an angle's foresight
 pub foresight-within : (points : List PointRecord) (candidate : CandidateRecord) → IsCandidateRecord points candidate → candidate.kind ≡ kind.Angle
-    → IsWithin (length_squared points candidate.from (unwrap_or candidate.to2 0)) (record { least = 10 ^ 8; greatest = 10 ^ 16 })
+    → IsSquareWithin (length_squared points candidate.from (unwrap_or candidate.to2 0)) (record { least = 10 ^ 8; greatest = 10 ^ 16 })
 foresight-within points candidate is e =
     line-within points candidate.kind candidate.from (unwrap_or candidate.to2 0) (10 ^ 8) (angle-line candidate.kind e) (foresight points candidate is e).line
 

@@ -9,7 +9,7 @@ use Rattle.geo_model.specs.declared.network.Unknown.{Unknown}
 use Rattle.point_tables.specs.declared.record.PointRecord.{PointRecord}
 use Rattle.candidate_tables.specs.declared.record.CandidateRecord.{CandidateRecord}
 use Rattle.design_rows.specs.Bounds.{AreUnknowns}
-use Rattle.design_rows.specs.Unknowns.{coordinates, is_new, is_same, is_same_component, is_station, orientation, unknown, unknowns_of}
+use Rattle.design_rows.specs.Unknowns.{coordinates, is_new, is_same, is_same_component, is_oriented, orientation, unknown, unknowns_of}
 
 -- ---- lists
 
@@ -151,7 +151,7 @@ unfolding by_station
 station-few true k = omega arith
 station-few false k = omega arith
 
-orientation-is : (candidates : List CandidateRecord) (k : ℕ) (point : PointRecord) → orientation candidates (k, point) ≡ by_station (is_station candidates k) k
+orientation-is : (candidates : List CandidateRecord) (k : ℕ) (point : PointRecord) → orientation candidates (k, point) ≡ by_station (is_oriented candidates k) k
 unfolding by_station
 orientation-is candidates k point = refl
 
@@ -173,12 +173,12 @@ unknowns-differ points candidates =
     let places = flat_map coordinates (enumerate_from 0 points) in
     let turns = flat_map (orientation candidates) (enumerate_from 0 points) in
     let steady = every-numbered coordinates (λ u. is_turn u.component ≡ false) (λ k point. rw (coordinates-are k point) (parts-steady (is_new point.plane) (is_new point.height) k)) 0 points in
-    let turning = every-numbered (orientation candidates) (λ u. is_turn u.component ≡ true) (λ k point. rw (orientation-is candidates k point) (station-turns (is_station candidates k) k)) 0 points in
+    let turning = every-numbered (orientation candidates) (λ u. is_turn u.component ≡ true) (λ k point. rw (orientation-is candidates k point) (station-turns (is_oriented candidates k) k)) 0 points in
     distinct-append places turns
     (numbered-apart coordinates (λ k point. rw (coordinates-are k point) (parts-at (is_new point.plane) (is_new point.height) k))
     (λ k point. rw (coordinates-are k point) (parts-apart (is_new point.plane) (is_new point.height) k)) 0 points)
-    (numbered-apart (orientation candidates) (λ k point. rw (orientation-is candidates k point) (station-at (is_station candidates k) k))
-    (λ k point. rw (orientation-is candidates k point) (station-apart (is_station candidates k) k)) 0 points)
+    (numbered-apart (orientation candidates) (λ k point. rw (orientation-is candidates k point) (station-at (is_oriented candidates k) k))
+    (λ k point. rw (orientation-is candidates k point) (station-apart (is_oriented candidates k) k)) 0 points)
     (every-weaker (λ (u : Unknown). is_turn u.component ≡ false) (λ (u : Unknown). AllByRecursion (λ v. is_same u v ≡ false) turns)
     (λ u e. every-weaker (λ (v : Unknown). is_turn v.component ≡ true) (λ (v : Unknown). is_same u v ≡ false)
     (λ v f. and-left (is_same_component u.component v.component) (eqb u.point v.point) (turn-differs u.component v.component e f)) turns turning)
@@ -190,7 +190,7 @@ unknowns-few points candidates =
     let places = flat_map coordinates (enumerate_from 0 points) in
     let turns = flat_map (orientation candidates) (enumerate_from 0 points) in
     let first = numbered-few coordinates 3 (λ k point. rw (coordinates-are k point) (parts-few (is_new point.plane) (is_new point.height) k)) 0 points in
-    let second = numbered-few (orientation candidates) 1 (λ k point. rw (orientation-is candidates k point) (station-few (is_station candidates k) k)) 0 points in
+    let second = numbered-few (orientation candidates) 1 (λ k point. rw (orientation-is candidates k point) (station-few (is_oriented candidates k) k)) 0 points in
     omega (arith, first, second, length-append places turns)
 
 -- what the numbering keeps

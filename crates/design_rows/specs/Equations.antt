@@ -2,7 +2,7 @@
 -- plane networks (distance, direction with the station's orientation, angle), of levelling and of baseline vectors; the
 -- units and the rounding of coefficients and weights are this project's own.
 use Rattle.std.specs.Prelude.{ℕ, ℤ, pos, neg_ℤ, ◌-ℤ◌, List, [], ◌∷◌, unwrap_or}
-use Rattle.coefficient_round.specs.Coefficient.{direction_coefficient, distance_coefficient, scale}
+use Rattle.coefficient_round.specs.Coefficient.{direction_coefficient, distance_coefficient, coefficient_scale}
 use Rattle.geo_model.specs.declared.network.Component.{Component}
 use Rattle.geo_model.specs.declared.network.Component.TheVariants as component
 use Rattle.point_tables.specs.declared.record.PointRecord.{PointRecord}
@@ -60,7 +60,7 @@ direction_terms points a b =
     ∷ term (neg_ℤ (q_coefficient points a b)) component.Y a
     ∷ term (neg_ℤ (p_coefficient points a b)) component.X b
     ∷ term (q_coefficient points a b) component.Y b
-    ∷ term (neg_ℤ (pos scale)) component.Turn a
+    ∷ term (neg_ℤ (pos coefficient_scale)) component.Turn a
     ∷ []
 
 -- an angle at A from B to C: (P_C - P_B) xA + (Q_B - Q_C) yA + P_B xB - Q_B yB - P_C xC + Q_C yC
@@ -76,7 +76,7 @@ angle_terms points a b c =
 
 -- the difference of two points in one component: 10000 of B - 10000 of A
 abbrev pub difference_terms : Component → ℕ → ℕ → List Term
-difference_terms part a b = term (neg_ℤ (pos scale)) part a ∷ term (pos scale) part b ∷ []
+difference_terms part a b = term (neg_ℤ (pos coefficient_scale)) part a ∷ term (pos coefficient_scale) part b ∷ []
 
 -- an equation of these terms, observed with this standard deviation
 abbrev pub observed : List Term → ℕ → Equation

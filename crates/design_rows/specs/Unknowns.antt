@@ -37,12 +37,12 @@ abbrev pub turns_with : ℕ → CandidateRecord → Bool
 turns_with place candidate = (rules_of candidate.kind).has_orientation && candidate.from == place
 
 -- whether the point of this number has an orientation
-abbrev pub is_station : List CandidateRecord → ℕ → Bool
-is_station candidates place = list_any (turns_with place) candidates
+abbrev pub is_oriented : List CandidateRecord → ℕ → Bool
+is_oriented candidates place = list_any (turns_with place) candidates
 
 -- the unknown orientation of a point with its number, if it has one
 abbrev pub orientation : List CandidateRecord → ℕ × PointRecord → List Unknown
-orientation candidates (place, point) = if is_station candidates place then unknown place component.Turn ∷ [] else []
+orientation candidates (place, point) = if is_oriented candidates place then unknown place component.Turn ∷ [] else []
 
 -- the unknowns, each at its number: the coordinates point by point in the order of the points table, and then, in the same
 -- order, the orientations

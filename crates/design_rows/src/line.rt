@@ -1,7 +1,7 @@
 //! The line between two points, and the coefficients that its parts give.
 ghost use Rattle.std.specs.Prelude.{◌≡◌, ◌<◌, ◌≤◌, ◌^◌, length, unsigned_abs};
 ghost use Rattle.candidate_tables.specs.Lines.{length_squared};
-ghost use Rattle.coefficient_round.specs.Coefficient.{radian, scale};
+ghost use Rattle.coefficient_round.specs.Coefficient.{radian, coefficient_scale};
 ghost use Rattle.design_rows.specs.Equations.{cosine, p_coefficient, q_coefficient, sine, x_part, y_part};
 
 use coefficient_round::{dir_coef, dist_coef};
@@ -37,8 +37,8 @@ pub(crate) fn distance_parts(points: &Points, from: u32, to: u32) -> LineParts
     requires most { length_squared points.now from to ≤ 10 ^ 16 }
     ensures x { result.x ≡ cosine points.now from to }
     ensures y { result.y ≡ sine points.now from to }
-    ensures x_size { unsigned_abs result.x ≤ scale }
-    ensures y_size { unsigned_abs result.y ≤ scale }
+    ensures x_size { unsigned_abs result.x ≤ coefficient_scale }
+    ensures y_size { unsigned_abs result.y ≤ coefficient_scale }
 {
     let line = line_between(points, from, to);
     LineParts {

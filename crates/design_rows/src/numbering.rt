@@ -2,7 +2,7 @@
 ghost use Rattle.std.specs.Prelude.{◌≡◌, ◌≤◌, ◌++◌, length, IfOk, OnOk};
 ghost use Rattle.std.specs.List.{enumerate_from, flat_map};
 ghost use Rattle.point_tables.specs.declared.record.PointRecord.{PointRecord};
-ghost use Rattle.design_rows.specs.Unknowns.{coordinates, height_coordinates, is_station, orientation, plane_coordinates, turns_with};
+ghost use Rattle.design_rows.specs.Unknowns.{coordinates, height_coordinates, is_oriented, orientation, plane_coordinates, turns_with};
 
 use candidate_tables::{CandidateRecord, Candidates};
 use geo_base::NoMemory;
@@ -73,8 +73,8 @@ fn turns_with(place: u32, candidate: &CandidateRecord) -> bool
 }
 
 // Whether a point has an orientation.
-fn is_station(candidates: &Candidates, place: u32) -> bool
-    ensures { result ≡ is_station candidates.now place }
+fn is_oriented(candidates: &Candidates, place: u32) -> bool
+    ensures { result ≡ is_oriented candidates.now place }
 {
     for k in 0..candidates.len() {
         if turns_with(place, candidates.get(k)) {
@@ -92,7 +92,7 @@ fn push_orientation(
 ) -> Result<(), NoMemory>
     ensures { OnOk result ((point : PointRecord) → unknowns.new.items ≡ unknowns.old.items ++ orientation candidates.now (place, point)) }
 {
-    if is_station(candidates, place) {
+    if is_oriented(candidates, place) {
         unknowns.push(Unknown {
             point: place,
             component: Component::Turn,

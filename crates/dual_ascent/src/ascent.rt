@@ -1,10 +1,10 @@
 ghost use Rattle.std.specs.Prelude.{◌≡◌, ◌<◌, ◌≤◌, ◌^◌, ℕ, Ok, None, All, length, IfOk, IfSome};
-ghost use Rattle.dual_ascent.specs.Duals.{IsNamedAt, IsDualAt};
+ghost use Rattle.dual_ascent.specs.Duals.{IsNamedAt, IsDualWithin};
 
 use crate::dual::Dual;
 use crate::multipliers::{divisor_of, share_shift, shares_of};
 use crate::naming::first_named;
-use crate::relaxation::{Kind, Relaxation, price_shift};
+use crate::relaxation::{Relaxation, RelaxationEnd, price_shift};
 use cut_pool::{CutPool, Share};
 use geo_base::NoMemory;
 use geo_model::{Network, Node};
@@ -15,13 +15,13 @@ use std::alloc::Global;
 const DIVISOR_BITS: u32 = 44;
 
 // The bits of the divisor of multipliers that end as this.
-fn divisor_bits(kind: Option<Kind>, price_shift: u32, share_shift: u32) -> u32 {
+fn divisor_bits(kind: Option<RelaxationEnd>, price_shift: u32, share_shift: u32) -> u32 {
     match kind {
-        Some(Kind::Bound) => DIVISOR_BITS
+        Some(RelaxationEnd::Bound) => DIVISOR_BITS
             .saturating_sub(price_shift)
             .saturating_sub(share_shift),
         // The larger the multipliers of a ray are beside the prices, the higher is the bound.
-        Some(Kind::Ray) => 0,
+        Some(RelaxationEnd::Ray) => 0,
         None => DIVISOR_BITS,
     }
 }
@@ -38,7 +38,7 @@ pub fn ascend(
     requires inside { length node.now.inside ≡ length network.now.candidates }
     requires upper { length node.now.upper ≡ length network.now.candidates }
     requires limits { All (λ cut. cut.limit < length network.now.limits) pool.now }
-    ensures dual { IfOk result (λ found. IfSome found (IsDualAt network.now node.now pool.now)) }
+    ensures dual { IfOk result (λ found. IfSome found (IsDualWithin network.now node.now pool.now)) }
     ensures none { result ≡ Ok None → (k : ℕ) → IsNamedAt network.now node.now pool.now k → ⊥ }
 {
     let Some(first) = first_named(network, node, pool) else {

@@ -1,6 +1,6 @@
 //! From multipliers in fixed point to whole shares over a divisor.
 ghost use Rattle.std.specs.Prelude.{◌≡◌, ◌<◌, ◌≤◌, ◌^◌, All, length, IfSome, IfOk};
-ghost use Rattle.dual_ascent.specs.Duals.{IsShareAt};
+ghost use Rattle.dual_ascent.specs.Duals.{IsShareWithin};
 
 use crate::naming::is_named;
 use cut_pool::{CutPool, Share};
@@ -17,7 +17,7 @@ const MOST_BITS: u32 = 44;
 const MOST_SHARES: usize = 64;
 
 /// A multiplier of a cut in fixed point, for the cut's coefficients over its bound.
-pub use dual_simplex::Share as Multiplier;
+pub use dual_simplex::CutMultiplier as Multiplier;
 
 // The multiplier of a cut for its own coefficients, times 2^12: rounded down.
 fn quotient_of(pool: &CutPool, multiplier: Multiplier) -> u128 {
@@ -50,7 +50,7 @@ pub fn divisor_of(bits: u32) -> u64
 fn share_of(network: &Network, node: &Node, pool: &CutPool, cut: u32, y: u128) -> Option<Share>
     requires inside { length node.now.inside ≡ length network.now.candidates }
     requires limits { All (λ cut. cut.limit < length network.now.limits) pool.now }
-    ensures { IfSome result (λ share. IsShareAt network.now node.now pool.now share) }
+    ensures { IfSome result (λ share. IsShareWithin network.now node.now pool.now share) }
 {
     if y == 0 || !is_named(network, node, pool, cut) {
         return None;
@@ -72,7 +72,7 @@ pub fn shares_of(
     requires inside { length node.now.inside ≡ length network.now.candidates }
     requires limits { All (λ cut. cut.limit < length network.now.limits) pool.now }
     ensures few { IfOk result (λ shares. length shares.items ≤ 64) }
-    ensures each { IfOk result (λ shares. All (IsShareAt network.now node.now pool.now) shares.items) }
+    ensures each { IfOk result (λ shares. All (IsShareWithin network.now node.now pool.now) shares.items) }
 {
     let shift = share_shift(pool, multipliers);
     let mut shares = Vec::new(alloc);

@@ -1,7 +1,7 @@
 //! Which cuts may be named at a node.
 ghost use Rattle.std.specs.Prelude.{◌≡◌, ◌↔◌, ◌<◌, ℕ, Some, All, length, slice_get, IsTrue, IfSome, IfNone};
 ghost use Rattle.cut_pool.specs.Cut.{CutOf};
-ghost use Rattle.dual_ascent.specs.Duals.{MayBeNamed, IsNamedAt};
+ghost use Rattle.dual_ascent.specs.Duals.{IsCutNameable, IsNamedAt};
 
 use cut_pool::{Cut, CutPool};
 use geo_model::{Network, Node};
@@ -10,7 +10,7 @@ use geo_model::{Network, Node};
 fn may_be_named(network: &Network, node: &Node, cut: &Cut) -> bool
     requires inside { length node.now.inside ≡ length network.now.candidates }
     requires limit { cut.now.limit < length network.now.limits }
-    ensures { IsTrue result ↔ MayBeNamed network.now node.now cut.now }
+    ensures { IsTrue result ↔ IsCutNameable network.now node.now cut.now }
 {
     network.limits()[cut.limit as usize].is_in_force(&node.inside)
 }

@@ -4,7 +4,7 @@ ghost use Rattle.std.specs.Prelude.{◌≡◌, ◌<◌, All, length};
 
 use crate::naming::is_named;
 use cut_pool::{Cut, CutPool};
-use dual_simplex::{Outcome, Share, Tableau};
+use dual_simplex::{CutMultiplier, RunEnd, Tableau};
 use fixed_point::{product, ratio};
 use geo_base::NoMemory;
 use geo_model::{Network, Node};
@@ -28,7 +28,7 @@ const PRICE_BITS: u32 = 28;
 
 /// How a relaxation ended: multipliers of a bound, or those that show that no shares meet all cuts.
 #[derive(Clone, Copy, Debug, PartialEq, Eq)]
-pub enum Kind {
+pub enum RelaxationEnd {
     Bound,
     Ray,
 }
@@ -172,7 +172,7 @@ impl Relaxation {
         network: &Network,
         node: &Node,
         pool: &CutPool,
-    ) -> Result<Option<Kind>, NoMemory>
+    ) -> Result<Option<RelaxationEnd>, NoMemory>
         requires inside { length node.now.inside ≡ length network.now.candidates }
         requires limits { All (λ cut. cut.limit < length network.now.limits) pool.now }
     {
@@ -182,16 +182,16 @@ impl Relaxation {
                 break;
             }
             match self.tableau.run(STEPS)? {
-                Outcome::Solved => {}
-                Outcome::Infeasible => return Ok(Some(Kind::Ray)),
-                Outcome::OutOfSteps => break,
-                Outcome::Lost => return Ok(None),
+                RunEnd::Solved => {}
+                RunEnd::Infeasible => return Ok(Some(RelaxationEnd::Ray)),
+                RunEnd::OutOfSteps => break,
+                RunEnd::Lost => return Ok(None),
             }
             if self.tableau.pivots() > MOST_PIVOTS {
                 break;
             }
         }
-        Ok(Some(Kind::Bound))
+        Ok(Some(RelaxationEnd::Bound))
     }
 
     /// Writes multipliers of cuts that may be named at a node, the greatest first, and answers what
@@ -202,8 +202,8 @@ impl Relaxation {
         network: &Network,
         node: &Node,
         pool: &CutPool,
-        multipliers: &mut Vec<Share>,
-    ) -> Result<Option<Kind>, NoMemory>
+        multipliers: &mut Vec<CutMultiplier>,
+    ) -> Result<Option<RelaxationEnd>, NoMemory>
         requires inside { length node.now.inside ≡ length network.now.candidates }
         requires upper { length node.now.upper ≡ length network.now.candidates }
         requires limits { All (λ cut. cut.limit < length network.now.limits) pool.now }
@@ -211,8 +211,8 @@ impl Relaxation {
         self.start(alloc, network, node)?;
         let ended = self.run(network, node, pool)?;
         match ended {
-            Some(Kind::Ray) => self.tableau.ray(multipliers)?,
-            Some(Kind::Bound) => self.tableau.multipliers(multipliers)?,
+            Some(RelaxationEnd::Ray) => self.tableau.ray(multipliers)?,
+            Some(RelaxationEnd::Bound) => self.tableau.multipliers(multipliers)?,
             None => {}
         }
         multipliers

@@ -1,6 +1,6 @@
-use crate::share::Share;
+use crate::share::CutMultiplier;
 use crate::tableau::Tableau;
-use crate::variable::{Name, Variable};
+use crate::variable::{Role, Variable};
 use fixed_point::ONE;
 use geo_base::NoMemory;
 
@@ -16,7 +16,7 @@ impl Tableau {
     }
 
     /// Writes the cuts whose multiplier in the bound is above 0, each with it.
-    pub fn multipliers(&self, shares: &mut Vec<Share>) -> Result<(), NoMemory> {
+    pub fn multipliers(&self, shares: &mut Vec<CutMultiplier>) -> Result<(), NoMemory> {
         shares.clear();
         for (column, cost) in self.columns.iter().zip(self.costs.as_slice()) {
             push_share(shares, column.variable, *cost)?;
@@ -26,7 +26,7 @@ impl Tableau {
 
     /// Writes the cuts whose sum, each with its multiplier, no shares meet, where the last run ended as
     /// infeasible; else none.
-    pub fn ray(&self, shares: &mut Vec<Share>) -> Result<(), NoMemory> {
+    pub fn ray(&self, shares: &mut Vec<CutMultiplier>) -> Result<(), NoMemory> {
         shares.clear();
         let Some(refuted) = self.refuted else {
             return Ok(());
@@ -62,12 +62,12 @@ impl Tableau {
     pub fn cuts(&self, numbers: &mut Vec<u32>) -> Result<(), NoMemory> {
         numbers.clear();
         for column in self.columns.as_slice() {
-            if let Name::Slack(cut) = column.variable.name {
+            if let Role::Slack(cut) = column.variable.name {
                 numbers.push(cut)?;
             }
         }
         for basic in self.basics.as_slice() {
-            if let Name::Slack(cut) = basic.variable.name {
+            if let Role::Slack(cut) = basic.variable.name {
                 numbers.push(cut)?;
             }
         }
@@ -77,21 +77,21 @@ impl Tableau {
 
 // Adds a share where the variable is a slack and its multiplier above 0.
 fn push_share(
-    shares: &mut Vec<Share>,
+    shares: &mut Vec<CutMultiplier>,
     variable: Variable,
     multiplier: i64,
 ) -> Result<(), NoMemory> {
-    if let Name::Slack(cut) = variable.name
+    if let Role::Slack(cut) = variable.name
         && multiplier > 0
     {
-        shares.push(Share { cut, multiplier })?;
+        shares.push(CutMultiplier { cut, multiplier })?;
     }
     Ok(())
 }
 
 // Writes the value of a variable where it is the share of a candidate.
 fn write_value(shares: &mut [i64], variable: Variable, value: i64) {
-    if let Name::Candidate(candidate) = variable.name
+    if let Role::Candidate(candidate) = variable.name
         && let Some(place) = shares.get_mut(candidate as usize)
     {
         *place = value;

@@ -1,6 +1,6 @@
 use crate::table::add_scaled;
 use crate::tableau::Tableau;
-use crate::variable::{Basic, Column, Name, Variable};
+use crate::variable::{Basic, Column, Role, Variable};
 use fixed_point::{ONE, subtract_scaled};
 use geo_base::NoMemory;
 
@@ -50,7 +50,7 @@ impl Tableau {
 
     // Keeps the share of a candidate whose column is dropped.
     pub(crate) fn keep_share(&mut self, column: Column) {
-        if let Name::Candidate(candidate) = column.variable.name
+        if let Role::Candidate(candidate) = column.variable.name
             && let Some(place) = self.fixed.as_mut_slice().get_mut(candidate as usize)
         {
             *place = column.position();
@@ -69,7 +69,7 @@ impl Tableau {
         let Some(basic) = self.basics.get(row).copied() else {
             return;
         };
-        if let Name::Slack(_) = basic.variable.name
+        if let Role::Slack(_) = basic.variable.name
             && basic.value > most
             && row < self.basics.len()
         {
@@ -82,7 +82,7 @@ impl Tableau {
 // The coefficient of a variable in a cut; that of a slack is 0.
 fn coefficient_of(coefficients: &[i64], variable: Variable) -> i64 {
     match variable.name {
-        Name::Candidate(candidate) => coefficients.get(candidate as usize).copied().unwrap_or(0),
-        Name::Slack(_) => 0,
+        Role::Candidate(candidate) => coefficients.get(candidate as usize).copied().unwrap_or(0),
+        Role::Slack(_) => 0,
     }
 }

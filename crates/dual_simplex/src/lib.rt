@@ -21,6 +21,6 @@ mod table;
 mod tableau;
 mod variable;
 
-pub use run::Outcome;
-pub use share::Share;
+pub use run::RunEnd;
+pub use share::CutMultiplier;
 pub use tableau::Tableau;

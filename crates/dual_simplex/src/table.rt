@@ -9,15 +9,15 @@ use std::slice::ChunksExact;
 /// The entries of a tableau, row after row, each with places for `stride` columns. Columns that were
 /// dropped leave places at the end of each row that nobody reads.
 #[derive(Drop)]
-pub(crate) struct Table {
+pub(crate) struct TableauEntries {
     entries: Vec<i64>,
     stride: usize,
 }
 
-impl Table {
+impl TableauEntries {
     /// The table of no rows. It takes no memory.
-    pub fn new(alloc: Global) -> Table {
-        Table {
+    pub fn new(alloc: Global) -> TableauEntries {
+        TableauEntries {
             entries: Vec::new(alloc),
             stride: 1,
         }
@@ -30,7 +30,7 @@ impl Table {
     }
 
     /// Makes it a copy of the first `width` columns of another.
-    pub fn copy_from(&mut self, other: &Table, width: usize) -> Result<(), NoMemory> {
+    pub fn copy_from(&mut self, other: &TableauEntries, width: usize) -> Result<(), NoMemory> {
         self.clear(width);
         for row in other.rows() {
             self.push(row)?;

@@ -1,6 +1,6 @@
 use crate::entering::Ratio;
 use crate::leaving::Leaving;
-use crate::table::{Table, add_scaled};
+use crate::table::{TableauEntries, add_scaled};
 use crate::variable::{Basic, Column, Variable};
 use fixed_point::{ONE, Sizes};
 use geo_base::NoMemory;
@@ -11,7 +11,7 @@ use std::alloc::Global;
 /// anew or copied over.
 #[derive(Drop)]
 pub struct Tableau {
-    pub(crate) table: Table,
+    pub(crate) table: TableauEntries,
     pub(crate) columns: Vec<Column>,
     pub(crate) basics: Vec<Basic>,
     // The reduced cost of each column.
@@ -36,7 +36,7 @@ impl Tableau {
     /// The tableau of no candidates. It takes no memory.
     pub fn new(alloc: Global) -> Tableau {
         Tableau {
-            table: Table::new(alloc),
+            table: TableauEntries::new(alloc),
             columns: Vec::new(alloc),
             basics: Vec::new(alloc),
             costs: Vec::new(alloc),

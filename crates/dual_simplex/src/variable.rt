@@ -5,7 +5,7 @@ pub(crate) const UNBOUNDED: i64 = 1 << 61;
 
 /// What a variable stands for: the share of a candidate, or the slack of a cut, each by its number.
 #[derive(Clone, Copy)]
-pub(crate) enum Name {
+pub(crate) enum Role {
     Candidate(u32),
     Slack(u32),
 }
@@ -13,7 +13,7 @@ pub(crate) enum Name {
 /// A variable and its bounds, in fixed point.
 #[derive(Clone, Copy)]
 pub(crate) struct Variable {
-    pub name: Name,
+    pub name: Role,
     pub low: i64,
     pub high: i64,
 }
@@ -22,7 +22,7 @@ impl Variable {
     /// The share of a candidate, from 0 to 1.
     pub fn candidate(number: u32) -> Variable {
         Variable {
-            name: Name::Candidate(number),
+            name: Role::Candidate(number),
             low: 0,
             high: ONE,
         }
@@ -31,7 +31,7 @@ impl Variable {
     /// The slack of a cut, from 0.
     pub fn slack(cut: u32) -> Variable {
         Variable {
-            name: Name::Slack(cut),
+            name: Role::Slack(cut),
             low: 0,
             high: UNBOUNDED,
         }
@@ -55,8 +55,8 @@ impl Variable {
     /// Whether this is the share of that candidate.
     pub fn is_candidate(self, number: u32) -> bool {
         match self.name {
-            Name::Candidate(candidate) => candidate == number,
-            Name::Slack(_) => false,
+            Role::Candidate(candidate) => candidate == number,
+            Role::Slack(_) => false,
         }
     }
 }

@@ -15,7 +15,7 @@ use Rattle.chain_step.specs.declared.side.Side.TheVariants.{Lower, Upper}
 use Rattle.pivot_chain.proofs.Judged.{tall_lower, tall_upper}
 use Rattle.factor_stack.specs.declared.held.Held.{Held}
 use Rattle.factor_stack.specs.Image.{image_of}
-use Rattle.factor_stack.specs.Stored.{held_image, cut_chain, IsHeld}
+use Rattle.factor_stack.specs.Stored.{held_image, cut_chain, AreHeldFactors}
 use Rattle.factor_stack.specs.Running.{HasRun}
 use Rattle.factor_stack.proofs.CarriedRows.{carried}
 use Rattle.factor_stack.proofs.Verdicts.{lower_image, upper_image}
@@ -28,7 +28,7 @@ pub record IsChanging (network : NetworkOf) (limit : LimitOf) (held : Held) (oth
   pub bounds : IsNetwork network
   pub load : IsLoad (length network.unknowns) network.candidates limit.alpha limit.squares
   pub image : held_image held ≡ image_of network limit held.plan
-  pub rows : IsHeld (length network.unknowns) held.factors
+  pub rows : AreHeldFactors (length network.unknowns) held.factors
   pub within : first ≤ length network.unknowns
   pub agree : AgreeOnFirst first network held.plan other limit.squares
 

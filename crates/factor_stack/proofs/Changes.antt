@@ -18,9 +18,9 @@ use Rattle.factor_stack.specs.declared.held.Factors.{Factors}
 use Rattle.factor_stack.specs.declared.chain.Chain.{Chain}
 use Rattle.factor_stack.specs.declared.run.GridRows.{GridRows}
 use Rattle.factor_stack.specs.Image.{touches, first_place}
-use Rattle.factor_stack.specs.Stored.{images_before, held_image, taken_back, put_back, put_chain, saved_from, saved_chain, IsHeldChain, IsHeld, IsSavedChain, IsSaved}
+use Rattle.factor_stack.specs.Stored.{images_before, held_image, taken_back, put_back, put_chain, saved_from, saved_chain, IsHeldChain, AreHeldFactors, IsSavedChain, IsSaved}
 use Rattle.factor_stack.specs.Running.{KeepsFirst, IsRoom}
-use Rattle.factor_stack.specs.Stack.{StackOf, IsStackOf, IsKept}
+use Rattle.factor_stack.specs.Stack.{StackOf, IsStackOf, IsKeptStack}
 use Rattle.factor_stack.proofs.Stacks.{before_undo}
 use Rattle.std.specs.List.{position_or_len}
 
@@ -95,7 +95,7 @@ saved_kept n first place chain saved held within at is =
     let long = ap (λ (c : Chain). length c.rows) is ∙ length-drop first chain.rows in
     record { places = omega arith; stop = subst (λ (s : Option Stop). IfSome s (λ t. (1 ≤ t.step) × (t.step ≤ n))) (sym (ap (λ (c : Chain). c.stop) is)) held.stop }
 
-pub saved_is : (n i first : ℕ) (held : Held) (saved : Saved) → HasSaved held saved i first → IsHeld n held.factors → first ≤ n → i < length held.plan → IsSaved n (length held.plan) saved
+pub saved_is : (n i first : ℕ) (held : Held) (saved : Saved) → HasSaved held saved i first → AreHeldFactors n held.factors → first ≤ n → i < length held.plan → IsSaved n (length held.plan) saved
 saved_is n i first held saved is rows within inside =
     let candidate = is.candidate in
     record {
@@ -104,9 +104,9 @@ saved_is n i first held saved is rows within inside =
       upper = saved_kept n first saved.first held.factors.upper saved.factors.upper rows.upper within is.place (ap (λ (f : Factors). f.upper) is.factors);
     }
 
-pub kept_more : (n i : ℕ) (held : Held) (chosen : Bool) (plan : List Bool) (factors : Factors) (room new : GridRows) (saves more : List Saved) (saved : Saved) → IsKept n held room saves
-    → plan ≡ slice_set held.plan i chosen → IsHeld n factors → IsRoom n new → IsSaved n (length held.plan) saved → more ≡ saves ++ saved ∷ [] → length saves < 2 ^ 31
-    → IsKept n (record { plan = plan; factors = factors }) new more
+pub kept_more : (n i : ℕ) (held : Held) (chosen : Bool) (plan : List Bool) (factors : Factors) (room new : GridRows) (saves more : List Saved) (saved : Saved) → IsKeptStack n held room saves
+    → plan ≡ slice_set held.plan i chosen → AreHeldFactors n factors → IsRoom n new → IsSaved n (length held.plan) saved → more ≡ saves ++ saved ∷ [] → length saves < 2 ^ 31
+    → IsKeptStack n (record { plan = plan; factors = factors }) new more
 kept_more n i held chosen plan factors room new saves more saved kept e rows space one is few =
     let size = ap length is ∙ length-append saves (saved ∷ []) in
     let same : length plan ≡ length held.plan = ap length e ∙ length-set held.plan i chosen in

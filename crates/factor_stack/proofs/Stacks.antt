@@ -12,7 +12,7 @@ use Rattle.factor_stack.specs.declared.held.Saved.{Saved}
 use Rattle.factor_stack.specs.declared.chain.Chain.{Chain}
 use Rattle.factor_stack.specs.declared.run.GridRows.{GridRows}
 use Rattle.factor_stack.specs.Stored.{images_before, held_image, taken_back, put_chain, IsHeldChain, IsSavedChain, IsSaved}
-use Rattle.factor_stack.specs.Stack.{StackOf, IsImage, IsStackOf, IsKept}
+use Rattle.factor_stack.specs.Stack.{StackOf, IsImage, IsStackOf, IsKeptStack}
 
 -- ---- the number of changes
 length-images : (held : Held) (saves : List Saved) → length (images_before held saves) ≡ length saves
@@ -31,8 +31,8 @@ put_kept n first chain saved held kept =
     let some = length-take-le first chain.rows (omega arith) in
     record { places = omega arith; stop = kept.stop }
 
-pub kept_back : (n : ℕ) (held : Held) (room : GridRows) (saves rest : List Saved) (saved : Saved) → IsKept n held room saves → saves ≡ rest ++ option_to_list (Some saved)
-    → IsKept n (taken_back held saved) room rest
+pub kept_back : (n : ℕ) (held : Held) (room : GridRows) (saves rest : List Saved) (saved : Saved) → IsKeptStack n held room saves → saves ≡ rest ++ option_to_list (Some saved)
+    → IsKeptStack n (taken_back held saved) room rest
 kept_back n held room saves rest saved kept e =
     let m = length held.plan in
     let both = All-pop (IsSaved n m) saves rest (Some saved) e kept.each in

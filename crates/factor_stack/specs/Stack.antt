@@ -8,7 +8,7 @@ use Rattle.factor_stack.specs.declared.held.Held.{Held}
 use Rattle.factor_stack.specs.declared.held.Saved.{Saved}
 use Rattle.factor_stack.specs.declared.run.GridRows.{GridRows}
 use Rattle.factor_stack.specs.Image.{ImageOf, image_of}
-use Rattle.factor_stack.specs.Stored.{IsHeld, IsSaved}
+use Rattle.factor_stack.specs.Stored.{AreHeldFactors, IsSaved}
 use Rattle.factor_stack.specs.Running.{IsRoom}
 
 -- a stack: the number of its limit, the images before its changes, the oldest first, and the one after them; and what it
@@ -34,8 +34,8 @@ pub record IsStackOf (network : NetworkOf) (stack : StackOf) : Type 0 where
   pub before : (limit : LimitOf) → slice_get network.limits stack.limit ≡ Some limit → All (IsImage network limit) stack.before
 
 -- what a stack keeps of what it stores: rows for n unknowns
-pub record IsKept (n : ℕ) (held : Held) (room : GridRows) (saves : List Saved) : Type 0 where
-  pub held_rows : IsHeld n held.factors
+pub record IsKeptStack (n : ℕ) (held : Held) (room : GridRows) (saves : List Saved) : Type 0 where
+  pub held_rows : AreHeldFactors n held.factors
   pub room_rows : IsRoom n room
   pub few : length saves ≤ 2 ^ 31
   pub each : All (IsSaved n (length held.plan)) saves

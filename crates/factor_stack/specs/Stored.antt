@@ -71,7 +71,7 @@ pub record IsHeldChain (n : ℕ) (chain : Chain) : Type 0 where
   pub places : length chain.rows ≡ n
   pub stop : IfSome chain.stop (λ stop. (1 ≤ stop.step) × (stop.step ≤ n))
 
-pub record IsHeld (n : ℕ) (factors : Factors) : Type 0 where
+pub record AreHeldFactors (n : ℕ) (factors : Factors) : Type 0 where
   pub lower : IsHeldChain n factors.lower
   pub upper : IsHeldChain n factors.upper
 

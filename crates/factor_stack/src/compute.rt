@@ -3,7 +3,7 @@ ghost use Rattle.std.specs.Prelude.{◌≡◌, ◌+◌, ◌<◌, ◌≤◌, leng
 ghost use Rattle.chain_step.specs.declared.side.Side.TheVariants.{Lower, Upper};
 ghost use Rattle.pivot_chain.specs.Judging.{lower_of, upper_of, IsMade};
 ghost use Rattle.factor_stack.specs.Image.{chain_image};
-ghost use Rattle.factor_stack.specs.Stored.{held_chain, cut_at, AreFresh, IsHeld};
+ghost use Rattle.factor_stack.specs.Stored.{held_chain, cut_at, AreFresh, AreHeldFactors};
 ghost use Rattle.factor_stack.specs.Running.{HaveRun, IsRoom, KeepsFirst};
 
 use crate::run::{GridRows, run_from};
@@ -25,7 +25,7 @@ pub(crate) fn recompute<L: Ledger>(
     requires known { HaveRun grids.now first (cut_at first factors.old) }
     ensures lower { held_chain factors.new.lower ≡ chain_image Lower (lower_of grids.now) }
     ensures upper { held_chain factors.new.upper ≡ chain_image Upper (upper_of grids.now) }
-    ensures held { IsHeld (length grids.now.network.now.unknowns) factors.new }
+    ensures held { AreHeldFactors (length grids.now.network.now.unknowns) factors.new }
     ensures kept { KeepsFirst first factors.old factors.new }
     ensures room { IsRoom (length grids.now.network.now.unknowns) room.new }
     ensures cost { steps.new + first ≤ steps.old + length grids.now.network.now.unknowns }
@@ -52,7 +52,7 @@ pub(crate) fn compute<L: Ledger>(
     requires fresh { AreFresh (length grids.now.network.now.unknowns) factors.old }
     ensures lower { held_chain factors.new.lower ≡ chain_image Lower (lower_of grids.now) }
     ensures upper { held_chain factors.new.upper ≡ chain_image Upper (upper_of grids.now) }
-    ensures held { IsHeld (length grids.now.network.now.unknowns) factors.new }
+    ensures held { AreHeldFactors (length grids.now.network.now.unknowns) factors.new }
     ensures room { IsRoom (length grids.now.network.now.unknowns) room.new }
 {
     let mut steps = Steps::<L>::new(blank);

@@ -36,13 +36,13 @@ pub struct FactorStack {
 impl Model for FactorStack {
     ghost use Rattle.std.specs.Prelude.{length, reverse};
     ghost use Rattle.factor_stack.specs.Stored.{held_image, images_before};
-    ghost use Rattle.factor_stack.specs.Stack.{StackOf, IsKept};
+    ghost use Rattle.factor_stack.specs.Stack.{StackOf, IsKeptStack};
 
     ghost Value = { StackOf };
 
     ghost view = { λ stack. record { limit = stack.limit; before = reverse (images_before stack.held (reverse stack.saves.items)); now = held_image stack.held; normal = stack.normal; grid = stack.grid } };
 
-    ghost invariant = { λ stack. IsKept (length stack.grid.order) stack.held stack.room stack.saves.items };
+    ghost invariant = { λ stack. IsKeptStack (length stack.grid.order) stack.held stack.room stack.saves.items };
 }
 
 impl FactorStack {

@@ -4,7 +4,7 @@ use Rattle.std.specs.Prelude.{unsigned_abs}
 use Rattle.std.proofs.lemmas.Int.{ints}
 use Rattle.whole_algebra.proofs.Normal.{ring, x0, x1, x2, x3, x4, x5, lit, ◌⊕◌, ◌⊖◌, ◌⊗◌}
 use Rattle.whole_algebra.proofs.Order.{le_of_eq}
-use Rattle.coefficient_round.specs.Coefficient.{scale, weight_for}
+use Rattle.coefficient_round.specs.Coefficient.{coefficient_scale, weight_for}
 use Rattle.geo_model.specs.declared.network.Component.{Component}
 use Rattle.geo_model.specs.declared.network.Component.TheVariants as component
 use Rattle.geo_model.specs.declared.network.Unknown.{Unknown}
@@ -57,14 +57,14 @@ pub vector-row-most : (unknowns : List Unknown) (part : Component) (a b deviatio
     → row_energy (row_of unknowns (observed (difference_terms part a b) deviation)) x ≤ℤ (m *ℤ (pos 100000000 *ℤ (motion unknowns x b part *ℤ motion unknowns x b part)))
 vector-row-most unknowns part a b deviation x m still light =
     at_most _ _ (m *ℤ (pos 100000000 *ℤ (motion unknowns x b part *ℤ motion unknowns x b part)))
-    (difference_energy unknowns part a b deviation x ∙ ap (λ (d : ℤ). weighted_square deviation (pos scale *ℤ d)) (from_still (motion unknowns x b part) (motion unknowns x a part) still))
+    (difference_energy unknowns part a b deviation x ∙ ap (λ (d : ℤ). weighted_square deviation (pos coefficient_scale *ℤ d)) (from_still (motion unknowns x b part) (motion unknowns x a part) still))
     (difference_most (weight_for deviation) m (motion unknowns x b part) light)
 
 pub vector-row-least : (unknowns : List Unknown) (part : Component) (a b deviation : ℕ) (x : Displaced) (m : ℤ) → motion unknowns x a part ≡ pos 0 → m ≤ℤ weight_for deviation
     → (m *ℤ (pos 100000000 *ℤ (motion unknowns x b part *ℤ motion unknowns x b part))) ≤ℤ row_energy (row_of unknowns (observed (difference_terms part a b) deviation)) x
 vector-row-least unknowns part a b deviation x m still heavy =
     at_least _ _ (m *ℤ (pos 100000000 *ℤ (motion unknowns x b part *ℤ motion unknowns x b part)))
-    (difference_energy unknowns part a b deviation x ∙ ap (λ (d : ℤ). weighted_square deviation (pos scale *ℤ d)) (from_still (motion unknowns x b part) (motion unknowns x a part) still))
+    (difference_energy unknowns part a b deviation x ∙ ap (λ (d : ℤ). weighted_square deviation (pos coefficient_scale *ℤ d)) (from_still (motion unknowns x b part) (motion unknowns x a part) still))
     (difference_least (weight_for deviation) m (motion unknowns x b part) heavy)
 
 -- the rows of a vector with the standard deviations 10.00 and 15.00
@@ -149,7 +149,7 @@ pub direction-energy : (unknowns : List Unknown) (points : List PointRecord) (a 
     → row_energy (row_of unknowns (observed (direction_terms points a b) 1000)) x
     ≤ℤ (pos 2 *ℤ row_energy (row_of unknowns (observed (direction_terms points a c) 1000)) x +ℤ pos 40000000000 *ℤ plane_square unknowns x a)
 direction-energy unknowns points a b c x far_b far_c still_b still_c =
-    let turn = pos scale *ℤ motion unknowns x a component.Turn in
+    let turn = pos coefficient_scale *ℤ motion unknowns x a component.Turn in
     let form = turned unknowns points x a b -ℤ turn in
     let other = turned unknowns points x a c -ℤ turn in
     two_directions _ _ _ _ (pos 40000000000 *ℤ plane_square unknowns x a) (direction_energy unknowns points a b 1000 x) (direction_energy unknowns points a c 1000 x)

@@ -6,7 +6,7 @@ use Rattle.std.proofs.lemmas.Int.{ints}
 use Rattle.whole_algebra.proofs.Order.{le_by, mul_le_mul_right, square_nonneg}
 use Rattle.whole_algebra.proofs.Ring.{mul_swap}
 use Rattle.whole_algebra.proofs.Normal.{ring, x0, x1, lit, ◌⊕◌, ◌⊖◌, ◌⊗◌}
-use Rattle.coefficient_round.specs.Coefficient.{scale}
+use Rattle.coefficient_round.specs.Coefficient.{coefficient_scale}
 use Rattle.gen_law.proofs.Squares.{square_of_sum, two_terms}
 
 -- the square of a difference
@@ -16,8 +16,8 @@ square_of_difference p q =
     (ring (lit 2 ⊗ (x0 ⊗ x0 ⊕ x1 ⊗ x1)) ((x0 ⊖ x1) ⊗ (x0 ⊖ x1) ⊕ (x0 ⊕ x1) ⊗ (x0 ⊕ x1)) (p ∷ q ∷ []) refl)
 
 -- the square of a scaled difference
-pub scaled_square : (d : ℤ) → (pos scale *ℤ d) *ℤ (pos scale *ℤ d) ≡ pos 100000000 *ℤ (d *ℤ d)
-scaled_square d = mul_swap (pos scale) d (pos scale) d
+pub scaled_square : (d : ℤ) → (pos coefficient_scale *ℤ d) *ℤ (pos coefficient_scale *ℤ d) ≡ pos 100000000 *ℤ (d *ℤ d)
+scaled_square d = mul_swap (pos coefficient_scale) d (pos coefficient_scale) d
 
 -- ---- the energies of rows
 
@@ -62,19 +62,19 @@ direction_share form other turn s is small =
     rw is (direction_chain ((other +ℤ turn) *ℤ (other +ℤ turn)) (other *ℤ other) (turn *ℤ turn) s (square_of_sum other turn) small)
 
 -- a scaled difference with a weight of at most, or at least, m
-pub difference_most : (w m d : ℤ) → w ≤ℤ m → (w *ℤ ((pos scale *ℤ d) *ℤ (pos scale *ℤ d))) ≤ℤ (m *ℤ (pos 100000000 *ℤ (d *ℤ d)))
-difference_most w m d light = rw (← scaled_square d) (mul_le_mul_right ((pos scale *ℤ d) *ℤ (pos scale *ℤ d)) w m (square_nonneg (pos scale *ℤ d)) light)
+pub difference_most : (w m d : ℤ) → w ≤ℤ m → (w *ℤ ((pos coefficient_scale *ℤ d) *ℤ (pos coefficient_scale *ℤ d))) ≤ℤ (m *ℤ (pos 100000000 *ℤ (d *ℤ d)))
+difference_most w m d light = rw (← scaled_square d) (mul_le_mul_right ((pos coefficient_scale *ℤ d) *ℤ (pos coefficient_scale *ℤ d)) w m (square_nonneg (pos coefficient_scale *ℤ d)) light)
 
-pub difference_least : (w m d : ℤ) → m ≤ℤ w → (m *ℤ (pos 100000000 *ℤ (d *ℤ d))) ≤ℤ (w *ℤ ((pos scale *ℤ d) *ℤ (pos scale *ℤ d)))
-difference_least w m d heavy = rw (← scaled_square d) (mul_le_mul_right ((pos scale *ℤ d) *ℤ (pos scale *ℤ d)) m w (square_nonneg (pos scale *ℤ d)) heavy)
+pub difference_least : (w m d : ℤ) → m ≤ℤ w → (m *ℤ (pos 100000000 *ℤ (d *ℤ d))) ≤ℤ (w *ℤ ((pos coefficient_scale *ℤ d) *ℤ (pos coefficient_scale *ℤ d)))
+difference_least w m d heavy = rw (← scaled_square d) (mul_le_mul_right ((pos coefficient_scale *ℤ d) *ℤ (pos coefficient_scale *ℤ d)) m w (square_nonneg (pos coefficient_scale *ℤ d)) heavy)
 
 level_chain : (e d a b : ℤ) → e ≤ℤ (pos 100 *ℤ (pos 100000000 *ℤ d)) → d ≤ℤ (pos 2 *ℤ (b +ℤ a)) → e ≤ℤ (pos 20000000000 *ℤ (a +ℤ b))
 level_chain e d a b h0 h1 = omega (arith, ints)
 
 pub level_share : (w za zb : ℤ) → w ≤ℤ pos 100
-    → (w *ℤ ((pos scale *ℤ (zb -ℤ za)) *ℤ (pos scale *ℤ (zb -ℤ za)))) ≤ℤ (pos 20000000000 *ℤ (za *ℤ za +ℤ zb *ℤ zb))
+    → (w *ℤ ((pos coefficient_scale *ℤ (zb -ℤ za)) *ℤ (pos coefficient_scale *ℤ (zb -ℤ za)))) ≤ℤ (pos 20000000000 *ℤ (za *ℤ za +ℤ zb *ℤ zb))
 level_share w za zb light =
-    level_chain (w *ℤ ((pos scale *ℤ (zb -ℤ za)) *ℤ (pos scale *ℤ (zb -ℤ za)))) ((zb -ℤ za) *ℤ (zb -ℤ za)) (za *ℤ za) (zb *ℤ zb)
+    level_chain (w *ℤ ((pos coefficient_scale *ℤ (zb -ℤ za)) *ℤ (pos coefficient_scale *ℤ (zb -ℤ za)))) ((zb -ℤ za) *ℤ (zb -ℤ za)) (za *ℤ za) (zb *ℤ zb)
     (difference_most w (pos 100) (zb -ℤ za) light) (square_of_difference zb za)
 
 -- ---- what the whole energy bears

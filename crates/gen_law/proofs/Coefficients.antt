@@ -5,7 +5,7 @@ use Rattle.std.proofs.lemmas.Int.{ints}
 use Rattle.std.proofs.lemmas.Nat.{mul-le}
 use Rattle.geo_base.specs.Division.{IsNearest}
 use Rattle.whole_algebra.proofs.Order.{le_antisym}
-use Rattle.coefficient_round.specs.Coefficient.{radian, scale, square, square_length, direction_coefficient, weight_for}
+use Rattle.coefficient_round.specs.Coefficient.{radian, coefficient_scale, square, square_length, direction_coefficient, weight_for}
 use Rattle.coefficient_round.proofs.Bounds.{nearest-at_least, nearest-at_most, direction_coefficient-IsNearest, weight_for-IsNearest}
 use Rattle.gen_law.proofs.Squares.{line_room}
 
@@ -22,12 +22,12 @@ far_line : (dx dy : ℤ) → 800000 ≤ unsigned_abs dx → 10 ^ 8 ≤ square_le
 far_line dx dy far_x =
     let long : 800000 * 800000 ≤ square (unsigned_abs dx) = mul-le 800000 800000 (unsigned_abs dx) (unsigned_abs dx) far_x far_x in omega arith
 
-small_nearest : (part : ℤ) (d : ℕ) (q : ℤ) → 10 ^ 8 ≤ d → 1600000 * unsigned_abs part ≤ d → IsNearest (pos (radian * scale) *ℤ part) (pos d) q → unsigned_abs q ≤ 5000
+small_nearest : (part : ℤ) (d : ℕ) (q : ℤ) → 10 ^ 8 ≤ d → 1600000 * unsigned_abs part ≤ d → IsNearest (pos (radian * coefficient_scale) *ℤ part) (pos d) q → unsigned_abs q ≤ 5000
 small_nearest part d q long room near =
     let some : pos 0 <ℤ pos d = omega (arith, ints) in
-    let below : (negsuc 4999 *ℤ pos d) ≤ℤ (pos (radian * scale) *ℤ part) = omega (arith, ints) in
-    let above : (pos (radian * scale) *ℤ part) ≤ℤ (pos 5000 *ℤ pos d) = omega (arith, ints) in
-    omega (arith, ints, nearest-at_least (pos (radian * scale) *ℤ part) (pos d) q (negsuc 4999) some near below, nearest-at_most (pos (radian * scale) *ℤ part) (pos d) q (pos 5000) some near above)
+    let below : (negsuc 4999 *ℤ pos d) ≤ℤ (pos (radian * coefficient_scale) *ℤ part) = omega (arith, ints) in
+    let above : (pos (radian * coefficient_scale) *ℤ part) ≤ℤ (pos 5000 *ℤ pos d) = omega (arith, ints) in
+    omega (arith, ints, nearest-at_least (pos (radian * coefficient_scale) *ℤ part) (pos d) q (negsuc 4999) some near below, nearest-at_most (pos (radian * coefficient_scale) *ℤ part) (pos d) q (pos 5000) some near above)
 
 pub far_direction-small : (part dx dy : ℤ) → (part ≡ dx) ⊎ (part ≡ dy) → 800000 ≤ unsigned_abs dx → 800000 ≤ unsigned_abs dy → unsigned_abs (direction_coefficient part dx dy) ≤ 5000
 far_direction-small part dx dy of_line far_x far_y =

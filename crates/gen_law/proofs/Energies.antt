@@ -1,7 +1,7 @@
 -- The energies of rows by the kind of the observation.
 use Rattle.std.proofs.Common.{◌≡◌, ◌∙◌, ℤ, pos, ◌+ℤ◌, ◌-ℤ◌, ◌*ℤ◌, neg_ℤ, List, [], ◌∷◌, refl, ap}
 use Rattle.whole_algebra.proofs.Normal.{ring, atom, lit, opposite_of, x0, x1, x2, x3, x4, x5, x6, x7, ◌⊕◌, ◌⊖◌, ◌⊗◌}
-use Rattle.coefficient_round.specs.Coefficient.{scale}
+use Rattle.coefficient_round.specs.Coefficient.{coefficient_scale}
 use Rattle.geo_model.specs.declared.network.Component.TheVariants as component
 use Rattle.geo_model.specs.declared.network.Unknown.{Unknown}
 use Rattle.geo_model.specs.Row.{Displaced, row_energy}
@@ -38,7 +38,7 @@ direction_form p q k xa ya xb yb o =
 pub direction_energy : DirectionEnergy
 direction_energy unknowns points a b deviation x =
     energy_of unknowns (observed (direction_terms points a b) deviation) x _
-    (direction_form (p_coefficient points a b) (q_coefficient points a b) (pos scale) (moved unknowns x (unknown a component.X)) (moved unknowns x (unknown a component.Y))
+    (direction_form (p_coefficient points a b) (q_coefficient points a b) (pos coefficient_scale) (moved unknowns x (unknown a component.X)) (moved unknowns x (unknown a component.Y))
     (moved unknowns x (unknown b component.X)) (moved unknowns x (unknown b component.Y)) (moved unknowns x (unknown a component.Turn)))
 
 angle_form : (pb qb pc qc xa ya xb yb xc yc : ℤ)
@@ -62,4 +62,4 @@ difference_form k a b = ring (opposite_of x0 ⊗ x1 ⊕ (x0 ⊗ x2 ⊕ lit 0)) (
 pub difference_energy : DifferenceEnergy
 difference_energy unknowns part a b deviation x =
     energy_of unknowns (observed (difference_terms part a b) deviation) x _
-    (difference_form (pos scale) (moved unknowns x (unknown a part)) (moved unknowns x (unknown b part)))
+    (difference_form (pos coefficient_scale) (moved unknowns x (unknown a part)) (moved unknowns x (unknown b part)))

@@ -3,7 +3,7 @@
 use Rattle.std.specs.Prelude.{◌≡◌, ◌≢◌, ℕ, ℤ, pos, ◌+ℤ◌, ◌-ℤ◌, ◌*ℤ◌, if◌then◌else◌, List, slice_get, Some}
 use Rattle.std.specs.List.{IsDistinct, enumerate_from}
 use Rattle.whole_algebra.specs.Sums.{int_sum_by}
-use Rattle.coefficient_round.specs.Coefficient.{scale, weight_for}
+use Rattle.coefficient_round.specs.Coefficient.{coefficient_scale, weight_for}
 use Rattle.geo_model.specs.declared.network.Component.{Component}
 use Rattle.geo_model.specs.declared.network.Component.TheVariants as component
 use Rattle.geo_model.specs.declared.network.Unknown.{Unknown}
@@ -35,8 +35,8 @@ UnknownsMove =
     IsDistinct is_same unknowns → slice_get unknowns k ≡ Some u → moved unknowns x u ≡ x k
 
 -- what is no unknown isn't moved
-abbrev pub OthersStay : Type 0
-OthersStay =
+abbrev pub OthersAreUnmoved : Type 0
+OthersAreUnmoved =
     (unknowns : List Unknown) (x : Displaced) (u : Unknown) →
     ((k : ℕ) → slice_get unknowns k ≢ Some u) → moved unknowns x u ≡ pos 0
 
@@ -70,7 +70,7 @@ DirectionEnergy =
     (unknowns : List Unknown) (points : List PointRecord) (a b deviation : ℕ) (x : Displaced) →
     row_energy (row_of unknowns (observed (direction_terms points a b) deviation)) x
     ≡ weighted_square deviation
-    (turned unknowns points x a b -ℤ pos scale *ℤ moved unknowns x (unknown a component.Turn))
+    (turned unknowns points x a b -ℤ pos coefficient_scale *ℤ moved unknowns x (unknown a component.Turn))
 
 -- the energy of an angle: the change of the second bearing less that of the first one
 abbrev pub AngleEnergy : Type 0
@@ -84,4 +84,4 @@ abbrev pub DifferenceEnergy : Type 0
 DifferenceEnergy =
     (unknowns : List Unknown) (part : Component) (a b deviation : ℕ) (x : Displaced) →
     row_energy (row_of unknowns (observed (difference_terms part a b) deviation)) x
-    ≡ weighted_square deviation (pos scale *ℤ apart_by unknowns x part a b)
+    ≡ weighted_square deviation (pos coefficient_scale *ℤ apart_by unknowns x part a b)

@@ -6,9 +6,9 @@ use Rattle.gen_net.specs.Draws.{drawn}
 use Rattle.gen_net.specs.Fields.{field, label}
 
 -- a line: name, kind, station, target, foresight, the two standard deviations and the price
-abbrev pub line_text :
+abbrev pub candidate_line :
     List ℕ → List ℕ → List ℕ → List ℕ → List ℕ → List ℕ → List ℕ → ℕ → List ℕ
-line_text name kind from to to2 sd sdh price =
+candidate_line name kind from to to2 sd sdh price =
     field name
     ++ (field kind
     ++ (field from ++ (field to ++ (field to2
@@ -19,27 +19,27 @@ line_text name kind from to to2 sd sdh price =
 
 unfoldable pub vector_line : ℕ → ℕ → ℕ → List ℕ → List ℕ → List ℕ
 vector_line seed price number from to =
-    line_text (label (codes "v") number) (codes "vector") from to (codes "")
+    candidate_line (label (codes "v") number) (codes "vector") from to (codes "")
     (codes "10.00") (codes "15.00") (40 + drawn seed price 20)
 
 unfoldable pub distance_line : ℕ → ℕ → ℕ → List ℕ → List ℕ → List ℕ
 distance_line seed price number from to =
-    line_text (label (codes "d") number) (codes "distance") from to (codes "")
+    candidate_line (label (codes "d") number) (codes "distance") from to (codes "")
     (codes "8.00") (codes "") (150 + drawn seed price 50)
 
 unfoldable pub direction_line : ℕ → ℕ → ℕ → List ℕ → List ℕ → List ℕ
 direction_line seed price number from to =
-    line_text (label (codes "r") number) (codes "direction") from to (codes "")
+    candidate_line (label (codes "r") number) (codes "direction") from to (codes "")
     (codes "10.00") (codes "") (150 + drawn seed price 50)
 
 unfoldable pub angle_line : ℕ → ℕ → ℕ → List ℕ → List ℕ → List ℕ → List ℕ
 angle_line seed price number from to to2 =
-    line_text (label (codes "a") number) (codes "angle") from to to2
+    candidate_line (label (codes "a") number) (codes "angle") from to to2
     (codes "15.00") (codes "") (150 + drawn seed price 50)
 
 unfoldable pub level_line : ℕ → ℕ → ℕ → List ℕ → List ℕ → List ℕ
 level_line seed price number from to =
-    line_text (label (codes "l") number) (codes "level") from to (codes "")
+    candidate_line (label (codes "l") number) (codes "level") from to (codes "")
     (codes "10.00") (codes "") (100 + drawn seed price 50)
 
 -- ---- the lines of each kind

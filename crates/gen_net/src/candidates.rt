@@ -2,7 +2,7 @@ ghost use Rattle.std.specs.Prelude.{◌≡◌, ◌+◌, ◌*◌, ◌-◌, ◌<�
 ghost use Rattle.std.specs.Fmt.{decimal};
 ghost use Rattle.gen_net.specs.Draws.{drawn};
 ghost use Rattle.gen_net.specs.Fields.{field, label};
-ghost use Rattle.gen_net.specs.Candidates.{line_text, vector_line, distance_line, direction_line, angle_line, level_line, fixed_name as name_of_fixed, vector_pair, vector_lines, drawn_distance, distance_lines, direction_lines, angle_lines, level_lines, candidates_text};
+ghost use Rattle.gen_net.specs.Candidates.{candidate_line, vector_line, distance_line, direction_line, angle_line, level_line, fixed_name as name_of_fixed, vector_pair, vector_lines, drawn_distance, distance_lines, direction_lines, angle_lines, level_lines, candidates_text};
 
 use crate::draws::Draws;
 use crate::fields::{put_field, put_label};
@@ -15,7 +15,7 @@ use text_num::put_whole;
 /// the standard deviations as they stand in the table, and the prices, `prices` of them from
 /// `least` on.
 #[derive(Clone, Copy)]
-struct Kind<'a> {
+struct KindTraits<'a> {
     letter: &'a [u8],
     word: &'a [u8],
     sd: &'a [u8],
@@ -26,7 +26,7 @@ struct Kind<'a> {
 
 /// The names of the points of a candidate: station, target and, for an angle, its foresight.
 #[derive(Clone, Copy)]
-struct Ends<'a> {
+struct PointNames<'a> {
     from: &'a [u8],
     to: &'a [u8],
     to2: &'a [u8],
@@ -63,7 +63,7 @@ fn new_name(number: u32) -> &'static [u8]
 }
 
 /// Appends the names of the points of a candidate.
-fn put_ends(text: &mut Vec<u8>, ends: Ends<'_>) -> Result<(), NoMemory>
+fn put_ends(text: &mut Vec<u8>, ends: PointNames<'_>) -> Result<(), NoMemory>
     ensures { let e = ends.entry in OnOk result (text.new.items ≡ text.old.items ++ (field e.from.now ++ (field e.to.now ++ field e.to2.now))) }
 {
     put_field(text, ends.from)?;
@@ -72,7 +72,7 @@ fn put_ends(text: &mut Vec<u8>, ends: Ends<'_>) -> Result<(), NoMemory>
 }
 
 /// Appends the standard deviations of a kind.
-fn put_deviations(text: &mut Vec<u8>, kind: Kind<'_>) -> Result<(), NoMemory>
+fn put_deviations(text: &mut Vec<u8>, kind: KindTraits<'_>) -> Result<(), NoMemory>
     ensures { let k = kind.entry in OnOk result (text.new.items ≡ text.old.items ++ (field k.sd.now ++ field k.sdh.now)) }
 {
     put_field(text, kind.sd)?;
@@ -93,14 +93,14 @@ fn put_price(text: &mut Vec<u8>, price: u32) -> Result<(), NoMemory>
 fn put_line(
     text: &mut Vec<u8>,
     draws: &mut Draws,
-    kind: Kind<'_>,
+    kind: KindTraits<'_>,
     number: u32,
-    ends: Ends<'_>,
+    ends: PointNames<'_>,
 ) -> Result<(), NoMemory>
     requires some { 0 < kind.prices }
     requires cheap { kind.least + kind.prices ≤ 1000 }
     requires few { draws.old.1 ≤ 900 }
-    ensures put { let k = kind.entry in let e = ends.entry in OnOk result (text.new.items ≡ text.old.items ++ line_text (label k.letter.now number) k.word.now e.from.now e.to.now e.to2.now k.sd.now k.sdh.now (k.least + drawn draws.old.0 draws.old.1 k.prices)) }
+    ensures put { let k = kind.entry in let e = ends.entry in OnOk result (text.new.items ≡ text.old.items ++ candidate_line (label k.letter.now number) k.word.now e.from.now e.to.now e.to2.now k.sd.now k.sdh.now (k.least + drawn draws.old.0 draws.old.1 k.prices)) }
     ensures further { OnOk result (draws.new ≡ (draws.old.0, draws.old.1 + 1)) }
 {
     put_label(text, kind.letter, number)?;
@@ -123,7 +123,7 @@ fn put_vector(
     ensures put { OnOk result (text.new.items ≡ text.old.items ++ vector_line draws.old.0 draws.old.1 number from.now to.now) }
     ensures further { OnOk result (draws.new ≡ (draws.old.0, draws.old.1 + 1)) }
 {
-    let kind = Kind {
+    let kind = KindTraits {
         letter: b"v",
         word: b"vector",
         sd: b"10.00",
@@ -131,7 +131,7 @@ fn put_vector(
         least: 40,
         prices: 20,
     };
-    put_line(text, draws, kind, number, Ends { from, to, to2: b"" })
+    put_line(text, draws, kind, number, PointNames { from, to, to2: b"" })
 }
 
 /// Appends the line of a distance.
@@ -147,7 +147,7 @@ fn put_distance(
     ensures put { OnOk result (text.new.items ≡ text.old.items ++ distance_line draws.old.0 draws.old.1 number from.now to.now) }
     ensures further { OnOk result (draws.new ≡ (draws.old.0, draws.old.1 + 1)) }
 {
-    let kind = Kind {
+    let kind = KindTraits {
         letter: b"d",
         word: b"distance",
         sd: b"8.00",
@@ -155,7 +155,7 @@ fn put_distance(
         least: 150,
         prices: 50,
     };
-    put_line(text, draws, kind, number, Ends { from, to, to2: b"" })
+    put_line(text, draws, kind, number, PointNames { from, to, to2: b"" })
 }
 
 /// Appends the line of a direction.
@@ -171,7 +171,7 @@ fn put_direction(
     ensures put { OnOk result (text.new.items ≡ text.old.items ++ direction_line draws.old.0 draws.old.1 number from.now to.now) }
     ensures further { OnOk result (draws.new ≡ (draws.old.0, draws.old.1 + 1)) }
 {
-    let kind = Kind {
+    let kind = KindTraits {
         letter: b"r",
         word: b"direction",
         sd: b"10.00",
@@ -179,7 +179,7 @@ fn put_direction(
         least: 150,
         prices: 50,
     };
-    put_line(text, draws, kind, number, Ends { from, to, to2: b"" })
+    put_line(text, draws, kind, number, PointNames { from, to, to2: b"" })
 }
 
 /// Appends the line of an angle from `to` to `to2`.
@@ -196,7 +196,7 @@ fn put_angle(
     ensures put { OnOk result (text.new.items ≡ text.old.items ++ angle_line draws.old.0 draws.old.1 number from.now to.now to2.now) }
     ensures further { OnOk result (draws.new ≡ (draws.old.0, draws.old.1 + 1)) }
 {
-    let kind = Kind {
+    let kind = KindTraits {
         letter: b"a",
         word: b"angle",
         sd: b"15.00",
@@ -204,7 +204,7 @@ fn put_angle(
         least: 150,
         prices: 50,
     };
-    put_line(text, draws, kind, number, Ends { from, to, to2 })
+    put_line(text, draws, kind, number, PointNames { from, to, to2 })
 }
 
 /// Appends the line of a level.
@@ -220,7 +220,7 @@ fn put_level(
     ensures put { OnOk result (text.new.items ≡ text.old.items ++ level_line draws.old.0 draws.old.1 number from.now to.now) }
     ensures further { OnOk result (draws.new ≡ (draws.old.0, draws.old.1 + 1)) }
 {
-    let kind = Kind {
+    let kind = KindTraits {
         letter: b"l",
         word: b"level",
         sd: b"10.00",
@@ -228,7 +228,7 @@ fn put_level(
         least: 100,
         prices: 50,
     };
-    put_line(text, draws, kind, number, Ends { from, to, to2: b"" })
+    put_line(text, draws, kind, number, PointNames { from, to, to2: b"" })
 }
 
 /// Appends the two vectors to a new point, from two of the fixed points.

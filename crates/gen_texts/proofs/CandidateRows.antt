@@ -13,12 +13,12 @@ use Rattle.table_columns.specs.Names.{place_of}
 use Rattle.table_columns.proofs.NumberFacts.{number-within}
 use Rattle.point_tables.specs.declared.record.PointRecord.{PointRecord}
 use Rattle.point_tables.specs.Columns.{number_kinds}
-use Rattle.point_tables.specs.PointTable.{names_of}
+use Rattle.point_tables.specs.PointTable.{point_names}
 use Rattle.candidate_tables.specs.declared.kind.Kind.{Kind}
 use Rattle.candidate_tables.specs.declared.kind.Kind.TheVariants as kind
 use Rattle.candidate_tables.specs.declared.record.CandidateRecord.{CandidateRecord}
-use Rattle.candidate_tables.specs.CandidateTable.{bound_rules, candidate_of, candidate_rules, deviation_of, deviation_rules, extra_rules, foresight_rules, height_deviation_of, height_rules, kind_at, kind_rules, length_rules, lines_rules, part_rules, place_rules, price_rules}
-use Rattle.candidate_tables.specs.Kinds.{kind_of, rules_of}
+use Rattle.candidate_tables.specs.CandidateTable.{bound_rules, candidate_record_of, candidate_rules, deviation_of, deviation_rules, extra_rules, foresight_rules, height_deviation_of, height_rules, kind_at, kind_rules, length_rules, lines_rules, needed_part_rules, place_rules, price_rules}
+use Rattle.candidate_tables.specs.Kinds.{kind_named, rules_of}
 use Rattle.candidate_tables.specs.Lines.{length_squared, x_at, y_at}
 use Rattle.candidate_tables.specs.Places.{lacks_height, lacks_plane}
 use Rattle.candidate_tables.specs.Read.{AreFigures, IsEnds, IsForesight}
@@ -26,7 +26,7 @@ use Rattle.candidate_tables.proofs.RecordFacts.{columns-figures, columns-read, r
 use Rattle.candidate_tables.proofs.RuleFacts.{broken-price, broken-to2, ends-read, foresight-found, foresight-other, foresight-rules, height-other, kind-at, point-found, price-is, price-read}
 use Rattle.gen_net.specs.Draws.{drawn}
 use Rattle.gen_net.specs.Fields.{label}
-use Rattle.gen_net.specs.Candidates.{angle_line, direction_line, distance_line, level_line, line_text, vector_line}
+use Rattle.gen_net.specs.Candidates.{angle_line, direction_line, distance_line, level_line, candidate_line, vector_line}
 use Rattle.gen_records.specs.Records.{angle_record, direction_record, distance_record, level_record, vector_record}
 use Rattle.gen_records.proofs.CountFacts.{drawn-below}
 use Rattle.gen_records.proofs.LongLines.{IsLong}
@@ -43,7 +43,7 @@ fields_of name word from to to2 sd sdh price = name ∷ word ∷ from ∷ to ∷
 
 -- a text is the name of the point of this number, which has both parts
 pub record IsNamed (points : List PointRecord) (text : List ℕ) (place : ℕ) : Type 0 where
-  pub at : place_of text (names_of points) ≡ Some place
+  pub at : place_of text (point_names points) ≡ Some place
   pub plane : lacks_plane points place ≡ false
   pub height : lacks_height points place ≡ false
   pub plain : IsPlain text
@@ -67,10 +67,10 @@ record IsHeightText (k : Kind) (text : List ℕ) (sdh : Option ℕ) : Type 0 whe
 -- the row is a line of the table, stands for a candidate, and breaks no rule
 pub record IsCandidateRow (points : List PointRecord) (row : List (List ℕ)) (candidate : CandidateRecord) : Type 0 where
   pub is_line : IsLine row
-  pub reads : candidate_of points row ≡ candidate
+  pub reads : candidate_record_of points row ≡ candidate
   pub kept : IsKeptRow (candidate_rules points) row
 
-kind-kept : (text : List ℕ) (k : Kind) → kind_of text ≡ Some k → first_broken (kind_rules text) ≡ None
+kind-kept : (text : List ℕ) (k : Kind) → kind_named text ≡ Some k → first_broken (kind_rules text) ≡ None
 unfolding kind_rules first_broken
 kind-kept text k e = rw e refl
 
@@ -86,7 +86,7 @@ small-plain : (n : ℕ) → n ≤ 1000 → IsPlain (decimal n)
 small-plain n small = decimal-plain n (omega arith)
 
 candidate-row : (points : List PointRecord) (k : Kind) (name word from_text to_text to2_text sd_text sdh_text : List ℕ) (from to : ℕ) (to2 : Option ℕ) (sd : ℕ) (sdh : Option ℕ) (price : ℕ)
-    → IsPlain name → IsPlain word → kind_of word ≡ Some k → IsNamed points from_text from → IsNamed points to_text to → IsForesightText points k to2_text to2
+    → IsPlain name → IsPlain word → kind_named word ≡ Some k → IsNamed points from_text from → IsNamed points to_text to → IsForesightText points k to2_text to2
     → first_broken (place_rules points (fields_of name word from_text to_text to2_text sd_text sdh_text price) k from to to2) ≡ None
     → IsDeviationText sd_text sd → IsHeightText k sdh_text sdh → price ≤ 1000
     → IsCandidateRow points (fields_of name word from_text to_text to2_text sd_text sdh_text price)
@@ -177,28 +177,28 @@ long-between points a b long =
 module _ (points : List PointRecord) (row : List (List ℕ)) (from to : ℕ) (from_text to_text : List ℕ) where
   distance-places : is_empty (text_at row 4) ≡ true → is_empty (text_at row 6) ≡ true → (from == to) ≡ false → IsNamed points from_text from → IsNamed points to_text to
       → IsBetweenBounds points from to → first_broken (place_rules points row kind.Distance from to None) ≡ None
-  unfolding place_rules extra_rules part_rules lines_rules length_rules bound_rules rules_of first_broken
+  unfolding place_rules extra_rules needed_part_rules lines_rules length_rules bound_rules rules_of first_broken
   distance-places no_to2 no_sdh apart at_from at_to between = rw (no_to2, no_sdh, apart, at_from.plane, at_to.plane, between.from_1_m, between.to_100_km) refl
 
   direction-places : is_empty (text_at row 4) ≡ true → is_empty (text_at row 6) ≡ true → (from == to) ≡ false → IsNamed points from_text from → IsNamed points to_text to
       → IsBetweenBounds points from to → first_broken (place_rules points row kind.Direction from to None) ≡ None
-  unfolding place_rules extra_rules part_rules lines_rules length_rules bound_rules rules_of first_broken
+  unfolding place_rules extra_rules needed_part_rules lines_rules length_rules bound_rules rules_of first_broken
   direction-places no_to2 no_sdh apart at_from at_to between = rw (no_to2, no_sdh, apart, at_from.plane, at_to.plane, between.from_10_m, between.to_100_km) refl
 
   level-places : is_empty (text_at row 4) ≡ true → is_empty (text_at row 6) ≡ true → (from == to) ≡ false → IsNamed points from_text from → IsNamed points to_text to
       → first_broken (place_rules points row kind.Level from to None) ≡ None
-  unfolding place_rules extra_rules part_rules lines_rules length_rules rules_of first_broken
+  unfolding place_rules extra_rules needed_part_rules lines_rules length_rules rules_of first_broken
   level-places no_to2 no_sdh apart at_from at_to = rw (no_to2, no_sdh, apart, at_from.height, at_to.height) refl
 
   vector-places : is_empty (text_at row 4) ≡ true → (from == to) ≡ false → IsNamed points from_text from → IsNamed points to_text to
       → first_broken (place_rules points row kind.Vector from to None) ≡ None
-  unfolding place_rules extra_rules part_rules lines_rules length_rules rules_of first_broken
+  unfolding place_rules extra_rules needed_part_rules lines_rules length_rules rules_of first_broken
   vector-places no_to2 apart at_from at_to = rw (no_to2, apart, at_from.plane, at_to.plane, at_from.height, at_to.height) refl
 
   angle-places : (to2 : ℕ) (to2_text : List ℕ) → is_empty (text_at row 6) ≡ true → (from == to) ≡ false → (from == to2) ≡ false → (to == to2) ≡ false
       → IsNamed points from_text from → IsNamed points to_text to → IsNamed points to2_text to2 → IsBetweenBounds points from to → IsBetweenBounds points from to2
       → first_broken (place_rules points row kind.Angle from to (Some to2)) ≡ None
-  unfolding place_rules extra_rules part_rules lines_rules length_rules bound_rules rules_of first_broken
+  unfolding place_rules extra_rules needed_part_rules lines_rules length_rules bound_rules rules_of first_broken
   angle-places to2 to2_text no_sdh apart apart_from apart_to at_from at_to at_to2 between between_to2 =
       rw (no_sdh, apart, apart_from, apart_to, at_from.plane, at_to.plane, at_to2.plane, between.from_10_m, between.to_100_km, between_to2.from_10_m, between_to2.to_100_km) refl
 
@@ -231,7 +231,7 @@ price-small base seed price n low some few = below (drawn seed price n) (drawn-b
 module _ (points : List PointRecord) (seed price number : ℕ) (from_text to_text : List ℕ) (from to : ℕ) (small : number ≤ 1000) (apart : (from == to) ≡ false)
     (at_from : IsNamed points from_text from) (at_to : IsNamed points to_text to) where
   pub vector-row : IsCandidateRow points (vector_row seed price number from_text to_text) (vector_record seed price number from to)
-  unfolding vector_row vector_record kind_of rules_of
+  unfolding vector_row vector_record kind_named rules_of
   vector-row =
       candidate-row points kind.Vector (label (codes "v") number) (codes "vector") from_text to_text (codes "") (codes "10.00") (codes "15.00") from to None 1000 (Some 1500) (40 + drawn seed price 20)
       (label-plain (codes "v") number (plain-tested (codes "v") refl) small) (plain-tested (codes "vector") refl) refl at_from at_to (no-foresight points kind.Vector refl)
@@ -239,7 +239,7 @@ module _ (points : List PointRecord) (seed price number : ℕ) (from_text to_tex
       deviation-10 height-15 (price-small 40 seed price 20 (omega arith) (omega arith) (omega arith))
 
   pub level-row : IsCandidateRow points (level_row seed price number from_text to_text) (level_record seed price number from to)
-  unfolding level_row level_record kind_of rules_of
+  unfolding level_row level_record kind_named rules_of
   level-row =
       candidate-row points kind.Level (label (codes "l") number) (codes "level") from_text to_text (codes "") (codes "10.00") (codes "") from to None 1000 None (100 + drawn seed price 50)
       (label-plain (codes "l") number (plain-tested (codes "l") refl) small) (plain-tested (codes "level") refl) refl at_from at_to (no-foresight points kind.Level refl)
@@ -247,7 +247,7 @@ module _ (points : List PointRecord) (seed price number : ℕ) (from_text to_tex
       deviation-10 (no-height kind.Level refl) (price-small 100 seed price 50 (omega arith) (omega arith) (omega arith))
 
   pub distance-row : IsLong points from to → IsCandidateRow points (distance_row seed price number from_text to_text) (distance_record seed price number from to)
-  unfolding distance_row distance_record kind_of rules_of
+  unfolding distance_row distance_record kind_named rules_of
   distance-row long =
       candidate-row points kind.Distance (label (codes "d") number) (codes "distance") from_text to_text (codes "") (codes "8.00") (codes "") from to None 800 None (150 + drawn seed price 50)
       (label-plain (codes "d") number (plain-tested (codes "d") refl) small) (plain-tested (codes "distance") refl) refl at_from at_to (no-foresight points kind.Distance refl)
@@ -256,7 +256,7 @@ module _ (points : List PointRecord) (seed price number : ℕ) (from_text to_tex
       deviation-8 (no-height kind.Distance refl) (price-small 150 seed price 50 (omega arith) (omega arith) (omega arith))
 
   pub direction-row : IsLong points from to → IsCandidateRow points (direction_row seed price number from_text to_text) (direction_record seed price number from to)
-  unfolding direction_row direction_record kind_of rules_of
+  unfolding direction_row direction_record kind_named rules_of
   direction-row long =
       candidate-row points kind.Direction (label (codes "r") number) (codes "direction") from_text to_text (codes "") (codes "10.00") (codes "") from to None 1000 None (150 + drawn seed price 50)
       (label-plain (codes "r") number (plain-tested (codes "r") refl) small) (plain-tested (codes "direction") refl) refl at_from at_to (no-foresight points kind.Direction refl)
@@ -266,7 +266,7 @@ module _ (points : List PointRecord) (seed price number : ℕ) (from_text to_tex
 
   pub angle-row : (to2_text : List ℕ) (to2 : ℕ) → (from == to2) ≡ false → (to == to2) ≡ false → IsNamed points to2_text to2 → IsLong points from to → IsLong points from to2
       → IsCandidateRow points (angle_row seed price number from_text to_text to2_text) (angle_record seed price number from to to2)
-  unfolding angle_row angle_record kind_of rules_of
+  unfolding angle_row angle_record kind_named rules_of
   angle-row to2_text to2 apart_from apart_to at_to2 long long_to2 =
       candidate-row points kind.Angle (label (codes "a") number) (codes "angle") from_text to_text to2_text (codes "15.00") (codes "") from to (Some to2) 1500 None (150 + drawn seed price 50)
       (label-plain (codes "a") number (plain-tested (codes "a") refl) small) (plain-tested (codes "angle") refl) refl at_from at_to (angle-foresight points to2_text to2 at_to2)
@@ -282,7 +282,7 @@ fields-text : (a b c d e f g h : List ℕ)
 unfolding line_rest
 fields-text a b c d e f g h = simp append_assoc
 
-text-line : (name word from to to2 sd sdh : List ℕ) (price : ℕ) → line_text name word from to to2 sd sdh price ≡ row_line (fields_of name word from to to2 sd sdh price)
+text-line : (name word from to to2 sd sdh : List ℕ) (price : ℕ) → candidate_line name word from to to2 sd sdh price ≡ row_line (fields_of name word from to to2 sd sdh price)
 unfolding row_line
 text-line name word from to to2 sd sdh price = fields-text name word from to to2 sd sdh (decimal price)
 

@@ -11,7 +11,7 @@ use Rattle.table_columns.specs.Columns.{named_table}
 use Rattle.table_columns.specs.Names.{is_among}
 use Rattle.point_tables.specs.declared.record.PointRecord.{PointRecord}
 use Rattle.candidate_tables.specs.declared.record.CandidateRecord.{CandidateRecord}
-use Rattle.candidate_tables.specs.CandidateTable.{candidate_header, candidate_of, candidate_rules, candidates_fault, candidates_of}
+use Rattle.candidate_tables.specs.CandidateTable.{candidate_header, candidate_record_of, candidate_rules, candidates_fault, candidates_of}
 use Rattle.gen_net.specs.Draws.{drawn}
 use Rattle.gen_net.specs.Fields.{label}
 use Rattle.gen_net.specs.Candidates.{angle_lines, candidates_text, direction_lines, distance_lines, drawn_distance, first_fixed, fixed_name, level_lines, second_fixed, vector_lines, vector_pair}
@@ -199,7 +199,7 @@ all-lines points [] (candidate ∷ candidates) are = absurd are
 all-lines points (row ∷ rows) [] are = absurd are
 all-lines points (row ∷ rows) (candidate ∷ candidates) (here, are) = (here.is_line, all-lines points rows candidates are)
 
-all-read : (points : List PointRecord) (rows : List (List (List ℕ))) (candidates : List CandidateRecord) → AreCandidateRows points rows candidates → map (candidate_of points) rows ≡ candidates
+all-read : (points : List PointRecord) (rows : List (List (List ℕ))) (candidates : List CandidateRecord) → AreCandidateRows points rows candidates → map (candidate_record_of points) rows ≡ candidates
 unfolding AreCandidateRows
 all-read points [] [] are = refl
 all-read points [] (candidate ∷ candidates) are = absurd are
@@ -366,8 +366,8 @@ begins seed = refl
 pub candidates-read : (seed : ℕ) → candidates_of (point_records seed) (candidates_text seed) ≡ candidate_records seed
 unfolding candidates_of
 candidates-read seed =
-    ap (λ (t : List ℕ). map (candidate_of (point_records seed)) (drop 1 (table_rows t))) (text-is seed)
-    ∙ ap (λ (rows : List (List (List ℕ))). map (candidate_of (point_records seed)) (drop 1 rows))
+    ap (λ (t : List ℕ). map (candidate_record_of (point_records seed)) (drop 1 (table_rows t))) (text-is seed)
+    ∙ ap (λ (rows : List (List (List ℕ))). map (candidate_record_of (point_records seed)) (drop 1 rows))
     (rows-read (candidate_header ∷ candidate_rows seed) 110 (codes "ame,kind,from,to,to2,sd,sdh,price\n" ++ lines (candidate_rows seed)) (each-line seed) (begins seed) (omega arith))
     ∙ all-read (point_records seed) (candidate_rows seed) (candidate_records seed) (rows-are seed)
 

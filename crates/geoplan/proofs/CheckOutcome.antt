@@ -9,7 +9,7 @@ use Rattle.geoplan.specs.CommandOf.{SourcesOf}
 use Rattle.geoplan.specs.Ends.{AreBytes}
 use Rattle.geoplan.specs.Loading.{LoadsTables, Loads}
 use Rattle.geoplan.specs.Parts.{log_file, Checks}
-use Rattle.geoplan.specs.Reporting.{Replays}
+use Rattle.geoplan.specs.Reporting.{ReportsReplay}
 use Rattle.geoplan.specs.Standing.{IsOutcomeOf}
 use Rattle.geoplan.specs.Tables.{TablesOf}
 use Rattle.geoplan.proofs.LoadLemmas.{ReadsAll-none, ReadsAll-one, FailsLoad-after, Loads-all}
@@ -17,7 +17,7 @@ use Rattle.geoplan.proofs.StandLemmas.{out_loaded, IsOutcomeOf-refused}
 
 -- the log was replayed
 module _ (sources : SourcesOf) (tables : TablesOf) (log : List ℕ) (before now : ShelfState) (has : Loads (record { verb = verb.Check; sources = sources }) tables before now) (are : AreBytes sources.log before.held log) (ends : Status) (text : List ℕ) where
-  pub IsOutcomeOf-replayed : Replays tables.network log ends text → IsOutcomeOf (record { verb = verb.Check; sources = sources }) before now ends text
+  pub IsOutcomeOf-replayed : ReportsReplay tables.network log ends text → IsOutcomeOf (record { verb = verb.Check; sources = sources }) before now ends text
   IsOutcomeOf-replayed (inl (done, is, inl (e, said))) = subst (λ s. IsOutcomeOf (record { verb = verb.Check; sources = sources }) before now s text) (sym e) (
     tables,
     has.input,

@@ -8,7 +8,7 @@ use Rattle.geoplan.specs.declared.file_kind.FileKind.{FileKind}
 use Rattle.geoplan.specs.declared.file_kind.FileKind.TheVariants as kind
 use Rattle.geoplan.specs.declared.verb.Verb.{Verb}
 use Rattle.geoplan.specs.CommandOf.{CommandOf, FileOf, reads, file_of, files_read}
-use Rattle.geoplan.specs.Input.{InputOf, too_long_input, built_input, IsWithin, too_long_or, judged_input, bytes_held, input_of}
+use Rattle.geoplan.specs.Input.{InputOf, too_long_input, built_input, IsFileWithin, too_long_or, judged_input, bytes_held, input_of}
 use Rattle.geoplan.specs.Loading.{tables_input, more_read}
 use Rattle.geoplan.specs.Tables.{TablesOf}
 use Rattle.geoplan.proofs.CommandFacts.{facts_of}
@@ -26,21 +26,21 @@ short_by most n is = grind (arith, nat_tests)
 
 module _ (files : Files) where
   -- files that are not too long give what is given then
-  pub too_long_or-within : (read : List FileOf) (given : InputOf) → AllByRecursion (IsWithin files) read → too_long_or files read given ≡ given
+  pub too_long_or-within : (read : List FileOf) (given : InputOf) → AllByRecursion (IsFileWithin files) read → too_long_or files read given ≡ given
   too_long_or-within [] given all = refl
   too_long_or-within (file ∷ later) given all = rw (fits file.most (length (bytes_of files file.name)) all.0) (too_long_or-within later given all.1)
 
   -- one after such files is the first
-  pub too_long_or-first : (earlier : List FileOf) (file : FileOf) (later : List FileOf) (given : InputOf) → AllByRecursion (IsWithin files) earlier → file.most < length (bytes_of files file.name) → too_long_or files (earlier ++ file ∷ later) given ≡ too_long_input file.name
+  pub too_long_or-first : (earlier : List FileOf) (file : FileOf) (later : List FileOf) (given : InputOf) → AllByRecursion (IsFileWithin files) earlier → file.most < length (bytes_of files file.name) → too_long_or files (earlier ++ file ∷ later) given ≡ too_long_input file.name
   too_long_or-first [] file later given all long = rw (is_long file.most (length (bytes_of files file.name)) long) refl
   too_long_or-first (one ∷ earlier) file later given all long = rw (fits one.most (length (bytes_of files one.name)) all.0) (too_long_or-first earlier file later given all.1 long)
 
   -- where tables are built, no file is too long
   pub record IsShort (read : List FileOf) (given : InputOf) (tables : TablesOf) : Type 0 where
-    pub all : AllByRecursion (IsWithin files) read
+    pub all : AllByRecursion (IsFileWithin files) read
     pub rest : given ≡ built_input tables
 
-  one_shorter : (file : FileOf) (given : InputOf) (tables : TablesOf) (long : Bool) → nat_lt file.most (length (bytes_of files file.name)) ≡ long → (if long then too_long_input file.name else given) ≡ built_input tables → IsWithin files file × (given ≡ built_input tables)
+  one_shorter : (file : FileOf) (given : InputOf) (tables : TablesOf) (long : Bool) → nat_lt file.most (length (bytes_of files file.name)) ≡ long → (if long then too_long_input file.name else given) ≡ built_input tables → IsFileWithin files file × (given ≡ built_input tables)
   one_shorter file given tables true is built = absurd (cc)
   one_shorter file given tables false is built = (short_by file.most (length (bytes_of files file.name)) is, built)
 
@@ -63,20 +63,20 @@ judged_input-tables which = (facts_of which).reads_tables.judged
 
 module _ (command : CommandOf) (files : Files) where
   -- a file after such that aren't too long is
-  pub input_of-long : (earlier : List FileOf) (file : FileOf) (later : List FileOf) → files_read command ≡ earlier ++ file ∷ later → AllByRecursion (IsWithin files) earlier → file.most < length (bytes_of files file.name) → input_of command files ≡ too_long_input file.name
+  pub input_of-long : (earlier : List FileOf) (file : FileOf) (later : List FileOf) → files_read command ≡ earlier ++ file ∷ later → AllByRecursion (IsFileWithin files) earlier → file.most < length (bytes_of files file.name) → input_of command files ≡ too_long_input file.name
   unfolding input_of
   input_of-long earlier file later order all long =
       ap (λ read. too_long_or files read (judged_input command.sources.redundancy (bytes_held command files) (reads command.verb))) order
       ∙ too_long_or-first files earlier file later _ all long
 
   -- none is
-  pub input_of-short : AllByRecursion (IsWithin files) (files_read command) → input_of command files ≡ tables_input command.sources.redundancy (bytes_of files command.sources.points) (bytes_of files command.sources.candidates)
+  pub input_of-short : AllByRecursion (IsFileWithin files) (files_read command) → input_of command files ≡ tables_input command.sources.redundancy (bytes_of files command.sources.points) (bytes_of files command.sources.candidates)
   unfolding input_of
   input_of-short all = too_long_or-within files (files_read command) _ all ∙ judged_input-tables command.verb command.sources.redundancy (bytes_held command files)
 
   -- what accepted tables say of their files
   pub record IsAccepted (tables : TablesOf) : Type 0 where
-    pub short : AllByRecursion (IsWithin files) (files_read command)
+    pub short : AllByRecursion (IsFileWithin files) (files_read command)
     pub judged : tables_input command.sources.redundancy (bytes_of files command.sources.points) (bytes_of files command.sources.candidates) ≡ built_input tables
 
   pub accepted : (tables : TablesOf) → input_of command files ≡ built_input tables → IsAccepted tables

@@ -12,7 +12,7 @@ use Rattle.geo_model.specs.declared.network.Unknown.{Unknown}
 use Rattle.shelf_io.specs.States.{ShelfState}
 use Rattle.point_tables.specs.declared.record.PointRecord.{PointRecord}
 use Rattle.candidate_tables.specs.declared.record.CandidateRecord.{CandidateRecord}
-use Rattle.design_rows.specs.Unknowns.{coordinates, is_new, is_station, orientation, unknown, unknowns_of}
+use Rattle.design_rows.specs.Unknowns.{coordinates, is_new, is_oriented, orientation, unknown, unknowns_of}
 use Rattle.design_rows.proofs.EntryFacts.{all-of}
 use Rattle.design_rows.proofs.UnknownFacts.{every-append, every-weaker}
 use Rattle.net_build.specs.Bounds.{AreTables}
@@ -27,7 +27,7 @@ use Rattle.geoplan.specs.declared.load.LoadFault.{LoadFault}
 use Rattle.geoplan.specs.declared.load.LoadFault.TheVariants as load
 use Rattle.geoplan.specs.declared.refused_table.RefusedTable.{RefusedTable}
 use Rattle.geoplan.specs.CommandOf.{CommandOf, FileOf, file_of, files_read}
-use Rattle.geoplan.specs.Input.{InputOf, too_long_input, refused_input, built_input, refused_table, IsWithin, input_of}
+use Rattle.geoplan.specs.Input.{InputOf, too_long_input, refused_input, built_input, refused_table, IsFileWithin, input_of}
 use Rattle.geoplan.specs.Loading.{IsGoodNetwork, refused_view, ReadsFile, HasReadFault, FailsRead, ReadsAll, tables_read, more_read, FailsMore, TablesGive, LoadsTables, Loads, HasLoadFault, FailsLoad, tables_input, IsRefusal}
 use Rattle.geoplan.specs.Tables.{TablesOf}
 use Rattle.geoplan.proofs.InputLemmas.{files_read-tables, input_of-long, input_of-short}
@@ -50,7 +50,7 @@ every-snoc P (first ∷ files) file all one = (all.0, every-snoc P files file al
 pub ReadsAll-one : (files : List FileOf) (file : FileOf) (bytes : List ℕ) (before middle now : ShelfState) → ReadsAll files before middle → ReadsFile file bytes middle now → ReadsAll (files ++ file ∷ []) before now
 ReadsAll-one files file bytes before middle now all one = record {
   within = λ held told.
-      every-snoc (IsWithin held) files file (all.within held told)
+      every-snoc (IsFileWithin held) files file (all.within held told)
       (subst (λ b. length b ≤ file.most) (one.has.1 held (all.held ∙ told)) one.has.0);
   held = one.held ∙ all.held;
   quiet = keeps before middle now one.quiet all.quiet;
@@ -59,7 +59,7 @@ ReadsAll-one files file bytes before middle now all one = record {
 -- more files
 pub ReadsAll-more : (files more : List FileOf) (before middle now : ShelfState) → ReadsAll files before middle → ReadsAll more middle now → ReadsAll (files ++ more) before now
 ReadsAll-more files more before middle now all rest = record {
-  within = λ held told. every-append (IsWithin held) files more (all.within held told) (rest.within held (all.held ∙ told));
+  within = λ held told. every-append (IsFileWithin held) files more (all.within held told) (rest.within held (all.held ∙ told));
   held = rest.held ∙ all.held;
   quiet = keeps before middle now rest.quiet all.quiet;
 }
@@ -74,7 +74,7 @@ module _ (command : CommandOf) (earlier : List FileOf) (file : FileOf) (later : 
     file = file;
     later = later;
     order = order;
-    within = λ held told. all-of (IsWithin held) earlier (all.within held told);
+    within = λ held told. all-of (IsFileWithin held) earlier (all.within held told);
     same_name = same;
     fault = record { rose = subst (λ n. Rose n now.faults) all.quiet.same_count fault.rose; last = fault.last };
   }
@@ -193,7 +193,7 @@ unknowns-placed points candidates =
     all-of (λ (u : Unknown). u.point < length points) (unknowns_of points candidates)
     (every-append (λ (u : Unknown). u.point < length points) (flat_map coordinates (enumerate_from 0 points)) (flat_map (orientation candidates) (enumerate_from 0 points))
     (placed-from coordinates (λ k point. coordinates-at (is_new point.plane) (is_new point.height) k) 0 (length points) points (omega arith))
-    (placed-from (orientation candidates) (λ k point. orientation-at (is_station candidates k) k) 0 (length points) points (omega arith)))
+    (placed-from (orientation candidates) (λ k point. orientation-at (is_oriented candidates k) k) 0 (length points) points (omega arith)))
 
 -- the network of two tables has their candidates, and its unknowns are of their points
 good_network : (redundancy : ℕ) (points : List PointRecord) (candidates : List CandidateRecord) → IsNetwork (network_of points candidates redundancy) → AreTables points candidates redundancy →

@@ -20,8 +20,8 @@ use Rattle.geoplan.specs.declared.load.LoadFault.TheVariants as load
 use Rattle.geoplan.specs.declared.log_parts.LogParts.{LogParts}
 use Rattle.geoplan.specs.CommandOf.{most_of}
 use Rattle.geoplan.specs.Loading.{ReadsFile, FailsRead}
-use Rattle.geoplan.specs.Parts.{log_file, Begins, HasRead, ReadsPart}
-use Rattle.geoplan.specs.Reporting.{Ends, HasNoText, Replays}
+use Rattle.geoplan.specs.Parts.{log_file, Begins, HasReadLog, ReadsPart}
+use Rattle.geoplan.specs.Reporting.{Ends, HasNoText, ReportsReplay}
 use Rattle.geoplan.specs.Texts.{replayed_text, log_fault_text}
 use Rattle.geoplan.specs.declared.status.Status.{Status}
 use Rattle.geoplan.specs.declared.status.Status.TheVariants as status
@@ -63,8 +63,8 @@ countable text within = few _ (length text) (count_by-le-length _ text) within
 -- ---- the next part
 
 -- before the first part
-pub HasRead-none : (parts : LogParts) (name : List ℕ) (state : ShelfState) → parts.name.now ≡ name → parts.at ≡ 0 → HasRead name [] parts state state
-HasRead-none parts name state named none = record {
+pub HasReadLog-none : (parts : LogParts) (name : List ℕ) (state : ShelfState) → parts.name.now ≡ name → parts.at ≡ 0 → HasReadLog name [] parts state state
+HasReadLog-none parts name state named none = record {
   named = named;
   counted = none;
   within = omega arith;
@@ -73,7 +73,7 @@ HasRead-none parts name state named none = record {
   quiet = record { same_count = refl; same_last = refl };
 }
 
-module _ (name text : List ℕ) (parts : LogParts) (before middle now : ShelfState) (read : HasRead name text parts before middle) (held : now.held ≡ middle.held) where
+module _ (name text : List ℕ) (parts : LogParts) (before middle now : ShelfState) (read : HasReadLog name text parts before middle) (held : now.held ≡ middle.held) where
   -- there is none
   pub ReadsFile-whole : KeepsFaults middle now → ForSome middle.held (λ files. length (bytes_of files parts.name.now) ≤ parts.at) → ReadsFile (log_file name) text before now
   ReadsFile-whole quiet ends =
@@ -99,8 +99,8 @@ module _ (name text : List ℕ) (parts : LogParts) (before middle now : ShelfSta
         begins_more text part (bytes_of files name) limit (read.begins files told)
         (cut_here files (read.held ∙ told) ∙ ap (λ n. part_from n limit (bytes_of files name)) read.counted)
 
-    pub HasRead-part : (parts_now : LogParts) → parts_now.name.now ≡ parts.name.now → parts_now.at ≡ parts.at + count → parts_now.at ≤ most_of kind.Log → HasRead name (text ++ part) parts_now before now
-    HasRead-part parts_now same_name grown within =
+    pub HasReadLog-part : (parts_now : LogParts) → parts_now.name.now ≡ parts.name.now → parts_now.at ≡ parts.at + count → parts_now.at ≤ most_of kind.Log → HasReadLog name (text ++ part) parts_now before now
+    HasReadLog-part parts_now same_name grown within =
         let long : length (text ++ part) ≡ length text + length part = length-append text part in
         let counted : parts.at ≡ length text = read.counted in
         let new : length part ≡ count = part_long in
@@ -123,7 +123,7 @@ module _ (name text : List ℕ) (parts : LogParts) (before middle now : ShelfSta
         omega arith
 
 -- there was a further part, or none
-pub reads_more : (name text : List ℕ) (more : Bool) (parts parts_now : LogParts) (before now : ShelfState) → ReadsPart name text (Ok more) parts parts_now before now → more ≡ true → HasRead name (text ++ parts_now.part.items) parts_now before now × (parts.at < parts_now.at)
+pub reads_more : (name text : List ℕ) (more : Bool) (parts parts_now : LogParts) (before now : ShelfState) → ReadsPart name text (Ok more) parts parts_now before now → more ≡ true → HasReadLog name (text ++ parts_now.part.items) parts_now before now × (parts.at < parts_now.at)
 reads_more name text true parts parts_now before now reads is = reads
 reads_more name text false parts parts_now before now reads is = absurd (cc)
 
@@ -132,19 +132,19 @@ reads_none name text true parts parts_now before now reads is = absurd (cc)
 reads_none name text false parts parts_now before now reads is = reads
 
 -- memory ran out after some parts
-pub FailsRead-out : (name text : List ℕ) (parts : LogParts) (before now : ShelfState) → HasRead name text parts before now → FailsRead (log_file name) load.NoMemory before now
+pub FailsRead-out : (name text : List ℕ) (parts : LogParts) (before now : ShelfState) → HasReadLog name text parts before now → FailsRead (log_file name) load.NoMemory before now
 FailsRead-out name text parts before now read = record { held = read.held; later = omega (arith, read.quiet.same_count); cause = tt }
 
 -- ---- the text of a log that was handed in whole
 
 -- it is a log
-pub Replays-done : (network : NetworkOf) (log : List ℕ) (done : Replayed) (ends : Status) (text : List ℕ) (made : Result (Vec ℕ Global) NoMemory) → IsReplayed network log done
-    → IfOk made (λ words. words.items ≡ replayed_text done) → MatchResult made (λ words. Ends status.Found words.items ends text) (λ _. HasNoText ends text) → Replays network log ends text
-Replays-done network log done ends text (Ok words) is same ended = inl (done, is, subst (λ w. Ends status.Found w ends text) same ended)
-Replays-done network log done ends text (Err why) is same none = inr (inr none)
+pub ReportsReplay-done : (network : NetworkOf) (log : List ℕ) (done : Replayed) (ends : Status) (text : List ℕ) (made : Result (Vec ℕ Global) NoMemory) → IsReplayed network log done
+    → IfOk made (λ words. words.items ≡ replayed_text done) → MatchResult made (λ words. Ends status.Found words.items ends text) (λ _. HasNoText ends text) → ReportsReplay network log ends text
+ReportsReplay-done network log done ends text (Ok words) is same ended = inl (done, is, subst (λ w. Ends status.Found w ends text) same ended)
+ReportsReplay-done network log done ends text (Err why) is same none = inr (inr none)
 
 -- .. or has a fault
-pub Replays-fault : (network : NetworkOf) (log : List ℕ) (fault : LogFault) (ends : Status) (text : List ℕ) (made : Result (Vec ℕ Global) NoMemory) → IsFirstFault network log fault
-    → IfOk made (λ words. words.items ≡ log_fault_text fault) → MatchResult made (λ words. Ends status.LogRefused words.items ends text) (λ _. HasNoText ends text) → Replays network log ends text
-Replays-fault network log fault ends text (Ok words) is same ended = inr (inl (fault, is, subst (λ w. Ends status.LogRefused w ends text) same ended))
-Replays-fault network log fault ends text (Err why) is same none = inr (inr none)
+pub ReportsReplay-fault : (network : NetworkOf) (log : List ℕ) (fault : LogFault) (ends : Status) (text : List ℕ) (made : Result (Vec ℕ Global) NoMemory) → IsFirstFault network log fault
+    → IfOk made (λ words. words.items ≡ log_fault_text fault) → MatchResult made (λ words. Ends status.LogRefused words.items ends text) (λ _. HasNoText ends text) → ReportsReplay network log ends text
+ReportsReplay-fault network log fault ends text (Ok words) is same ended = inr (inl (fault, is, subst (λ w. Ends status.LogRefused w ends text) same ended))
+ReportsReplay-fault network log fault ends text (Err why) is same none = inr (inr none)

@@ -1,15 +1,15 @@
 use Rattle.std.specs.Prelude.{List, [], ◌∷◌}
 use Rattle.geoplan.specs.declared.command.Command.{Command}
 use Rattle.geoplan.specs.declared.file_kind.FileKind.TheVariants as kind
-use Rattle.geoplan.specs.declared.shape.Shape.{Shape}
-use Rattle.geoplan.specs.declared.shape.Shape.TheVariants as shape
+use Rattle.geoplan.specs.declared.shape.WordShape.{WordShape}
+use Rattle.geoplan.specs.declared.shape.WordShape.TheVariants as shape
 use Rattle.geoplan.specs.declared.sources.Sources.{Sources}
 use Rattle.geoplan.specs.CommandOf.{RoleOf, file_role, redundancy_role, SourcesOf, CommandOf}
 
 -- Commands as their bytes, and the shapes of their words. Only private clauses and proofs cite it.
 
 -- what the further words of a command of this shape stand for
-abbrev pub roles_for : Shape → List RoleOf
+abbrev pub roles_for : WordShape → List RoleOf
 roles_for shape.Tables = file_role kind.Points ∷ file_role kind.Candidates ∷ []
 roles_for (shape.Job last) = file_role kind.Points ∷ file_role kind.Candidates ∷ redundancy_role ∷ file_role last ∷ []
 

@@ -24,8 +24,8 @@ pub data InputOf : Type 0 where
   built_input : TablesOf → InputOf
 
 -- a file has no more bytes than it may have
-abbrev pub IsWithin : Files → FileOf → Type 0
-IsWithin files file = length (bytes_of files file.name) ≤ file.most
+abbrev pub IsFileWithin : Files → FileOf → Type 0
+IsFileWithin files file = length (bytes_of files file.name) ≤ file.most
 
 -- the name of the first of these files that is too long, and where none is what is given then
 abbrev pub too_long_or : Files → List FileOf → InputOf → InputOf

@@ -21,7 +21,7 @@ use Rattle.geoplan.specs.declared.refused_table.RefusedTable.{RefusedTable}
 use Rattle.geoplan.specs.declared.verb.Verb.{Verb}
 use Rattle.geoplan.specs.CommandOf.{CommandOf, FileOf, reads, file_of, files_read}
 use Rattle.geoplan.specs.Ends.{AreHeldTables}
-use Rattle.geoplan.specs.Input.{InputOf, too_long_input, refused_input, built_input, refused_table, refused_or, IsWithin, accepted_input, input_of}
+use Rattle.geoplan.specs.Input.{InputOf, too_long_input, refused_input, built_input, refused_table, refused_or, IsFileWithin, accepted_input, input_of}
 use Rattle.geoplan.specs.Tables.{TablesOf, RefusedOf}
 
 -- What reading the files of a command does. Only private clauses and proofs cite it. This project's own.
@@ -90,7 +90,7 @@ pub record FailsRead (file : FileOf) (why : LoadFault) (before now : ShelfState)
 
 -- files were read one after another, and no fault was counted
 pub record ReadsAll (files : List FileOf) (before now : ShelfState) : Type 0 where
-  pub within : ForSome before.held (λ held. AllByRecursion (IsWithin held) files)
+  pub within : ForSome before.held (λ held. AllByRecursion (IsFileWithin held) files)
   pub held : now.held ≡ before.held
   pub quiet : KeepsFaults before now
 
@@ -141,7 +141,7 @@ pub record FailsInOrder (files : List FileOf) (name : List ℕ) (before now : Sh
   pub file : FileOf
   pub later : List FileOf
   pub order : files ≡ earlier ++ file ∷ later
-  pub within : ForSome before.held (λ held. All (IsWithin held) earlier)
+  pub within : ForSome before.held (λ held. All (IsFileWithin held) earlier)
   pub same_name : name ≡ file.name
   pub fault : FailsAt file.name before now
 

@@ -21,7 +21,7 @@ use Rattle.log_check.specs.FirstFault.{IsFirstFault}
 use Rattle.log_check.specs.Replayed.{IsReplayed}
 use Rattle.idle_splits.specs.NoIdle.{NoSplitIsIdle}
 use Rattle.geoplan.specs.CommandOf.{CommandOf, FileOf, command_of}
-use Rattle.geoplan.specs.Input.{InputOf, too_long_input, refused_input, IsWithin, input_of}
+use Rattle.geoplan.specs.Input.{InputOf, too_long_input, refused_input, IsFileWithin, input_of}
 use Rattle.geoplan.specs.Tables.{TablesOf, RefusedOf}
 use Rattle.plan_report.specs.ReportText.{no_plan_text}
 use Rattle.geoplan.specs.Texts.{words_text, cannot_read_text, too_long_text, table_text, tables_plan_text, tables_undecided_text, tables_rows_text, replayed_text, log_fault_text}
@@ -173,7 +173,7 @@ pub record FailsToRead (files : List FileOf) (before now : ShelfState) (text : L
   pub file : FileOf
   pub later : List FileOf
   pub order : files ≡ earlier ++ file ∷ later
-  pub within : ForSome before.held (λ held. All (IsWithin held) earlier)
+  pub within : ForSome before.held (λ held. All (IsFileWithin held) earlier)
   pub rose : Rose before.faults now.faults
   pub last : now.last_fault ≡ Some (read_of file.name)
   pub held : now.held ≡ before.held

@@ -10,7 +10,7 @@ use Rattle.geoplan.specs.declared.log_parts.LogParts.{LogParts}
 use Rattle.geoplan.specs.declared.status.Status.{Status}
 use Rattle.geoplan.specs.CommandOf.{FileOf, most_of}
 use Rattle.geoplan.specs.Loading.{ReadsFile, FailsRead}
-use Rattle.geoplan.specs.Reporting.{Replays, Refused}
+use Rattle.geoplan.specs.Reporting.{ReportsReplay, Refused}
 
 -- A log that is read in parts. Only private clauses and proofs cite it. This project's own.
 
@@ -23,7 +23,7 @@ abbrev pub Begins : List ℕ → List ℕ → Type 0
 Begins text bytes = (rest : List ℕ) × (bytes ≡ text ++ rest)
 
 -- this text was read of a log so far: it isn't too long, the log that the shelf holds begins with it, and no fault was counted
-pub record HasRead (name text : List ℕ) (parts : LogParts) (before now : ShelfState) : Type 0 where
+pub record HasReadLog (name text : List ℕ) (parts : LogParts) (before now : ShelfState) : Type 0 where
   pub named : parts.name.now ≡ name
   pub counted : parts.at ≡ length text
   pub within : length text ≤ most_of kind.Log
@@ -34,12 +34,12 @@ pub record HasRead (name text : List ℕ) (parts : LogParts) (before now : Shelf
 -- what the call for the next part answers after this text: the text is longer by a part that isn't empty, or is the whole
 -- log; or the log is too long or was not read
 abbrev pub ReadsPart : List ℕ → List ℕ → Result Bool LoadFault → LogParts → LogParts → ShelfState → ShelfState → Type 0
-ReadsPart name text (Ok true) parts parts_now before now = HasRead name (text ++ parts_now.part.items) parts_now before now × (parts.at < parts_now.at)
+ReadsPart name text (Ok true) parts parts_now before now = HasReadLog name (text ++ parts_now.part.items) parts_now before now × (parts.at < parts_now.at)
 ReadsPart name text (Ok false) parts parts_now before now = ReadsFile (log_file name) text before now
 ReadsPart name text (Err why) parts parts_now before now = FailsRead (log_file name) why before now
 
 -- the status and the text of a log that is read and replayed over a network
 abbrev pub Checks : NetworkOf → List ℕ → ShelfState → ShelfState → Status → List ℕ → Type 0
 Checks network name before now ends text =
-    ((log : List ℕ) × ReadsFile (log_file name) log before now × Replays network log ends text)
+    ((log : List ℕ) × ReadsFile (log_file name) log before now × ReportsReplay network log ends text)
     ⊎ ((why : LoadFault) × FailsRead (log_file name) why before now × Refused why ends text)

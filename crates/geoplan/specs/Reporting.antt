@@ -39,8 +39,8 @@ Reports tables counts given ends text =
     ⊎ HasNoText ends text
 
 -- the status and the text of a log that is replayed over a network
-abbrev pub Replays : NetworkOf → List ℕ → Status → List ℕ → Type 0
-Replays network log ends text =
+abbrev pub ReportsReplay : NetworkOf → List ℕ → Status → List ℕ → Type 0
+ReportsReplay network log ends text =
     ((done : Replayed) × IsReplayed network log done × Ends status.Found (replayed_text done) ends text)
     ⊎ (((fault : LogFault) × IsFirstFault network log fault × Ends status.LogRefused (log_fault_text fault) ends text)
     ⊎ HasNoText ends text)

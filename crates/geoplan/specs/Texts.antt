@@ -83,17 +83,17 @@ log_fault_text fault = codes "refused," ++ (decimal fault.line ++ (codes "," ++ 
 -- .. of a plan of their candidates, with the counts of the lines of its log
 abbrev pub tables_plan_text : TablesOf → List Bool → Counts → List ℕ
 tables_plan_text tables plan counts =
-    plan_text tables.points (candidate.names_of tables.candidates) tables.redundancy tables.network plan counts
+    plan_text tables.points (candidate.candidate_names tables.candidates) tables.redundancy tables.network plan counts
 
 -- .. of such a plan that is not decided, with the kind of its open limit, the step and the interval
 abbrev pub tables_undecided_text : TablesOf → List Bool → Counts → LimitKind → ℕ → ℤ → ℤ → List ℕ
 tables_undecided_text tables plan counts kind step lo hi =
-    undecided_text (candidate.names_of tables.candidates) tables.network plan
-    (open_text (which_text (point.names_of tables.points) (candidate.names_of tables.candidates) kind) step lo hi) counts
+    undecided_text (candidate.candidate_names tables.candidates) tables.network plan
+    (open_text (which_text (point.point_names tables.points) (candidate.candidate_names tables.candidates) kind) step lo hi) counts
 
 -- .. of the unknowns and the rows of their network
 abbrev pub tables_rows_text : TablesOf → List ℕ
-tables_rows_text tables = rows_text (point.names_of tables.points) (candidate.names_of tables.candidates) tables.network
+tables_rows_text tables = rows_text (point.point_names tables.points) (candidate.candidate_names tables.candidates) tables.network
 
 -- ---- a log that is accepted
 

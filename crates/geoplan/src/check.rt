@@ -3,7 +3,7 @@ ghost use Rattle.std.specs.Prelude.{◌≡◌, ℕ, List, [], ◌++◌, OnOk, If
 ghost use Rattle.log_check.specs.Fed.{HasFed, IsCountable};
 ghost use Rattle.geoplan.specs.Loading.{ReadsFile, FailsRead};
 ghost use Rattle.geoplan.specs.Parts.{log_file, Checks};
-ghost use Rattle.geoplan.specs.Reporting.{Replays};
+ghost use Rattle.geoplan.specs.Reporting.{ReportsReplay};
 
 use crate::load::LoadFault;
 use crate::log_parts::LogParts;
@@ -59,7 +59,7 @@ fn feed_log<'a, H: Shelf>(
 /// The status and the text of a log that was handed in whole.
 fn replayed(alloc: Global, replayer: Replayer<'_>) -> Outcome
     ensures { (log : List ℕ) → HasFed log replayer.entry → IsCountable log →
-        Replays replayer.entry.network log result.status result.text.items }
+        ReportsReplay replayer.entry.network log result.status result.text.items }
 {
     match replayer.finish() {
         Ok(done) => {

@@ -3,7 +3,7 @@ ghost use Rattle.std.specs.List.{list_all};
 ghost use Rattle.geoplan.specs.CommandOf.{is_plain, command_from, command_of, sources_from};
 ghost use Rattle.geoplan.specs.CommandView.{roles_for, sources_view, command_view};
 
-use crate::shape::Shape;
+use crate::shape::WordShape;
 use crate::sources::Sources;
 use crate::verb::Verb;
 use crate::words::Words;
@@ -48,19 +48,19 @@ impl<'a> Command<'a> {
 }
 
 /// What the words after that of the command give, which are as many as its shape asks for.
-fn sources_of<'a>(shape: Shape, words: &'a Words) -> Option<Sources<'a>>
+fn sources_of<'a>(shape: WordShape, words: &'a Words) -> Option<Sources<'a>>
     requires { 2 ≤ length words.now }
     ensures sources { option_map sources_view result ≡ sources_from (roles_for shape) (drop 2 words.now) }
     ensures within { IfSome result (λ sources. sources.redundancy ≤ 999) }
 {
     match shape {
-        Shape::Job(last) => {
+        WordShape::Job(last) => {
             if words.len() != 6 {
                 return None;
             }
             Sources::of_job(words.get(2), words.get(3), words.get(4), last, words.get(5))
         }
-        Shape::Tables => {
+        WordShape::Tables => {
             if words.len() != 4 {
                 return None;
             }

@@ -1,6 +1,6 @@
 ghost use Rattle.std.specs.Prelude.{◌≡◌, ◌^◌, ◌≤◌, ℕ, List, [], IfOk};
 ghost use Rattle.shelf_io.specs.States.{ShelfState};
-ghost use Rattle.geoplan.specs.Parts.{HasRead, ReadsPart};
+ghost use Rattle.geoplan.specs.Parts.{HasReadLog, ReadsPart};
 
 use crate::file_kind::FileKind;
 use crate::load::LoadFault;
@@ -22,7 +22,7 @@ pub struct LogParts<'a> {
 impl<'a> LogParts<'a> {
     /// Before the first part. It takes the room for a part.
     pub fn new(alloc: Global, name: &'a str) -> Result<LogParts<'a>, NoMemory>
-        ensures { IfOk result (λ parts. (state : ShelfState) → HasRead name.entry.now [] parts state state) }
+        ensures { IfOk result (λ parts. (state : ShelfState) → HasReadLog name.entry.now [] parts state state) }
     {
         let part = Vec::with_capacity(alloc, PART as usize)?;
         Ok(LogParts { name, at: 0, part })
@@ -32,7 +32,7 @@ impl<'a> LogParts<'a> {
     /// log may have.
     pub fn read_next<H: Shelf>(&mut self, shelf: &mut H) -> Result<bool, LoadFault<'a>>
         requires { self.old.at ≤ 2 ^ 28 }
-        ensures { (name text : List ℕ) (before : ShelfState) → HasRead name text self.old before (H.state shelf.old) →
+        ensures { (name text : List ℕ) (before : ShelfState) → HasReadLog name text self.old before (H.state shelf.old) →
             ReadsPart name text result self.old self.new before (H.state shelf.new) }
     {
         self.part.clear();

@@ -2,7 +2,7 @@ use crate::file_kind::FileKind;
 
 /// What the further words of a command stand for.
 #[derive(Clone, Copy, Debug, PartialEq, Eq)]
-pub enum Shape {
+pub enum WordShape {
     /// Two tables.
     Tables,
     /// Two tables, a redundancy, and a file of this kind.

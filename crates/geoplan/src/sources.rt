@@ -1,7 +1,7 @@
 ghost use Rattle.std.specs.Prelude.{◌≡◌, ◌≤◌, [], ◌∷◌, option_map, IfSome};
 ghost use Rattle.geoplan.specs.CommandOf.{name_of, sources_from, with_name};
 ghost use Rattle.geoplan.specs.CommandView.{roles_for, sources_view};
-ghost use Rattle.geoplan.specs.declared.shape.Shape.TheVariants as shape;
+ghost use Rattle.geoplan.specs.declared.shape.WordShape.TheVariants as shape;
 
 use crate::file_kind::FileKind;
 use crate::words::is_same;

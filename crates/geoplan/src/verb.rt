@@ -4,7 +4,7 @@ ghost use Rattle.geoplan.specs.CommandView.{roles_for};
 ghost use Rattle.geoplan.specs.Loading.{more_kinds, listed};
 
 use crate::file_kind::FileKind;
-use crate::shape::Shape;
+use crate::shape::WordShape;
 use crate::words::is_same;
 
 /// What a command does.
@@ -38,13 +38,13 @@ impl Verb {
         }
     }
     /// What its further words stand for.
-    pub fn shape(self) -> Shape
+    pub fn shape(self) -> WordShape
         ensures { roles_of self ≡ roles_for result }
     {
         match self {
-            Verb::Plan | Verb::Check => Shape::Job(FileKind::Log),
-            Verb::Rows => Shape::Tables,
-            Verb::Trial => Shape::Job(FileKind::Script),
+            Verb::Plan | Verb::Check => WordShape::Job(FileKind::Log),
+            Verb::Rows => WordShape::Tables,
+            Verb::Trial => WordShape::Job(FileKind::Script),
         }
     }
 

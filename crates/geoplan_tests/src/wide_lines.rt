@@ -6,17 +6,17 @@ use std::test::Fail;
 // The records of a line of heights, with a level to each from the one before, and the displacement of
 // each by one more than the one before.
 #[derive(Drop)]
-struct Line {
+struct HeightLine {
     points: Vec<u8>,
     candidates: Vec<u8>,
     log: Vec<u8>,
 }
 
 // A line without heights: a fixed one, and a log that breaks limit 63 by 64 pairs.
-fn no_heights(alloc: Global) -> Result<Line, Fail> {
+fn no_heights(alloc: Global) -> Result<HeightLine, Fail> {
     let mut points = POINT_HEADER.as_bytes().to_vec(alloc)?;
     points.extend_from_slice(b"H0,,,0.000,,fixed\n")?;
-    Ok(Line {
+    Ok(HeightLine {
         points,
         candidates: CANDIDATE_HEADER.as_bytes().to_vec(alloc)?,
         log: b"geoplan-log 1\nx 63 64".to_vec(alloc)?,
@@ -24,7 +24,7 @@ fn no_heights(alloc: Global) -> Result<Line, Fail> {
 }
 
 // Adds a height to a line, whose number is one more than that of its unknown.
-fn add_height(alloc: Global, line: &mut Line, unknown: u8) -> Result<(), Fail> {
+fn add_height(alloc: Global, line: &mut HeightLine, unknown: u8) -> Result<(), Fail> {
     let height = u32::from(unknown) + 1;
     let point = format!(in alloc; "H{height},,,0.000,,1.0\n")?;
     line.points.extend_from_slice(point.as_bytes())?;

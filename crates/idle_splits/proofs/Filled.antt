@@ -15,7 +15,7 @@ use Rattle.geo_model.proofs.PriceLemmas.{counted_if, network_stations}
 use Rattle.cut_pool.specs.Cut.{CutOf, cover}
 use Rattle.bound_log.specs.declared.bound.Bound.TheVariants.{AtLeast}
 use Rattle.idle_splits.specs.Fillings.{IsPlanOf, IsFilling, IsMixedBelow}
-use Rattle.idle_splits.specs.Idle.{coefficient_at, price_at}
+use Rattle.idle_splits.specs.Idle.{cover_coefficient, price_at}
 use Rattle.idle_splits.specs.UnitShares.{IsDearByKept}
 use Rattle.idle_splits.specs.declared.filling.Filling.{Filling}
 use Rattle.idle_splits.specs.declared.unit_cuts.UnitCuts.{UnitCuts}
@@ -82,7 +82,7 @@ held network node cuts k earlier bound cut one two first second bounds is_one is
     let same : cut ≡ other = same_some cut other (sym found ∙ found_too) in
     let weighs = dear.2.weighs in
     let above = dear.2.above in
-    let low = mixed_bound (prices_of network) (coefficient_at (cover other) candidate) (price_at network candidate) other.coefficients other.bound earlier mixed.one mixed.two node one two
+    let low = mixed_bound (prices_of network) (cover_coefficient (cover other) candidate) (price_at network candidate) other.coefficients other.bound earlier mixed.one mixed.two node one two
     (network_stations network bounds) (omega arith) is_one.above is_one.below is_two.above is_two.below mixed.some
     (reached mixed.one mixed.two bound other.bound first.weight (chosen_sum other.coefficients one) second.weight (chosen_sum other.coefficients two)
     (bound_is ∙ ap (λ (c : CutOf). c.bound) same) (fills.weight other found_too) (fills_too.weight other found_too) mixed.reaches)

@@ -14,7 +14,7 @@ use Rattle.bound_log.specs.declared.log_line.LogLine.{LogLine}
 use Rattle.bound_log.specs.declared.log_line.LogLine.TheVariants.{Split, Leaf}
 use Rattle.bound_log.proofs.BoundLemmas.{lesser_none, lesser_assoc}
 use Rattle.idle_splits.specs.Idle.{IsIdle, IsNoMore}
-use Rattle.idle_splits.specs.NoIdle.{HasNoIdle, line_bound, IsEarlier, NoSplitIsIdle}
+use Rattle.idle_splits.specs.NoIdle.{HasNoIdle, placed_line_bound, IsEarlier, NoSplitIsIdle}
 use Rattle.idle_splits.proofs.Falls.{IsIdle-falls}
 
 abbrev Placed : Type 0
@@ -24,13 +24,13 @@ Placed = Node × LogLine
 
 abbrev least_bound : NetworkOf → List Placed → Bound
 least_bound network [] = NoPlan
-least_bound network (line ∷ rest) = lesser (line_bound network line) (least_bound network rest)
+least_bound network (line ∷ rest) = lesser (placed_line_bound network line) (least_bound network rest)
 
 least_bound-append : (network : NetworkOf) (xs ys : List Placed) → least_bound network (xs ++ ys) ≡ lesser (least_bound network xs) (least_bound network ys)
 least_bound-append network [] ys = refl
 least_bound-append network (x ∷ xs) ys =
-    ap (lesser (line_bound network x)) (least_bound-append network xs ys)
-    ∙ sym (lesser_assoc (line_bound network x) (least_bound network xs) (least_bound network ys))
+    ap (lesser (placed_line_bound network x)) (least_bound-append network xs ys)
+    ∙ sym (lesser_assoc (placed_line_bound network x) (least_bound network xs) (least_bound network ys))
 
 placed_bound : (network : NetworkOf) (node : Node) (tree : Tree) → least_bound network (placed node tree) ≡ bound_at network node tree
 placed_bound network node (tip end) = lesser_none (leaf_bound network node end)
@@ -62,7 +62,7 @@ lesser-right (AtLeast x) (AtLeast y) (AtLeast z) less = omega arith
 
 -- ---- the least bound is an earlier one, and no more than any
 
-IsEarlier-here : (network : NetworkOf) (line : Placed) (rest : List Placed) (bound : Bound) → line_bound network line ≡ bound → IsEarlier network (line ∷ rest) bound
+IsEarlier-here : (network : NetworkOf) (line : Placed) (rest : List Placed) (bound : Bound) → placed_line_bound network line ≡ bound → IsEarlier network (line ∷ rest) bound
 IsEarlier-here network line rest NoPlan is = tt
 IsEarlier-here network line rest (AtLeast price) is = (0, line, omega arith, refl, is)
 
@@ -73,21 +73,21 @@ IsEarlier-later network line rest (AtLeast price) found = (suc found.0, found.1,
 least_is_earlier : (network : NetworkOf) (lines : List Placed) → IsEarlier network lines (least_bound network lines)
 least_is_earlier network [] = tt
 least_is_earlier network (line ∷ rest) =
-    elim (lesser_cases (line_bound network line) (least_bound network rest)) [
-      | inl first ↦ IsEarlier-here network line rest (lesser (line_bound network line) (least_bound network rest)) (sym first)
+    elim (lesser_cases (placed_line_bound network line) (least_bound network rest)) [
+      | inl first ↦ IsEarlier-here network line rest (lesser (placed_line_bound network line) (least_bound network rest)) (sym first)
       | inr later ↦
           subst (λ (b : Bound). IsEarlier network (line ∷ rest) b) (sym later)
           (IsEarlier-later network line rest (least_bound network rest) (least_is_earlier network rest))
     ]
 
-no_more_than_line : (network : NetworkOf) (lines : List Placed) (k : ℕ) (line : Placed) (price : ℕ) → k < length lines → get_or lines k line ≡ line → line_bound network line ≡ AtLeast price
+no_more_than_line : (network : NetworkOf) (lines : List Placed) (k : ℕ) (line : Placed) (price : ℕ) → k < length lines → get_or lines k line ≡ line → placed_line_bound network line ≡ AtLeast price
     → IsNoMore (least_bound network lines) (AtLeast price)
 no_more_than_line network [] k line price inside here is = absurd (omega arith)
 no_more_than_line network (first ∷ rest) zero line price inside here is =
-    subst (λ (b : Bound). IsNoMore (lesser (line_bound network first) (least_bound network rest)) b) (ap (line_bound network) here ∙ is)
-    (lesser-left (line_bound network first) (least_bound network rest))
+    subst (λ (b : Bound). IsNoMore (lesser (placed_line_bound network first) (least_bound network rest)) b) (ap (placed_line_bound network) here ∙ is)
+    (lesser-left (placed_line_bound network first) (least_bound network rest))
 no_more_than_line network (first ∷ rest) (suc k) line price inside here is =
-    lesser-right (line_bound network first) (least_bound network rest) (AtLeast price) (no_more_than_line network rest k line price (omega arith) here is)
+    lesser-right (placed_line_bound network first) (least_bound network rest) (AtLeast price) (no_more_than_line network rest k line price (omega arith) here is)
 
 no_more_than_earlier : (network : NetworkOf) (lines : List Placed) (bound : Bound) → IsEarlier network lines bound → IsNoMore (least_bound network lines) bound
 no_more_than_earlier network lines NoPlan found = tt
@@ -101,7 +101,7 @@ IsIdleLine network earlier (node, Leaf end) = ⊥
 
 abbrev NoneIdle : NetworkOf → Bound → List Placed → Type 0
 NoneIdle network earlier [] = Unit {0}
-NoneIdle network earlier (line ∷ rest) = (IsIdleLine network earlier line → ⊥) × NoneIdle network (lesser earlier (line_bound network line)) rest
+NoneIdle network earlier (line ∷ rest) = (IsIdleLine network earlier line → ⊥) × NoneIdle network (lesser earlier (placed_line_bound network line)) rest
 
 abbrev after : NetworkOf → Bound → List Placed → Bound
 after network earlier lines = lesser earlier (least_bound network lines)
@@ -110,19 +110,19 @@ NoneIdle-join : (network : NetworkOf) (earlier : Bound) (xs ys : List Placed) �
 NoneIdle-join network earlier [] ys first second = subst (λ (b : Bound). NoneIdle network b ys) (lesser_none earlier) second
 NoneIdle-join network earlier (x ∷ xs) ys first second = (
   first.0,
-  NoneIdle-join network (lesser earlier (line_bound network x)) xs ys first.1
-      (subst (λ (b : Bound). NoneIdle network b ys) (sym (lesser_assoc earlier (line_bound network x) (least_bound network xs))) second),
+  NoneIdle-join network (lesser earlier (placed_line_bound network x)) xs ys first.1
+      (subst (λ (b : Bound). NoneIdle network b ys) (sym (lesser_assoc earlier (placed_line_bound network x) (least_bound network xs))) second),
 )
 
 NoneIdle-front : (network : NetworkOf) (earlier : Bound) (xs ys : List Placed) → NoneIdle network earlier (xs ++ ys) → NoneIdle network earlier xs
 NoneIdle-front network earlier [] ys both = tt
-NoneIdle-front network earlier (x ∷ xs) ys both = (both.0, NoneIdle-front network (lesser earlier (line_bound network x)) xs ys both.1)
+NoneIdle-front network earlier (x ∷ xs) ys both = (both.0, NoneIdle-front network (lesser earlier (placed_line_bound network x)) xs ys both.1)
 
 NoneIdle-back : (network : NetworkOf) (earlier : Bound) (xs ys : List Placed) → NoneIdle network earlier (xs ++ ys) → NoneIdle network (after network earlier xs) ys
 NoneIdle-back network earlier [] ys both = subst (λ (b : Bound). NoneIdle network b ys) (sym (lesser_none earlier)) both
 NoneIdle-back network earlier (x ∷ xs) ys both =
-    subst (λ (b : Bound). NoneIdle network b ys) (lesser_assoc earlier (line_bound network x) (least_bound network xs))
-    (NoneIdle-back network (lesser earlier (line_bound network x)) xs ys both.1)
+    subst (λ (b : Bound). NoneIdle network b ys) (lesser_assoc earlier (placed_line_bound network x) (least_bound network xs))
+    (NoneIdle-back network (lesser earlier (placed_line_bound network x)) xs ys both.1)
 
 -- what stands before a second child
 before_second : (network : NetworkOf) (earlier : Bound) (node : Node) (tree : Tree) → lesser earlier (bound_at network node tree) ≡ after network (lesser earlier NoPlan) (placed node tree)
@@ -171,7 +171,7 @@ from_splits network before [] none = tt
 from_splits network before (line ∷ rest) none = (
   not_idle network before line rest none,
   subst (λ (b : Bound). NoneIdle network b rest)
-      (least_bound-append network before (line ∷ []) ∙ ap (lesser (least_bound network before)) (lesser_none (line_bound network line)))
+      (least_bound-append network before (line ∷ []) ∙ ap (lesser (least_bound network before)) (lesser_none (placed_line_bound network line)))
       (from_splits network (before ++ (line ∷ [])) rest (subst (λ (l : List Placed). NoSplitIsIdle network l) (sym (append_assoc before (line ∷ []) rest)) none)),
 )
 

@@ -14,9 +14,9 @@ use Rattle.geo_model.proofs.ForceLemmas.{at_place}
 use Rattle.cut_pool.specs.Cut.{CutOf, cover, cover_of}
 use Rattle.dual_bound.specs.Shares.{IsShare, IsSmallCover, AreShares}
 use Rattle.bound_log.specs.declared.bound.Bound.TheVariants.{AtLeast}
-use Rattle.idle_splits.specs.Idle.{IsLoadedAt, IsDearBy, IsDearByUnit, coefficient_at}
+use Rattle.idle_splits.specs.Idle.{IsLoadedAt, IsDearBy, IsDearByUnit, cover_coefficient}
 use Rattle.idle_splits.specs.UnitCuts.{unit_move, KeepsUnitCuts, AreUnitCuts}
-use Rattle.idle_splits.specs.UnitShares.{ShowsDear, IsShareOf, IsDearByKept}
+use Rattle.idle_splits.specs.UnitShares.{ShowsDear, IsUnitShareOf, IsDearByKept}
 use Rattle.idle_splits.specs.declared.unit_cuts.UnitCuts.{UnitCuts}
 use Rattle.idle_splits.specs.declared.unit_share.UnitShare.{UnitShare}
 use Rattle.idle_splits.proofs.Kept.{unit_cover}
@@ -39,7 +39,7 @@ same_some : {X : Type 0} (a b : X) → Some a ≡ Some b → a ≡ b
 same_some a b e = cc
 
 -- what the bound of one share asks
-pub one_share : (network : NetworkOf) (cuts : UnitCuts) (k : ℕ) (share : UnitShare) → IsNetwork network → KeepsUnitCuts network cuts → IsShareOf network cuts k share → 1 ≤ share.d → 1 ≤ share.y
+pub one_share : (network : NetworkOf) (cuts : UnitCuts) (k : ℕ) (share : UnitShare) → IsNetwork network → KeepsUnitCuts network cuts → IsUnitShareOf network cuts k share → 1 ≤ share.d → 1 ≤ share.y
     → AreShares (length network.candidates) cuts.pool share.d (record { y = share.y; cut = k } ∷ [])
 one_share network cuts k share bounds kept is some_weight some_price =
     let divisor = is.small_divisor in
@@ -55,7 +55,7 @@ one_share network cuts k share bounds kept is some_weight some_price =
 
 -- ---- what a share of a kept cut shows
 
-pub shows_dear : (network : NetworkOf) (node : Node) (cuts : UnitCuts) (k earlier : ℕ) (share : UnitShare) → KeepsUnitCuts network cuts → IsShareOf network cuts k share
+pub shows_dear : (network : NetworkOf) (node : Node) (cuts : UnitCuts) (k earlier : ℕ) (share : UnitShare) → KeepsUnitCuts network cuts → IsUnitShareOf network cuts k share
     → IsDearByKept network node (AtLeast earlier) cuts k share.candidate → ShowsDear network node (AtLeast earlier) share
 shows_dear network node cuts k earlier share kept is dear =
     let unit = kept.each k is.cut is.kept in
@@ -67,7 +67,7 @@ shows_dear network node cuts k earlier share kept is dear =
       limit = unit.limit;
       loaded = subst (λ (u : ℕ). IsLoadedAt network share.limit u unit.limit) (sym is.unknown) (subst (λ (l : ℕ). IsLoadedAt network l unknown unit.limit) (sym is.limit) unit.loaded);
       dear = subst (λ (c : CoverOf). IsDearBy network node (AtLeast earlier) c share.candidate) (ap cover one ∙ told) dear.2;
-      divisor = is.divisor ∙ ap (λ (c : CoverOf). coefficient_at c share.candidate) told;
+      divisor = is.divisor ∙ ap (λ (c : CoverOf). cover_coefficient c share.candidate) told;
       multiplier = is.multiplier;
       small_divisor = is.small_divisor;
       small_multiplier = is.small_multiplier;

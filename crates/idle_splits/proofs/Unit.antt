@@ -13,8 +13,8 @@ use Rattle.geo_model.specs.Limit.{SquareOf, LimitOf, load}
 use Rattle.geo_model.specs.Network.{NetworkOf, IsLimit}
 use Rattle.geo_model.proofs.SizeLemmas.{load-small}
 use Rattle.normal_matrix.proofs.SumSteps.{unit_at-same, unit_at-other, same_or_apart}
-use Rattle.cut_pool.specs.Cut.{shift_of, load_number, energy_number, rounded_up, bound_of, coefficient_of, cover_of}
-use Rattle.cut_pool.proofs.Shifts.{shift_of-least}
+use Rattle.cut_pool.specs.Cut.{cut_shift, load_number, energy_number, rounded_up, bound_of, coefficient_of, cover_of}
+use Rattle.cut_pool.proofs.Shifts.{cut_shift-least}
 use Rattle.dual_bound.specs.Shares.{IsSmallCover}
 use Rattle.idle_splits.specs.UnitCuts.{unit_move}
 
@@ -39,10 +39,10 @@ map-same f g (candidate ∷ rest) same = ap₂ (λ (n : ℕ) (ns : List ℕ). n 
 
 -- the numbers of a cut from the load and the energy
 abbrev bound_from : ℕ → ℕ
-bound_from n = n / 2 ^ shift_of n
+bound_from n = n / 2 ^ cut_shift n
 
 abbrev coefficient_from : ℕ → ℕ → ℕ
-coefficient_from n m = min (bound_from n) (rounded_up m (2 ^ shift_of n))
+coefficient_from n m = min (bound_from n) (rounded_up m (2 ^ cut_shift n))
 
 -- the covering inequality of a displacement depends on its entries alone
 pub cover_of-same : (network : NetworkOf) (limit : LimitOf) (x y : Displaced) → ((i : ℕ) → x i ≡ y i) → cover_of network limit x ≡ cover_of network limit y
@@ -84,9 +84,9 @@ least_small bound n small = omega arith
 pub small_cover : (network : NetworkOf) (limit : LimitOf) (x : Displaced) → IsLimit network limit → IsNarrow x → IsSmallCover (length network.candidates) (cover_of network limit x)
 small_cover network limit x bounds narrow =
     let small = load-small (length network.unknowns) network.candidates limit.alpha limit.squares x bounds.bounded narrow in
-    let bound : bound_of limit x < 2 ^ 24 = (shift_of-least (load_number limit x) small).reached in
+    let bound : bound_of limit x < 2 ^ 24 = (cut_shift-least (load_number limit x) small).reached in
     record {
       each = length-map network.candidates (coefficient_of limit x);
-      coefficients = All-map (λ (n : ℕ). n < 2 ^ 24) (coefficient_of limit x) network.candidates (λ k d lt. least_small (bound_of limit x) (rounded_up (energy_number limit x (get_or network.candidates k d)) (2 ^ shift_of (load_number limit x))) bound);
+      coefficients = All-map (λ (n : ℕ). n < 2 ^ 24) (coefficient_of limit x) network.candidates (λ k d lt. least_small (bound_of limit x) (rounded_up (energy_number limit x (get_or network.candidates k d)) (2 ^ cut_shift (load_number limit x))) bound);
       bound = bound;
     }

@@ -40,21 +40,21 @@ pub record IsLoadedAt (network : NetworkOf) (number unknown : ℕ) (limit : Limi
 abbrev pub price_at : NetworkOf → ℕ → ℕ
 price_at network candidate = get_or (prices_of network).candidates candidate 0
 
-abbrev pub coefficient_at : CoverOf → ℕ → ℕ
-coefficient_at cover candidate = get_or cover.coefficients candidate 0
+abbrev pub cover_coefficient : CoverOf → ℕ → ℕ
+cover_coefficient cover candidate = get_or cover.coefficients candidate 0
 
 -- the dual bound of a node by one covering inequality: a candidate's coefficient is the divisor,
 -- its price the multiplier
 abbrev pub bound_by : NetworkOf → Node → CoverOf → ℕ → ℕ
 bound_by network node cover candidate =
-    dual_bound (prices_of network) (coefficient_at cover candidate) (record { multiplier = price_at network candidate; cover = cover } ∷ []) node
+    dual_bound (prices_of network) (cover_coefficient cover candidate) (record { multiplier = price_at network candidate; cover = cover } ∷ []) node
 
 -- by a covering inequality, at the price of a candidate that a node may choose, the node costs more
 -- than a bound
 pub record IsDearBy (network : NetworkOf) (node : Node) (earlier : Bound) (cover : CoverOf) (candidate : ℕ) : Type 0 where
   pub chosen : slice_get node.upper candidate ≡ Some true
   pub priced : 1 ≤ price_at network candidate
-  pub weighs : 1 ≤ coefficient_at cover candidate
+  pub weighs : 1 ≤ cover_coefficient cover candidate
   pub above : IsAbove (bound_by network node cover candidate) earlier
 
 -- .. by the cut of a limit and a displacement by 1 in one unknown

@@ -24,14 +24,14 @@ HasNoIdle network node earlier (fork candidate with_it without_it) =
 -- ---- the same over the lines of a log in preorder, each with its node
 
 -- the bound of a line: a split has none of its own
-abbrev pub line_bound : NetworkOf → Node × LogLine → Bound
-line_bound network (node, Split candidate) = NoPlan
-line_bound network (node, Leaf end) = leaf_bound network node end
+abbrev pub placed_line_bound : NetworkOf → Node × LogLine → Bound
+placed_line_bound network (node, Split candidate) = NoPlan
+placed_line_bound network (node, Leaf end) = leaf_bound network node end
 
 -- an earlier bound is that of one of the lines before, or none
 abbrev pub IsEarlier : NetworkOf → List (Node × LogLine) → Bound → Type 0
 IsEarlier network before NoPlan = Unit {0}
-IsEarlier network before (AtLeast price) = Any (λ line. line_bound network line ≡ AtLeast price) before
+IsEarlier network before (AtLeast price) = Any (λ line. placed_line_bound network line ≡ AtLeast price) before
 
 -- no split among the lines is idle beside an earlier bound
 abbrev pub NoSplitIsIdle : NetworkOf → List (Node × LogLine) → Type 0

@@ -3,7 +3,7 @@ ghost use Rattle.std.specs.Prelude.{◌≡◌, ◌↔◌, ◌<◌, ℕ, length, 
 ghost use Rattle.bound_log.specs.declared.bound.Bound.TheVariants.{AtLeast};
 ghost use Rattle.idle_splits.specs.Idle.{IsDearByUnit};
 ghost use Rattle.idle_splits.specs.UnitCuts.{KeepsUnitCuts, AreUnitCuts};
-ghost use Rattle.idle_splits.specs.UnitShares.{ShowsDear, IsShareOf, IsDearByKept};
+ghost use Rattle.idle_splits.specs.UnitShares.{ShowsDear, IsUnitShareOf, IsDearByKept};
 
 use crate::unit_cuts::UnitCuts;
 use crate::unit_share::UnitShare;
@@ -16,7 +16,7 @@ pub(crate) fn share_of(network: &Network, cuts: &UnitCuts, k: u32, candidate: u3
     requires cuts { KeepsUnitCuts network.now cuts.now }
     requires k { k < length cuts.now.pool }
     requires candidate { candidate < length network.now.candidates }
-    ensures share { IsShareOf network.now cuts.now k result }
+    ensures share { IsUnitShareOf network.now cuts.now k result }
     ensures candidate { result.candidate ≡ candidate }
 {
     let candidates = network.candidates();
@@ -45,7 +45,7 @@ pub(crate) fn is_dear(
     requires inside { length node.now.inside ≡ length network.now.candidates }
     requires upper { length node.now.upper ≡ length network.now.candidates }
     requires cuts { KeepsUnitCuts network.now cuts.now }
-    requires share { IsShareOf network.now cuts.now k share }
+    requires share { IsUnitShareOf network.now cuts.now k share }
     requires candidate { share.candidate < length network.now.candidates }
     ensures { IsTrue result ↔ IsDearByKept network.now node.now (AtLeast earlier) cuts.now k share.candidate }
 {

@@ -8,7 +8,7 @@ ghost use Rattle.idle_splits.specs.UnitCuts.{KeepsUnitCuts};
 ghost use Rattle.idle_splits.specs.UnitShares.{IsDearByKept};
 
 use crate::filling::{filling_of, is_mixed_below};
-use crate::offer::Offer;
+use crate::offer::RatedCandidate;
 use crate::unit_cuts::UnitCuts;
 use geo_model::{Network, Node, Plan};
 
@@ -39,7 +39,7 @@ fn is_open(network: &Network, node: &Node, candidate: u32) -> bool
 fn fill_up(
     network: &Network,
     node: &Node,
-    offers: &[Offer],
+    offers: &[RatedCandidate],
     weight: u64,
     bound: u64,
     room: &mut Plan,

@@ -5,7 +5,7 @@ ghost use Rattle.cut_pool.specs.Cut.{cover};
 ghost use Rattle.idle_splits.specs.Idle.{IsLoadedAt};
 ghost use Rattle.idle_splits.specs.UnitCuts.{unit_move, IsUnitCut, HasCover, HasUnitCut, KeepsUnitCuts, Grows, AreUnitCuts};
 
-use crate::offer::{Offer, offers_of};
+use crate::offer::{RatedCandidate, offers_of};
 use cut_pool::{Cut, CutPool, cut_of};
 use geo_base::NoMemory;
 use geo_model::{Displacement, Limit, LimitKind, Network, load};
@@ -19,7 +19,7 @@ pub struct UnitCuts {
     // The number of the unknown of each cut, by the cut's number.
     pub(crate) unknowns: Vec<u32>,
     // The candidates as each cut sees them, by the cut's number.
-    pub(crate) offers: Vec<Vec<Offer>>,
+    pub(crate) offers: Vec<Vec<RatedCandidate>>,
 }
 
 impl UnitCuts {

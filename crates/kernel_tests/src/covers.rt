@@ -1,7 +1,7 @@
 //! Covers: the least price of shares of candidates under cuts, by the dual simplex.
 
 use crate::exact::Exact;
-use dual_simplex::{Outcome, Share, Tableau};
+use dual_simplex::{CutMultiplier, RunEnd, Tableau};
 use fixed_point::{ONE, product};
 use geo_base::NoMemory;
 use std::alloc::Global;
@@ -14,62 +14,66 @@ pub const TOLERANCE: i64 = 1 << 12;
 pub const STEPS: u32 = 50;
 
 // A cut: its coefficients, and what their sum with the shares is at least.
-pub struct Cut(&'static [i64], i64);
+pub struct CoverCut(&'static [i64], i64);
 
 // Candidates by their prices, and cuts that their shares have to meet.
 pub struct Cover {
     prices: &'static [i64],
-    cuts: &'static [Cut],
+    cuts: &'static [CoverCut],
 }
 
 // Each pair of three candidates has to hold one of them.
 pub const TRIANGLE: Cover = Cover {
     prices: &[1, 1, 1],
-    cuts: &[Cut(&[1, 1, 0], 1), Cut(&[0, 1, 1], 1), Cut(&[1, 0, 1], 1)],
+    cuts: &[
+        CoverCut(&[1, 1, 0], 1),
+        CoverCut(&[0, 1, 1], 1),
+        CoverCut(&[1, 0, 1], 1),
+    ],
 };
 
 // Four cuts over four candidates.
 pub const FOUR: Cover = Cover {
     prices: &[3, 5, 2, 4],
     cuts: &[
-        Cut(&[9, 4, 7, 2], 11),
-        Cut(&[1, 8, 3, 6], 10),
-        Cut(&[5, 5, 2, 7], 12),
-        Cut(&[6, 1, 9, 3], 13),
+        CoverCut(&[9, 4, 7, 2], 11),
+        CoverCut(&[1, 8, 3, 6], 10),
+        CoverCut(&[5, 5, 2, 7], 12),
+        CoverCut(&[6, 1, 9, 3], 13),
     ],
 };
 
 // One cut, to which each candidate gives as much.
 pub const EQUAL: Cover = Cover {
     prices: &[5, 7, 9],
-    cuts: &[Cut(&[3, 3, 3], 4)],
+    cuts: &[CoverCut(&[3, 3, 3], 4)],
 };
 
 const HALF: Cover = Cover {
     prices: &[3, 2],
-    cuts: &[Cut(&[1, 1], 1), Cut(&[2, 0], 1)],
+    cuts: &[CoverCut(&[1, 1], 1), CoverCut(&[2, 0], 1)],
 };
 
 // Only both candidates together meet the cuts.
 const WHOLE: Cover = Cover {
     prices: &[5, 7],
-    cuts: &[Cut(&[1, 1], 2), Cut(&[3, 1], 2)],
+    cuts: &[CoverCut(&[1, 1], 2), CoverCut(&[3, 1], 2)],
 };
 
 const THIRDS: Cover = Cover {
     prices: &[7, 3, 5, 4],
     cuts: &[
-        Cut(&[3, 1, 2, 4], 7),
-        Cut(&[5, 2, 0, 3], 4),
-        Cut(&[0, 6, 4, 1], 5),
-        Cut(&[2, 2, 7, 3], 9),
+        CoverCut(&[3, 1, 2, 4], 7),
+        CoverCut(&[5, 2, 0, 3], 4),
+        CoverCut(&[0, 6, 4, 1], 5),
+        CoverCut(&[2, 2, 7, 3], 9),
     ],
 };
 
 // The first cut asks for more than its candidates have.
 const SHORT: Cover = Cover {
     prices: &[1, 1, 1],
-    cuts: &[Cut(&[1, 1, 0], 3), Cut(&[0, 1, 2], 2)],
+    cuts: &[CoverCut(&[1, 1, 0], 3), CoverCut(&[0, 1, 2], 2)],
 };
 
 const FREE: Cover = Cover {
@@ -90,7 +94,7 @@ const COVERS: [(&Cover, Option<Exact>); 8] = [
     (&FREE, Some(Exact(0, 1))),
 ];
 
-impl Cut {
+impl CoverCut {
     // The coefficients over the bound, in fixed point.
     fn row(&self, alloc: Global) -> Result<Vec<i64>, NoMemory> {
         let mut row = Vec::new(alloc);
@@ -153,7 +157,7 @@ impl Cover {
     }
 
     // What the cuts with multipliers take of a candidate.
-    fn taken(&self, multipliers: &[Share], candidate: usize) -> i64 {
+    fn taken(&self, multipliers: &[CutMultiplier], candidate: usize) -> i64 {
         let mut sum = 0i64;
         for share in multipliers {
             if let Some(cut) = self.cuts.get(share.cut as usize) {
@@ -167,7 +171,7 @@ impl Cover {
 
     // The price that multipliers prove: their sum, less what they take of each candidate above
     // `counted` times its price.
-    fn proved_price(&self, multipliers: &[Share], counted: i64) -> i64 {
+    fn proved_price(&self, multipliers: &[CutMultiplier], counted: i64) -> i64 {
         let mut sum = 0i64;
         for share in multipliers {
             sum = sum.wrapping_add(share.multiplier);
@@ -225,8 +229,8 @@ fn covers_have_their_least_price(rt: HostRuntime) -> Result<(), Fail> {
     for (cover, price) in COVERS {
         let mut tableau = cover.tableau(rt.alloc())?;
         let is_right = match (tableau.run(STEPS)?, price) {
-            (Outcome::Solved, Some(least)) => is_solved(rt.alloc(), cover, &tableau, least)?,
-            (Outcome::Infeasible, None) => is_refuted(rt.alloc(), cover, &tableau)?,
+            (RunEnd::Solved, Some(least)) => is_solved(rt.alloc(), cover, &tableau, least)?,
+            (RunEnd::Infeasible, None) => is_refuted(rt.alloc(), cover, &tableau)?,
             _ => false,
         };
         assert!(rt; is_right, "prices {:?}", cover.prices);

@@ -1,7 +1,7 @@
 //! Weak directions of limits, and the eigenvalues they rest on.
 
 use crate::exact::Exact;
-use crate::networks::{CHAIN, PAIR, POINT, Row, Rows, forms};
+use crate::networks::{CHAIN, PAIR, POINT, SmallNetwork, SmallRow, forms};
 use fixed_point::ONE;
 use geo_base::NoMemory;
 use std::alloc::Global;
@@ -9,39 +9,42 @@ use std::test::Fail;
 use weak_direction::{Weakest, greatest_eigenvalue};
 
 // The squares of single unknowns.
-const FIRST: &[Row] = &[Row(1, &[(0, 1)])];
+const FIRST: &[SmallRow] = &[SmallRow(1, &[(0, 1)])];
 
-const MIDDLE: &[Row] = &[Row(1, &[(1, 1)])];
+const MIDDLE: &[SmallRow] = &[SmallRow(1, &[(1, 1)])];
 
-const BOTH: &[Row] = &[Row(1, &[(0, 1)]), Row(1, &[(1, 1)])];
+const BOTH: &[SmallRow] = &[SmallRow(1, &[(0, 1)]), SmallRow(1, &[(1, 1)])];
 
-const ENDS: &[Row] = &[Row(1, &[(0, 1)]), Row(1, &[(2, 1)])];
+const ENDS: &[SmallRow] = &[SmallRow(1, &[(0, 1)]), SmallRow(1, &[(2, 1)])];
 
 // The square of a difference.
-const APART: &[Row] = &[Row(1, &[(0, 1), (2, -1)])];
+const APART: &[SmallRow] = &[SmallRow(1, &[(0, 1), (2, -1)])];
 
-const LARGE: &[Row] = &[Row(1000000000000, &[(0, 1)]), Row(1000000000000, &[(1, 1)])];
+const LARGE: &[SmallRow] = &[
+    SmallRow(1000000000000, &[(0, 1)]),
+    SmallRow(1000000000000, &[(1, 1)]),
+];
 
-const HUGE: &[Row] = &[
-    Row(10000000000000000, &[(0, 1)]),
-    Row(10000000000000000, &[(1, 1)]),
+const HUGE: &[SmallRow] = &[
+    SmallRow(10000000000000000, &[(0, 1)]),
+    SmallRow(10000000000000000, &[(1, 1)]),
 ];
 
 // A limit of some squares over a factor, with half of each row or the whole row. By the inverses at
 // the networks: the greatest load over the energy, and the direction that has it, with a greatest
 // entry of 32768.
 #[derive(Clone, Copy)]
-struct Case {
-    network: &'static Rows,
+struct DirectionCase {
+    network: &'static SmallNetwork,
     share: i64,
     factor: i64,
-    squares: &'static [Row],
+    squares: &'static [SmallRow],
     strength: Exact,
     direction: &'static [i32],
 }
 
-const CASES: [Case; 9] = [
-    Case {
+const CASES: [DirectionCase; 9] = [
+    DirectionCase {
         network: &PAIR,
         share: ONE,
         factor: 1,
@@ -49,7 +52,7 @@ const CASES: [Case; 9] = [
         strength: Exact(5, 9),
         direction: &[32768, -26214],
     },
-    Case {
+    DirectionCase {
         network: &PAIR,
         share: ONE / 2,
         factor: 1,
@@ -57,7 +60,7 @@ const CASES: [Case; 9] = [
         strength: Exact(10, 9),
         direction: &[32768, -26214],
     },
-    Case {
+    DirectionCase {
         network: &PAIR,
         share: ONE,
         factor: 3,
@@ -65,7 +68,7 @@ const CASES: [Case; 9] = [
         strength: Exact(1, 3),
         direction: &[32768, -32768],
     },
-    Case {
+    DirectionCase {
         network: &CHAIN,
         share: ONE,
         factor: 1,
@@ -73,7 +76,7 @@ const CASES: [Case; 9] = [
         strength: Exact(1, 1),
         direction: &[16384, 32768, 16384],
     },
-    Case {
+    DirectionCase {
         network: &CHAIN,
         share: ONE,
         factor: 1,
@@ -81,7 +84,7 @@ const CASES: [Case; 9] = [
         strength: Exact(1, 1),
         direction: &[32768, 32768, 32768],
     },
-    Case {
+    DirectionCase {
         network: &CHAIN,
         share: ONE / 2,
         factor: 5,
@@ -89,7 +92,7 @@ const CASES: [Case; 9] = [
         strength: Exact(2, 5),
         direction: &[32768, 0, -32768],
     },
-    Case {
+    DirectionCase {
         network: &POINT,
         share: ONE,
         factor: 3,
@@ -97,7 +100,7 @@ const CASES: [Case; 9] = [
         strength: Exact(4, 3),
         direction: &[32768, -24576],
     },
-    Case {
+    DirectionCase {
         network: &POINT,
         share: ONE,
         factor: 3,
@@ -105,7 +108,7 @@ const CASES: [Case; 9] = [
         strength: Exact(40000, 3),
         direction: &[32768, -24576],
     },
-    Case {
+    DirectionCase {
         network: &PAIR,
         share: ONE,
         factor: 1,
@@ -125,7 +128,7 @@ fn is_along(entries: &[i32], direction: &[i32]) -> bool {
 }
 
 // Whether a limit has its strength and its direction.
-fn is_right(alloc: Global, case: &Case) -> Result<bool, NoMemory> {
+fn is_right(alloc: Global, case: &DirectionCase) -> Result<bool, NoMemory> {
     let scaling = case.network.scaling(alloc)?;
     let factor = case.network.factor(alloc, &scaling, case.share)?;
     let squares = forms(alloc, &scaling, case.factor, case.squares)?;

@@ -1,10 +1,10 @@
 //! Inverses of normal matrices, and what becomes of them where rows are taken out or added.
 
 use crate::exact::Exact;
-use crate::networks::{CHAIN, PAIR, Row, Rows, forms};
+use crate::networks::{CHAIN, PAIR, SmallNetwork, SmallRow, forms};
 use fixed_point::ONE;
 use geo_base::NoMemory;
-use plan_inverse::{Change, Inverse};
+use plan_inverse::{Inverse, InverseChange};
 use std::alloc::Global;
 use std::test::Fail;
 use weak_direction::{Form, Weakest, common_shift};
@@ -13,22 +13,26 @@ use weak_direction::{Form, Weakest, common_shift};
 // that is taken out; then the inverse of the scaled normal matrix times `divisor`, row after row,
 // and the least pivot, at most 1.
 #[derive(Clone, Copy)]
-struct Case {
-    network: &'static Rows,
-    units: &'static [Row],
+struct InverseCase {
+    network: &'static SmallNetwork,
+    units: &'static [SmallRow],
     share: i64,
-    rows: &'static [Row],
+    rows: &'static [SmallRow],
     inverse: &'static [i64],
     divisor: i64,
     pivot: Exact,
 }
 
-const PAIR_UNITS: &[Row] = &[Row(5, &[(0, 1)]), Row(5, &[(1, 1)])];
+const PAIR_UNITS: &[SmallRow] = &[SmallRow(5, &[(0, 1)]), SmallRow(5, &[(1, 1)])];
 
-const CHAIN_UNITS: &[Row] = &[Row(2, &[(0, 1)]), Row(2, &[(1, 1)]), Row(2, &[(2, 1)])];
+const CHAIN_UNITS: &[SmallRow] = &[
+    SmallRow(2, &[(0, 1)]),
+    SmallRow(2, &[(1, 1)]),
+    SmallRow(2, &[(2, 1)]),
+];
 
-const CASES: [Case; 7] = [
-    Case {
+const CASES: [InverseCase; 7] = [
+    InverseCase {
         network: &PAIR,
         units: PAIR_UNITS,
         share: ONE,
@@ -37,16 +41,16 @@ const CASES: [Case; 7] = [
         divisor: 9,
         pivot: Exact(1, 1),
     },
-    Case {
+    InverseCase {
         network: &PAIR,
         units: PAIR_UNITS,
         share: -ONE,
-        rows: &[Row(11, &[(0, 1), (1, 1)])],
+        rows: &[SmallRow(11, &[(0, 1), (1, 1)])],
         inverse: &[80, -75, -75, 80],
         divisor: 31,
         pivot: Exact(1, 1),
     },
-    Case {
+    InverseCase {
         network: &CHAIN,
         units: CHAIN_UNITS,
         share: ONE,
@@ -55,38 +59,38 @@ const CASES: [Case; 7] = [
         divisor: 2,
         pivot: Exact(1, 1),
     },
-    Case {
+    InverseCase {
         network: &CHAIN,
         units: CHAIN_UNITS,
         share: ONE,
-        rows: &[Row(1, &[(0, 1)])],
+        rows: &[SmallRow(1, &[(0, 1)])],
         inverse: &[6, 4, 2, 4, 4, 2, 2, 2, 2],
         divisor: 1,
         pivot: Exact(1, 4),
     },
-    Case {
+    InverseCase {
         network: &CHAIN,
         units: CHAIN_UNITS,
         share: -ONE,
-        rows: &[Row(1, &[(0, 1)])],
+        rows: &[SmallRow(1, &[(0, 1)])],
         inverse: &[6, 4, 2, 4, 12, 6, 2, 6, 10],
         divisor: 7,
         pivot: Exact(1, 1),
     },
-    Case {
+    InverseCase {
         network: &CHAIN,
         units: CHAIN_UNITS,
         share: ONE / 2,
-        rows: &[Row(1, &[(0, 1), (1, -1)])],
+        rows: &[SmallRow(1, &[(0, 1), (1, -1)])],
         inverse: &[8, 4, 2, 4, 12, 6, 2, 6, 8],
         divisor: 5,
         pivot: Exact(1, 1),
     },
-    Case {
+    InverseCase {
         network: &CHAIN,
         units: CHAIN_UNITS,
         share: ONE / 2,
-        rows: &[Row(1, &[(0, 1)]), Row(1, &[(2, 1)])],
+        rows: &[SmallRow(1, &[(0, 1)]), SmallRow(1, &[(2, 1)])],
         inverse: &[8, 6, 4, 6, 9, 6, 4, 6, 8],
         divisor: 3,
         pivot: Exact(1, 1),
@@ -96,10 +100,10 @@ const CASES: [Case; 7] = [
 // Whether the products of an inverse after a change with the units are the rows of an exact one.
 fn has_rows(
     alloc: Global,
-    case: &Case,
+    case: &InverseCase,
     inverse: &Inverse,
     units: &[Form],
-    change: &Change,
+    change: &InverseChange,
 ) -> Result<bool, NoMemory> {
     let mut row = Vec::new(alloc);
     let mut are_right = true;
@@ -115,7 +119,7 @@ fn has_rows(
 }
 
 // The inverse of the whole normal matrix of a network.
-fn inverse_of(alloc: Global, network: &Rows) -> Result<Inverse, NoMemory> {
+fn inverse_of(alloc: Global, network: &SmallNetwork) -> Result<Inverse, NoMemory> {
     let scaling = network.scaling(alloc)?;
     let mut inverse = Inverse::new(alloc);
     inverse.find(&network.factor(alloc, &scaling, ONE)?)?;
@@ -125,27 +129,27 @@ fn inverse_of(alloc: Global, network: &Rows) -> Result<Inverse, NoMemory> {
 // The change of an inverse where a share of rows is taken out.
 fn change_of(
     alloc: Global,
-    network: &Rows,
+    network: &SmallNetwork,
     inverse: &Inverse,
     share: i64,
-    rows: &[Row],
-) -> Result<Change, NoMemory> {
+    rows: &[SmallRow],
+) -> Result<InverseChange, NoMemory> {
     let taken = forms(alloc, &network.scaling(alloc)?, 1, rows)?;
-    let mut change = Change::new(alloc);
+    let mut change = InverseChange::new(alloc);
     let mut scratch = Vec::new(alloc);
     inverse.change(taken.as_slice(), share, &mut change, &mut scratch)?;
     Ok(change)
 }
 
 // Whether the inverse is right when the change is looked at, and when it was made.
-fn is_right(alloc: Global, case: &Case) -> Result<bool, NoMemory> {
+fn is_right(alloc: Global, case: &InverseCase) -> Result<bool, NoMemory> {
     let found = inverse_of(alloc, case.network)?;
     let change = change_of(alloc, case.network, &found, case.share, case.rows)?;
     let units = forms(alloc, &case.network.scaling(alloc)?, 1, case.units)?;
     let mut changed = Inverse::new(alloc);
     changed.copy_from(&found)?;
     changed.apply(&change);
-    let mut none = Change::new(alloc);
+    let mut none = InverseChange::new(alloc);
     none.clear(case.network.unknowns);
     Ok(
         case.pivot.is_close(change.least_pivot())
@@ -170,15 +174,18 @@ fn inverses_are_those_of_fractions(rt: HostRuntime) -> Result<(), Fail> {
 // and the direction that has it. The inverse of the normal matrix is 3 2 1, 2 2 1, 1 1 1 then. Over
 // 16, the forms of the last limit have 6 2, 2 3 with the inverse between them: its greatest
 // eigenvalue is 7, and 2 1 has it, which joins the forms to 1 2 2.
-const LIMITS: [(&[Row], Exact, &[i32]); 3] = [
-    (&[Row(1, &[(1, 1)])], Exact(2, 1), &[2, 2, 1]),
+const LIMITS: [(&[SmallRow], Exact, &[i32]); 3] = [
+    (&[SmallRow(1, &[(1, 1)])], Exact(2, 1), &[2, 2, 1]),
     (
-        &[Row(1, &[(0, 1), (1, -1)]), Row(3, &[(2, 1)])],
+        &[SmallRow(1, &[(0, 1), (1, -1)]), SmallRow(3, &[(2, 1)])],
         Exact(3, 1),
         &[1, 1, 1],
     ),
     (
-        &[Row(16, &[(0, 1), (2, 1)]), Row(16, &[(0, -1), (1, 2)])],
+        &[
+            SmallRow(16, &[(0, 1), (2, 1)]),
+            SmallRow(16, &[(0, -1), (1, 2)]),
+        ],
         Exact(112, 1),
         &[9, 8, 5],
     ),
@@ -189,7 +196,7 @@ const LIMITS: [(&[Row], Exact, &[i32]); 3] = [
 fn direction_of(
     alloc: Global,
     inverse: &Inverse,
-    change: &Change,
+    change: &InverseChange,
     limit: &[Form],
     entries: &mut Vec<i32>,
     greatest: i32,
@@ -213,7 +220,7 @@ fn direction_of(
 fn limits_without_a_row(rt: HostRuntime) -> Result<(), Fail> {
     let alloc = rt.alloc();
     let inverse = inverse_of(alloc, &CHAIN)?;
-    let first = &[Row(1, &[(0, 1)])];
+    let first = &[SmallRow(1, &[(0, 1)])];
     let change = change_of(alloc, &CHAIN, &inverse, ONE, first)?;
     let scaling = CHAIN.scaling(alloc)?;
     let mut entries = Vec::new(alloc);
@@ -232,7 +239,7 @@ fn limits_without_a_row(rt: HostRuntime) -> Result<(), Fail> {
 #[test]
 fn rows_that_are_the_last_in_a_direction_have_a_pivot_near_0(rt: HostRuntime) -> Result<(), Fail> {
     let inverse = inverse_of(rt.alloc(), &CHAIN)?;
-    let both = &[Row(1, &[(0, 1)]), Row(1, &[(2, 1)])];
+    let both = &[SmallRow(1, &[(0, 1)]), SmallRow(1, &[(2, 1)])];
     let change = change_of(rt.alloc(), &CHAIN, &inverse, ONE, both)?;
     assert!(rt; change.least_pivot() < 1 << 16);
     Ok(())

@@ -6,7 +6,7 @@ use dual_simplex::Tableau;
 use geo_base::NoMemory;
 use std::alloc::Global;
 use std::test::Fail;
-use strong_branch::{Branching, Side};
+use strong_branch::{Branching, SplitSide};
 
 // A candidate of a cover that is split on: how much the least price rises where it is taken and
 // where it is left out, by the corners of the shares in exact fractions; none where no shares are
@@ -66,7 +66,7 @@ fn solved(alloc: Global, cover: &Cover) -> Result<Tableau, NoMemory> {
 }
 
 // Whether a side has such a rise.
-fn has_rise(side: Side, rise: Option<Exact>) -> bool {
+fn has_rise(side: SplitSide, rise: Option<Exact>) -> bool {
     match rise {
         Some(rise) => !side.is_infeasible && rise.is_near(side.rise, TOLERANCE),
         None => side.is_infeasible,

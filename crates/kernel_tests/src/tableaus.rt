@@ -2,7 +2,7 @@
 
 use crate::covers::{Cover, FOUR, STEPS, TOLERANCE, TRIANGLE};
 use crate::exact::Exact;
-use dual_simplex::{Outcome, Tableau};
+use dual_simplex::{RunEnd, Tableau};
 use fixed_point::ONE;
 use geo_base::NoMemory;
 use std::alloc::Global;
@@ -11,8 +11,8 @@ use std::test::Fail;
 // Whether a run ends with this least price, or with none as infeasible.
 fn ends_at(tableau: &mut Tableau, price: Option<Exact>) -> Result<bool, NoMemory> {
     Ok(match (tableau.run(STEPS)?, price) {
-        (Outcome::Solved, Some(least)) => least.is_near(tableau.objective(), TOLERANCE),
-        (Outcome::Infeasible, None) => true,
+        (RunEnd::Solved, Some(least)) => least.is_near(tableau.objective(), TOLERANCE),
+        (RunEnd::Infeasible, None) => true,
         _ => false,
     })
 }
@@ -66,12 +66,12 @@ fn halves(alloc: Global, prices: &[i64]) -> Result<Tableau, NoMemory> {
 #[test]
 fn runs_end_by_their_steps_and_by_their_sizes(rt: HostRuntime) -> Result<(), Fail> {
     let mut tableau = halves(rt.alloc(), [ONE; 2].as_slice())?;
-    assert!(rt; matches!(tableau.run(0)?, Outcome::OutOfSteps));
+    assert!(rt; matches!(tableau.run(0)?, RunEnd::OutOfSteps));
     assert_eq!(rt; tableau.objective(), 0);
     assert!(rt; ends_at(&mut tableau, Some(Exact(2, 1)))?);
     assert_eq!(rt; tableau.pivots(), 1);
     let mut large = halves(rt.alloc(), [1 << 61; 2].as_slice())?;
-    assert!(rt; matches!(large.run(STEPS)?, Outcome::Lost));
+    assert!(rt; matches!(large.run(STEPS)?, RunEnd::Lost));
     Ok(())
 }
 

@@ -2,7 +2,7 @@
 use Rattle.std.proofs.Common.{◌≡◌, ℕ, zero, suc, ◌+◌, ◌-◌, ◌<◌, ◌≤◌, List, [], ◌∷◌, ◌++◌, length, get_or, take, drop, replicate, refl, sym, ◌∙◌, ap, ap₂, subst, arith, append_assoc, ℤ, pos}
 use Rattle.std.specs.Prelude.{slice_set}
 use Rattle.std.proofs.lemmas.Grind.{common_steps}
-use Rattle.lent_parts.specs.Triangle.{IsKept, IsTri, zero_tri, tri_row, refilled}
+use Rattle.lent_parts.specs.Triangle.{IsKeptTriangle, IsTri, zero_tri, tri_row, refilled}
 
 -- ---- rows
 pub length-zeros : (n : ℕ) → length (replicate n (pos 0)) ≡ n
@@ -118,9 +118,9 @@ pub long_row : {n : ℕ} {old rows : List (List ℤ)} {k : ℕ} {held : List ℤ
 long_row {n} {old} {rows} {k} {held} out = ap length out.row ∙ length-tri_row n old k out.shape out.within
 
 -- the triangle keeps what it keeps, whatever is written in the places of the row
-pub IsKept-refilled : {n : ℕ} {old rows : List (List ℤ)} {k : ℕ} {held : List ℤ} → IsTakenOut n old rows k held → (filled : List ℤ)
-    → IsKept rows k (refilled held filled)
-IsKept-refilled {n} {old} {rows} {k} {held} out filled =
+pub IsKeptTriangle-refilled : {n : ℕ} {old rows : List (List ℤ)} {k : ℕ} {held : List ℤ} → IsTakenOut n old rows k held → (filled : List ℤ)
+    → IsKeptTriangle rows k (refilled held filled)
+IsKeptTriangle-refilled {n} {old} {rows} {k} {held} out filled =
     let few = out.few in
     let within = out.within in
     let len = out.len in
@@ -143,14 +143,14 @@ pub rows_kept : {n : ℕ} {old rows : List (List ℤ)} {k : ℕ} {held : List �
 rows_kept {n} {old} {rows} {k} {held} out = sym (take-written rows k held) ∙ ap (take k) out.same
 
 -- a triangle has its shape, however it is kept
-pub kept_shape : (rows : List (List ℤ)) (place : ℕ) (held : List ℤ) (tri : List (List ℤ)) → IsKept rows place held → slice_set rows place held ≡ tri → IsTri (length tri) tri
+pub kept_shape : (rows : List (List ℤ)) (place : ℕ) (held : List ℤ) (tri : List (List ℤ)) → IsKeptTriangle rows place held → slice_set rows place held ≡ tri → IsTri (length tri) tri
 kept_shape rows place held tri kept is =
     let shape : IsTri (length rows) tri = subst (IsTri (length rows)) is kept.shape in
     subst (λ n. IsTri n tri) (sym (length-IsTri (length rows) tri shape)) shape
 
 -- row k is taken out, where another one was held before
 pub taken_out : (rows : List (List ℤ)) (place : ℕ) (first : List ℤ) (old left : List (List ℤ)) (k : ℕ) (held : List ℤ)
-    → IsKept rows place first → slice_set rows place first ≡ old → k < length old
+    → IsKeptTriangle rows place first → slice_set rows place first ≡ old → k < length old
     → held ≡ tri_row (slice_set rows place first) k → slice_set left k held ≡ slice_set rows place first → length left ≡ length rows
     → IsTakenOut (length old) old left k held
 taken_out rows place first old left k held kept is lt row same len =

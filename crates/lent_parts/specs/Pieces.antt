@@ -1,5 +1,5 @@
 -- Tokens of a line and lines of a text, each told by its bytes and by where it stands. This project's own.
-use Rattle.std.specs.Prelude.{ℕ, ◌+◌, ◌==◌, Bool, true, false, List, [], ◌∷◌, ◌++◌, length, if◌then◌else◌}
+use Rattle.std.specs.Prelude.{ℕ, ◌+◌, ◌==◌, Bool, true, false, List, [], ◌∷◌, ◌++◌, length, map, if◌then◌else◌}
 use Rattle.std.specs.List.{slice_split}
 
 -- the byte between two tokens
@@ -35,6 +35,10 @@ tokens_from start text = placed_from start (slice_split is_space text)
 -- the tokens of a line; an empty line has one, which is empty
 abbrev pub tokens_of : List ℕ → List TokenOf
 tokens_of line = tokens_from 0 line
+
+-- the texts of tokens
+abbrev pub words_of : List TokenOf → List (List ℕ)
+words_of tokens = map (λ token. token.text) tokens
 
 -- ---- lines
 

@@ -24,7 +24,7 @@ refilled row filled = take (length row) (filled ++ drop (length filled) row)
 
 -- What a triangle keeps: at most 64 rows, a place among theirs whose row is held outside, and with the held row in that
 -- place the shape of a triangle.
-pub record IsKept (rows : List (List ℤ)) (place : ℕ) (held : List ℤ) : Type 0 where
+pub record IsKeptTriangle (rows : List (List ℤ)) (place : ℕ) (held : List ℤ) : Type 0 where
   pub few : length rows ≤ 64
   pub within : 0 < length rows → place < length rows
   pub shape : IsTri (length rows) (slice_set rows place held)

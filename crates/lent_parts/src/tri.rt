@@ -23,13 +23,13 @@ pub struct Tri {
 
 impl Model for Tri {
     ghost use Rattle.std.specs.Prelude.{List, ℤ, slice_set};
-    ghost use Rattle.lent_parts.specs.Triangle.{IsKept};
+    ghost use Rattle.lent_parts.specs.Triangle.{IsKeptTriangle};
 
     ghost Value = { List (List ℤ) };
 
     ghost view = { λ tri. slice_set tri.rows.items tri.at tri.held };
 
-    ghost invariant = { λ tri. IsKept tri.rows.items tri.at tri.held };
+    ghost invariant = { λ tri. IsKeptTriangle tri.rows.items tri.at tri.held };
 }
 
 impl Tri {

@@ -5,7 +5,7 @@ use Rattle.std.proofs.lemmas.Int.{ints}
 use Rattle.std.proofs.lemmas.Nat.{pow-add}
 use Rattle.std.proofs.lemmas.List.{length-map}
 use Rattle.whole_algebra.specs.Matrices.{quad, lower_over, upper_over, IsTriangle}
-use Rattle.whole_algebra.specs.Chains.{met, refuted, verdict_of, size_limit}
+use Rattle.whole_algebra.specs.Chains.{met, refuted, chains_outcome, size_limit}
 use Rattle.whole_algebra.specs.Grid.{times_lists}
 use Rattle.whole_algebra.proofs.Slack.{lower_is_below, upper_is_above}
 use Rattle.whole_algebra.proofs.GridLaws.{quad-scaled, grid-met, grid-refuted, triangle-packed}
@@ -68,7 +68,7 @@ times_maps f g p (u ∷ us) e = ap₂ ◌∷◌ (e u) (times_maps f g p us e)
 
 pub met_everywhere : (network : NetworkOf) (plan : List Bool) (alpha : ℤ) (squares : List SquareOf) (x : Displaced)
     → IsNetwork network → IsLoad (length network.unknowns) network.candidates alpha squares
-    → verdict_of (lower_grid network plan alpha squares) (upper_grid network plan alpha squares) ≡ met
+    → chains_outcome (lower_grid network plan alpha squares) (upper_grid network plan alpha squares) ≡ met
     → load squares x ≤ℤ (alpha *ℤ energy network.candidates plan x)
 unfolding lower_grid upper_grid
 met_everywhere network plan alpha squares x bounds limit is =
@@ -89,7 +89,7 @@ room n le = omega (arith, ints)
 
 on_lists : (network : NetworkOf) (plan : List Bool) (alpha : ℤ) (squares : List SquareOf)
     → IsNetwork network → IsLoad (length network.unknowns) network.candidates alpha squares
-    → verdict_of (lower_grid network plan alpha squares) (upper_grid network plan alpha squares) ≡ refuted
+    → chains_outcome (lower_grid network plan alpha squares) (upper_grid network plan alpha squares) ≡ refuted
     → (x : List ℤ) × (length x ≡ length network.unknowns) × (quad (form_matrix network plan alpha squares) x <ℤ pos 0)
 unfolding lower_grid upper_grid
 on_lists network plan alpha squares bounds limit is =
@@ -99,7 +99,7 @@ on_lists network plan alpha squares bounds limit is =
 
 pub refuted_somewhere : (network : NetworkOf) (plan : List Bool) (alpha : ℤ) (squares : List SquareOf)
     → IsNetwork network → IsLoad (length network.unknowns) network.candidates alpha squares
-    → verdict_of (lower_grid network plan alpha squares) (upper_grid network plan alpha squares) ≡ refuted
+    → chains_outcome (lower_grid network plan alpha squares) (upper_grid network plan alpha squares) ≡ refuted
     → (x : Displaced) × ((alpha *ℤ energy network.candidates plan x) <ℤ load squares x)
 refuted_somewhere network plan alpha squares bounds limit is =
     let n = length network.unknowns in

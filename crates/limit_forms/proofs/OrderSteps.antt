@@ -5,7 +5,7 @@ use Rattle.std.proofs.lemmas.List.{take_more_set, take_all}
 use Rattle.std.proofs.lemmas.List.Elements.{filter-append}
 use Rattle.std.proofs.lemmas.List.FromFn.{length-range_with_len}
 use Rattle.geo_model.specs.Limit.{SquareOf}
-use Rattle.limit_forms.specs.declared.order.Part.TheVariants.{Loaded, Rest}
+use Rattle.limit_forms.specs.declared.order.OrderPart.TheVariants.{Loaded, Rest}
 use Rattle.limit_forms.specs.Grid.{occurs, is_in_part, order_of}
 use Rattle.limit_forms.proofs.Orders.{split_length}
 

@@ -12,8 +12,8 @@ use Rattle.geo_model.specs.Limit.{SquareOf, IsLoad, load}
 use Rattle.geo_model.specs.Network.{NetworkOf}
 use Rattle.normal_matrix.specs.Entries.{normal_entry, HasEachOnce}
 use Rattle.normal_matrix.specs.Normal.{NormalOf, IsNormalOf}
-use Rattle.limit_forms.specs.declared.order.Part.{Part}
-use Rattle.limit_forms.specs.declared.order.Part.TheVariants.{Loaded, Rest}
+use Rattle.limit_forms.specs.declared.order.OrderPart.{OrderPart}
+use Rattle.limit_forms.specs.declared.order.OrderPart.TheVariants.{Loaded, Rest}
 use Rattle.limit_forms.specs.Form.{load_entry, form_of, full_entry}
 
 -- whether an unknown occurs in the squares
@@ -24,7 +24,7 @@ abbrev pub occurs : List SquareOf → ℕ → Bool
 occurs squares unknown = list_any (λ square. has_column square.entries unknown) squares
 
 -- whether an unknown is in a part: in that of those that occur in the squares, or in that of the others
-abbrev pub is_in_part : List SquareOf → Part → ℕ → Bool
+abbrev pub is_in_part : List SquareOf → OrderPart → ℕ → Bool
 is_in_part squares Loaded unknown = occurs squares unknown
 is_in_part squares Rest unknown = not (occurs squares unknown)
 

@@ -1,7 +1,7 @@
 //! Laws of the form of a limit and of its grid. Each function is its contract: it does nothing.
 ghost use Rattle.std.specs.Prelude.{◌≡◌, ℕ, suc, ◌+◌, ◌<◌, ◌≤◌, ◌^◌, ℤ, pos, ◌-ℤ◌, ◌*ℤ◌, ◌≤ℤ◌, ◌<ℤ◌, List, Bool, length, map, unsigned_abs};
 ghost use Rattle.whole_algebra.specs.Matrices.{at, diagonal, quad, lower_over, upper_over, IsTriangle};
-ghost use Rattle.whole_algebra.specs.Chains.{met, refuted, verdict_of, matrix_after};
+ghost use Rattle.whole_algebra.specs.Chains.{met, refuted, chains_outcome, matrix_after};
 ghost use Rattle.whole_algebra.specs.Grid.{times_lists, row_at, SameFirstRows};
 ghost use Rattle.geo_model.specs.Row.{Displaced};
 ghost use Rattle.geo_model.specs.Energy.{energy};
@@ -87,10 +87,10 @@ pub fn first_grid_rows_depend_on_their_entries()
 pub fn grid_verdicts_decide_limits()
     ensures met_everywhere { (network : NetworkOf) (plan : List Bool) (alpha : ℤ) (squares : List SquareOf) (x : Displaced)
         → IsNetwork network → IsLoad (length network.unknowns) network.candidates alpha squares
-        → verdict_of (lower_grid network plan alpha squares) (upper_grid network plan alpha squares) ≡ met
+        → chains_outcome (lower_grid network plan alpha squares) (upper_grid network plan alpha squares) ≡ met
         → load squares x ≤ℤ (alpha *ℤ energy network.candidates plan x) }
     ensures refuted_somewhere { (network : NetworkOf) (plan : List Bool) (alpha : ℤ) (squares : List SquareOf)
         → IsNetwork network → IsLoad (length network.unknowns) network.candidates alpha squares
-        → verdict_of (lower_grid network plan alpha squares) (upper_grid network plan alpha squares) ≡ refuted
+        → chains_outcome (lower_grid network plan alpha squares) (upper_grid network plan alpha squares) ≡ refuted
         → (x : Displaced) × ((alpha *ℤ energy network.candidates plan x) <ℤ load squares x) }
 {}

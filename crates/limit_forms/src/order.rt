@@ -26,24 +26,24 @@ fn is_loaded(squares: &[Square], unknown: u32) -> bool
 
 /// The unknowns that occur in the squares of a limit, or the others.
 #[derive(Clone, Copy, Debug, PartialEq, Eq)]
-pub enum Part {
+pub enum OrderPart {
     Loaded,
     Rest,
 }
 
 // Whether an unknown is in a part.
-fn is_in_part(squares: &[Square], part: Part, unknown: u32) -> bool
+fn is_in_part(squares: &[Square], part: OrderPart, unknown: u32) -> bool
     ensures { result ≡ is_in_part squares.now part unknown }
 {
     let loaded = is_loaded(squares, unknown);
     match part {
-        Part::Loaded => loaded,
-        Part::Rest => !loaded,
+        OrderPart::Loaded => loaded,
+        OrderPart::Rest => !loaded,
     }
 }
 
 // Writes the unknowns of a part from place `from` on, and answers the place after them.
-fn fill(order: &mut [u32], squares: &[Square], from: usize, part: Part) -> usize
+fn fill(order: &mut [u32], squares: &[Square], from: usize, part: OrderPart) -> usize
     requires few { length order.old ≤ 64 }
     requires room { from + length (filter (is_in_part squares.now part) (range_with_len 0 (length order.old))) ≤ length order.old }
     ensures next { result ≡ from + length (filter (is_in_part squares.now part) (range_with_len 0 (length order.old))) }
@@ -64,6 +64,6 @@ pub fn take_order(order: &mut [u32], squares: &[Square])
     requires { length order.old ≤ 64 }
     ensures { order.new ≡ order_of (length order.old) squares.now }
 {
-    let filled = fill(order, squares, 0, Part::Loaded);
-    let _all = fill(order, squares, filled, Part::Rest);
+    let filled = fill(order, squares, 0, OrderPart::Loaded);
+    let _all = fill(order, squares, filled, OrderPart::Rest);
 }

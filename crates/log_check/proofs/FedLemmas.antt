@@ -21,7 +21,7 @@ use Rattle.log_check.specs.declared.fault.ReplayAnswer.TheVariants as replay_ans
 use Rattle.log_check.specs.declared.judged.Judged.{Judged}
 use Rattle.log_check.specs.declared.progress.Progress.{Progress}
 use Rattle.log_check.specs.declared.replaying.Replayed.{Replayed}
-use Rattle.log_check.specs.Fed.{ReplayerOf, HoldsFault, IsRight, HasFed, HasRead, Judges, after_fault, right, wrong, Ends, at_fault, at_start, too_early, whole_log, replay_at, TakesPart, Finishes, IsLineNext, SaysOfLine, AnswersFed}
+use Rattle.log_check.specs.Fed.{ReplayerOf, HoldsFault, IsRight, HasFed, HasRead, Judges, after_fault, right, wrong, IsAnswerAtEnd, at_fault, at_start, too_early, whole_log, replay_at, TakesPart, Finishes, IsLineNext, SaysOfLine, AnswersFed}
 use Rattle.log_check.specs.FirstFault.{LogBegins, IsFaultAfter, IsFirstFault, headless, later}
 use Rattle.log_check.specs.Reaching.{IsFront, nothing, begun, HasTaken, Reaches}
 use Rattle.log_check.specs.Taking.{TakesLine, at_head, at_node}
@@ -325,7 +325,7 @@ part_then network first second before middle now kept kept_middle kept_now one t
 
 -- ---- the end
 
-pub ends_first : (network : NetworkOf) (judged : Judged) (text : List ℕ) (answer : Result Replayed LogFault) → HasTaken network text judged.progress → judged.fault ≡ None → judged.progress.lines + 1 < 2 ^ 64 → Ends judged answer → Finishes network text answer
+pub ends_first : (network : NetworkOf) (judged : Judged) (text : List ℕ) (answer : Result Replayed LogFault) → HasTaken network text judged.progress → judged.fault ≡ None → judged.progress.lines + 1 < 2 ^ 64 → IsAnswerAtEnd judged answer → Finishes network text answer
 ends_first network judged text answer taken none few (at_fault fault some is) = let both : None ≡ Some fault = sym none ∙ some in absurd (cc)
 ends_first network judged text answer taken none few (at_start also zero is) = subst (Finishes network text) (sym is) (fault_empty network text judged.progress taken zero)
 ends_first network judged text answer taken none few (too_early also some open_nodes is) =
@@ -335,7 +335,7 @@ ends_first network judged text answer taken none few (too_early also some open_n
 ends_first network judged text answer taken none few (whole_log also some none_open is) =
     subst (Finishes network text) (sym is) (replayed_whole network text judged.progress taken some none_open)
 
-pub ends_fault : (network : NetworkOf) (judged : Judged) (text : List ℕ) (answer : Result Replayed LogFault) (fault : LogFault) → judged.fault ≡ Some fault → IsFirstFault network text fault → Ends judged answer → Finishes network text answer
+pub ends_fault : (network : NetworkOf) (judged : Judged) (text : List ℕ) (answer : Result Replayed LogFault) (fault : LogFault) → judged.fault ≡ Some fault → IsFirstFault network text fault → IsAnswerAtEnd judged answer → Finishes network text answer
 ends_fault network judged text answer fault some first (at_fault other also is) =
     let same_one : Some fault ≡ Some other = sym some ∙ also in
     let alike : fault ≡ other = cc in
@@ -345,7 +345,7 @@ ends_fault network judged text answer fault some first (too_early none lines ope
 ends_fault network judged text answer fault some first (whole_log none lines none_open is) = let both : None ≡ Some fault = sym none ∙ some in absurd (cc)
 
 -- what is left where no further piece comes
-pub finish_whole : (network : NetworkOf) (judged : Judged) (text : List ℕ) (answer : Result Replayed LogFault) → IsNetwork network → HasRead text (replay_at network judged []) → feeds text < 2 ^ 63 → Ends judged answer → Finishes network text answer
+pub finish_whole : (network : NetworkOf) (judged : Judged) (text : List ℕ) (answer : Result Replayed LogFault) → IsNetwork network → HasRead text (replay_at network judged []) → feeds text < 2 ^ 63 → IsAnswerAtEnd judged answer → Finishes network text answer
 finish_whole network judged text answer bounds read few ends = elim (read_by text (replay_at network judged []) read) [
   | read_right none is ↦
       let count = right_feeds text (replay_at network judged []) bounds is in
@@ -354,7 +354,7 @@ finish_whole network judged text answer bounds read few ends = elim (read_by tex
   | read_fault fault some first ↦ ends_fault network judged text answer fault some first ends
 ]
 
-pub finish_rest : (network : NetworkOf) (before now : Judged) (kept text : List ℕ) (answer : Result Replayed LogFault) → IsNetwork network → (kept ≡ [] → ⊥) → HasRead text (replay_at network before kept) → feeds text < 2 ^ 63 → Judges network (record { text = kept; ended = false }) before now → Ends now answer → Finishes network text answer
+pub finish_rest : (network : NetworkOf) (before now : Judged) (kept text : List ℕ) (answer : Result Replayed LogFault) → IsNetwork network → (kept ≡ [] → ⊥) → HasRead text (replay_at network before kept) → feeds text < 2 ^ 63 → Judges network (record { text = kept; ended = false }) before now → IsAnswerAtEnd now answer → Finishes network text answer
 finish_rest network before now kept text answer bounds some read few judges ends = elim (read_by text (replay_at network before kept) read) [
   | read_right none is ↦
       let count = right_feeds text (replay_at network before kept) bounds is in

@@ -102,11 +102,11 @@ pub data Judges (network : NetworkOf) (line : TextLineOf) (before now : Judged) 
 
 -- what no further line leaves: the first wrong line, or a text that isn't begun, or one that ends
 -- too early, or a log
-pub data Ends (judged : Judged) (answer : Result Replayed LogFault) : Type 0 where
-  at_fault : (fault : LogFault) → judged.fault ≡ Some fault → answer ≡ Err fault → Ends judged answer
-  at_start : judged.fault ≡ None → judged.progress.lines ≡ 0 → answer ≡ Err (record { line = 1; kind = Form }) → Ends judged answer
-  too_early : judged.fault ≡ None → 0 < judged.progress.lines → (judged.progress.stack.nodes ≡ [] → ⊥) → answer ≡ Err (record { line = next_count judged.progress.lines; kind = Short }) → Ends judged answer
-  whole_log : judged.fault ≡ None → 0 < judged.progress.lines → judged.progress.stack.nodes ≡ [] → answer ≡ Ok (record { bound = judged.progress.bound; counts = judged.progress.counts }) → Ends judged answer
+pub data IsAnswerAtEnd (judged : Judged) (answer : Result Replayed LogFault) : Type 0 where
+  at_fault : (fault : LogFault) → judged.fault ≡ Some fault → answer ≡ Err fault → IsAnswerAtEnd judged answer
+  at_start : judged.fault ≡ None → judged.progress.lines ≡ 0 → answer ≡ Err (record { line = 1; kind = Form }) → IsAnswerAtEnd judged answer
+  too_early : judged.fault ≡ None → 0 < judged.progress.lines → (judged.progress.stack.nodes ≡ [] → ⊥) → answer ≡ Err (record { line = next_count judged.progress.lines; kind = Short }) → IsAnswerAtEnd judged answer
+  whole_log : judged.fault ≡ None → 0 < judged.progress.lines → judged.progress.stack.nodes ≡ [] → answer ≡ Ok (record { bound = judged.progress.bound; counts = judged.progress.counts }) → IsAnswerAtEnd judged answer
 
 -- the lines of a text that are judged, with what is kept of an unfinished one
 abbrev pub replay_at : NetworkOf → Judged → List ℕ → ReplayerOf

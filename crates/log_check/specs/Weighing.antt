@@ -8,7 +8,7 @@ use Rattle.geo_model.specs.Prices.{prices_of}
 use Rattle.bound_log.specs.CutText.{CutTextOf}
 use Rattle.bound_log.specs.DualText.{weighed_text}
 use Rattle.geo_model.specs.declared.plan.Node.{Node}
-use Rattle.bound_log.specs.Rules.{chooses, is_displacement, is_weight, limit_passes}
+use Rattle.bound_log.specs.Rules.{chooses_if_any, is_displacement, is_weight, limit_passes}
 
 -- the numbers of a share are in their ranges
 abbrev pub is_share_in_range : NetworkOf → ℕ × CutTextOf → Bool
@@ -18,7 +18,7 @@ is_share_in_range network share =
 -- the limit of a number is in force for the inner plan of a node: it has no owner, or the plan
 -- chooses its owner
 abbrev pub is_owned_at : NetworkOf → Node → ℕ → Bool
-is_owned_at network node number = limit_passes (λ limit. chooses node.inside limit.owner) (slice_get network.limits number)
+is_owned_at network node number = limit_passes (λ limit. chooses_if_any node.inside limit.owner) (slice_get network.limits number)
 
 -- a share whose numbers are in their ranges
 pub record IsShareOf (network : NetworkOf) (share : ℕ × CutTextOf) : Type 0 where

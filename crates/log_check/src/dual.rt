@@ -4,7 +4,7 @@ ghost use Rattle.whole_algebra.specs.Matrices.{at};
 ghost use Rattle.geo_model.specs.Dual.{at_least_zero, dual_bound, reduced_price};
 ghost use Rattle.geo_model.specs.Prices.{prices_of};
 ghost use Rattle.bound_log.specs.DualText.{weighed_text};
-ghost use Rattle.bound_log.specs.LogTree.{IsDualAt};
+ghost use Rattle.bound_log.specs.LogTree.{IsDualLineAt};
 ghost use Rattle.log_check.specs.Groups.{AreReduced};
 ghost use Rattle.log_check.specs.LineRoom.{IsLineRoom};
 ghost use Rattle.log_check.specs.Places.{HasEntries};
@@ -85,7 +85,7 @@ pub fn dual_bound_at(
 ) -> u128
     requires room { IsLineRoom network.now room.old }
     requires node { HasEntries (length network.now.candidates) node.now }
-    requires dual { IsDualAt network.now node.now divisor shares.now }
+    requires dual { IsDualLineAt network.now node.now divisor shares.now }
     ensures value { result ≡ dual_bound (prices_of network.now) divisor (map (weighed_text network.now) shares.now) node.now }
     ensures kept { IsLineRoom network.now room.new }
 {

@@ -1,6 +1,6 @@
 //! What the lines of a text that were judged came to.
 ghost use Rattle.std.specs.Prelude.{◌≡◌, [], None, IfOk};
-ghost use Rattle.log_check.specs.Fed.{IsSound, Judges, Ends};
+ghost use Rattle.log_check.specs.Fed.{IsSound, Judges, IsAnswerAtEnd};
 ghost use Rattle.log_check.specs.Reaching.{HasTaken};
 
 use crate::fault::LogFault;
@@ -62,7 +62,7 @@ impl Judged {
 
     /// What the lines come to where no further one follows.
     pub fn end(&self) -> Result<Replayed, LogFault>
-        ensures { Ends self.now result }
+        ensures { IsAnswerAtEnd self.now result }
     {
         if let Some(fault) = self.fault {
             return Err(fault);

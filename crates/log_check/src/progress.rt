@@ -9,7 +9,7 @@ ghost use Rattle.bound_log.specs.declared.bound.Bound.TheVariants.{NoPlan, AtLea
 ghost use Rattle.bound_log.specs.Bound.{lesser};
 ghost use Rattle.bound_log.specs.Counted.{counts_of};
 ghost use Rattle.bound_log.specs.DualText.{weighed_text};
-ghost use Rattle.bound_log.specs.LogTree.{IsDualAt, leaf_bound};
+ghost use Rattle.bound_log.specs.LogTree.{IsDualLineAt, leaf_bound};
 ghost use Rattle.bound_log.specs.Rules.{IsAllowedLine};
 ghost use Rattle.bound_log.specs.declared.log_line.LogLine.TheVariants as log_line;
 ghost use Rattle.log_check.specs.LineRoom.{IsLineRoom};
@@ -112,7 +112,7 @@ impl Progress {
         requires room { IsLineRoom network.now room.old }
         requires ready { IsReady network.now self.old.stack }
         requires some { 0 < length self.old.stack.nodes }
-        requires allowed { (node : NodeOf) (rest : List NodeOf) → self.old.stack.nodes ≡ node ∷ rest → IsDualAt network.now node divisor shares.now }
+        requires allowed { (node : NodeOf) (rest : List NodeOf) → self.old.stack.nodes ≡ node ∷ rest → IsDualLineAt network.now node divisor shares.now }
         ensures ends { (node : NodeOf) (rest : List NodeOf) → self.old.stack.nodes ≡ node ∷ rest →
             EndsAt rest (AtLeast (dual_bound (prices_of network.now) divisor (map (weighed_text network.now) shares.now) node)) self.old self.new }
         ensures kept { IsLineRoom network.now room.new }

@@ -1,6 +1,6 @@
 //! Whether a line is allowed at a node.
 ghost use Rattle.std.specs.Prelude.{◌≡◌, length};
-ghost use Rattle.bound_log.specs.Rules.{first_broken, line_rules};
+ghost use Rattle.bound_log.specs.Rules.{first_unkept, line_rules};
 ghost use Rattle.bound_log.specs.declared.log_leaf.LogLeaf.TheVariants as log_leaf;
 ghost use Rattle.bound_log.specs.declared.log_line.LogLine.TheVariants as log_line;
 ghost use Rattle.log_check.specs.LineRoom.{IsLineRoom};
@@ -23,7 +23,7 @@ pub fn broken_rule(
 ) -> Option<LogKind>
     requires room { IsLineRoom network.now room.old }
     requires node { HasEntries (length network.now.candidates) node.now }
-    ensures rule { result ≡ first_broken (line_rules network.now node.now line.now) }
+    ensures rule { result ≡ first_unkept (line_rules network.now node.now line.now) }
     ensures kept { IsLineRoom network.now room.new }
 {
     match line {
@@ -41,7 +41,7 @@ fn broken_by_leaf(
 ) -> Option<LogKind>
     requires room { IsLineRoom network.now room.old }
     requires node { HasEntries (length network.now.candidates) node.now }
-    ensures rule { result ≡ first_broken (line_rules network.now node.now (log_line.Leaf leaf.now)) }
+    ensures rule { result ≡ first_unkept (line_rules network.now node.now (log_line.Leaf leaf.now)) }
     ensures kept { IsLineRoom network.now room.new }
 {
     match leaf {
@@ -55,7 +55,7 @@ fn broken_by_leaf(
 // The first rule that a split breaks.
 fn broken_by_split(network: &Network, node: &Node, candidate: u64) -> Option<LogKind>
     requires { HasEntries (length network.now.candidates) node.now }
-    ensures { result ≡ first_broken (line_rules network.now node.now (log_line.Split candidate)) }
+    ensures { result ≡ first_unkept (line_rules network.now node.now (log_line.Split candidate)) }
 {
     let candidates = network.candidates();
     if candidate >= candidates.len() as u64 {
@@ -80,7 +80,7 @@ fn broken_by_pivot(
 ) -> Option<LogKind>
     requires room { IsLineRoom network.now room.old }
     requires node { HasEntries (length network.now.candidates) node.now }
-    ensures rule { result ≡ first_broken (line_rules network.now node.now (log_line.Leaf (log_leaf.Pivot number))) }
+    ensures rule { result ≡ first_unkept (line_rules network.now node.now (log_line.Leaf (log_leaf.Pivot number))) }
     ensures kept { IsLineRoom network.now room.new }
 {
     let limits = network.limits();
@@ -106,7 +106,7 @@ fn broken_by_cut(
 ) -> Option<LogKind>
     requires room { IsLineRoom network.now room.old }
     requires node { HasEntries (length network.now.candidates) node.now }
-    ensures rule { result ≡ first_broken (line_rules network.now node.now (log_line.Leaf (log_leaf.Cut cut.now))) }
+    ensures rule { result ≡ first_unkept (line_rules network.now node.now (log_line.Leaf (log_leaf.Cut cut.now))) }
     ensures kept { IsLineRoom network.now room.new }
 {
     let limits = network.limits();
@@ -137,7 +137,7 @@ fn broken_by_dual(
 ) -> Option<LogKind>
     requires room { IsLineRoom network.now room.old }
     requires node { HasEntries (length network.now.candidates) node.now }
-    ensures rule { result ≡ first_broken (line_rules network.now node.now (log_line.Leaf (log_leaf.Dual divisor shares.now))) }
+    ensures rule { result ≡ first_unkept (line_rules network.now node.now (log_line.Leaf (log_leaf.Dual divisor shares.now))) }
     ensures kept { IsLineRoom network.now room.new }
 {
     if !dual_in_range(network, room, divisor, shares) {

@@ -3,7 +3,7 @@ use Rattle.std.proofs.Common.{◌≡◌, ℕ, zero, suc, [], ◌∷◌, ◌+◌,
 use Rattle.std.proofs.lemmas.Int.{ints}
 use Rattle.whole_algebra.specs.Rounding.{floor_over, gap_over}
 use Rattle.whole_algebra.specs.Matrices.{at, slacks, IsTriangle}
-use Rattle.whole_algebra.specs.Chains.{verdict_of as outcome_on}
+use Rattle.whole_algebra.specs.Chains.{chains_outcome as outcome_on}
 use Rattle.whole_algebra.specs.Grid.{row_at}
 use Rattle.whole_algebra.proofs.Rounding.{gap_range}
 use Rattle.whole_algebra.proofs.Shapes.{length-triangle}

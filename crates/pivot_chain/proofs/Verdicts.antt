@@ -2,7 +2,7 @@
 use Rattle.std.proofs.Common.{◌≡◌, ℕ, ◌≤◌, List, Bool, Some, slice_get, length, refl, sym, ◌∙◌, subst, arith, ℤ, pos, ◌*ℤ◌, ◌≤ℤ◌, ◌<ℤ◌}
 use Rattle.std.proofs.lemmas.Int.{ints}
 use Rattle.std.proofs.lemmas.Option.{slice_get_within, get_or_from_slice_get}
-use Rattle.whole_algebra.specs.Chains.{Outcome, met, refuted, open_at, verdict_of as outcome_on}
+use Rattle.whole_algebra.specs.Chains.{Outcome, met, refuted, open_at, chains_outcome as outcome_on}
 use Rattle.whole_algebra.proofs.VerdictLaws.{verdict-open}
 use Rattle.geo_model.specs.Row.{Displaced}
 use Rattle.geo_model.specs.Energy.{energy, IsWithin}

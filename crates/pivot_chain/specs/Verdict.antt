@@ -1,6 +1,6 @@
 -- The verdict of a plan on a limit: what the interval chains of the limit's two grid matrices tell. This project's own.
 use Rattle.std.specs.Prelude.{Bool, List, ℤ}
-use Rattle.whole_algebra.specs.Chains.{Outcome, met, refuted, open_at, verdict_of as outcome_on}
+use Rattle.whole_algebra.specs.Chains.{Outcome, met, refuted, open_at, chains_outcome as outcome_on}
 use Rattle.geo_model.specs.Limit.{LimitOf, SquareOf}
 use Rattle.geo_model.specs.Network.{NetworkOf}
 use Rattle.geo_model.specs.declared.verdict.Verdict.{Verdict}

@@ -1,5 +1,5 @@
 ghost use Rattle.std.specs.Prelude.{◌≡◌, ◌<◌, ◌≤◌, ℕ, ℤ, pos, ◌-ℤ◌, ◌≤ℤ◌, List, Bool, Some, length, slice_get};
-ghost use Rattle.whole_algebra.specs.Chains.{verdict_of as outcome_on};
+ghost use Rattle.whole_algebra.specs.Chains.{chains_outcome as outcome_on};
 ghost use Rattle.geo_model.specs.Row.{Displaced, RowOf};
 ghost use Rattle.geo_model.specs.Candidate.{CandidateOf};
 ghost use Rattle.geo_model.specs.Energy.{IsWithin};

@@ -9,17 +9,17 @@ const LEAST_PIVOT: i64 = 1 << 10;
 /// How an inverse changes where the rows of a candidate are taken out or added: for each row a vector,
 /// whose products over a pivot are added. It keeps its memory when it is used for another candidate.
 #[derive(Drop)]
-pub struct Change {
+pub struct InverseChange {
     // The vectors one after another, `size` numbers each.
     vectors: Vec<i64>,
     size: usize,
     pivots: Vec<i64>,
 }
 
-impl Change {
+impl InverseChange {
     /// The change by no row. It takes no memory.
-    pub fn new(alloc: Global) -> Change {
-        Change {
+    pub fn new(alloc: Global) -> InverseChange {
+        InverseChange {
             vectors: Vec::new(alloc),
             size: 1,
             pivots: Vec::new(alloc),

@@ -1,4 +1,4 @@
-use crate::change::Change;
+use crate::change::InverseChange;
 use fixed_point::{ONE, product, subtract_scaled};
 use geo_base::NoMemory;
 use std::alloc::Global;
@@ -63,7 +63,7 @@ impl Inverse {
         &self,
         rows: &[Form],
         share: i64,
-        change: &mut Change,
+        change: &mut InverseChange,
         scratch: &mut Vec<i64>,
     ) -> Result<(), NoMemory> {
         change.clear(self.size);
@@ -75,14 +75,14 @@ impl Inverse {
     }
 
     /// Makes a change.
-    pub fn apply(&mut self, change: &Change) {
+    pub fn apply(&mut self, change: &InverseChange) {
         change.apply_to_rows(self.entries.as_mut_slice());
         self.changes = self.changes.saturating_add(1);
     }
 
     /// The load over the energy of a limit of one or two squares, in the direction that bears it worst
     /// after a change: above 1, the limit is broken then.
-    pub fn strength(&self, squares: &[Form], change: &Change) -> i64 {
+    pub fn strength(&self, squares: &[Form], change: &InverseChange) -> i64 {
         let shift = common_shift(squares);
         let Some(first) = squares.first() else {
             return 0;
@@ -101,7 +101,7 @@ impl Inverse {
         &self,
         form: &Form,
         shift: u32,
-        change: &Change,
+        change: &InverseChange,
         numbers: &mut Vec<i64>,
     ) -> Result<(), NoMemory> {
         self.times(form, shift, numbers)?;
@@ -122,7 +122,7 @@ impl Inverse {
     }
 
     // The product of two forms over 2^shift with the inverse after a change between them.
-    fn between(&self, first: &Form, second: &Form, change: &Change, shift: u32) -> i64 {
+    fn between(&self, first: &Form, second: &Form, change: &InverseChange, shift: u32) -> i64 {
         let mut sum = change.between(first, second, shift);
         for term in first.terms() {
             let part = second.at(self.row(term.unknown as usize), shift);

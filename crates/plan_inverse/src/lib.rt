@@ -12,5 +12,5 @@
 mod change;
 mod inverse;
 
-pub use change::Change;
+pub use change::InverseChange;
 pub use inverse::Inverse;

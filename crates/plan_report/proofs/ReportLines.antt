@@ -4,7 +4,7 @@ use Rattle.std.specs.Prelude.{slice_get}
 use Rattle.std.proofs.lemmas.List.{append-nil, length-map, take_all}
 use Rattle.std.proofs.lemmas.Option.{slice_get-map}
 use Rattle.candidate_tables.specs.declared.record.CandidateRecord.{CandidateRecord}
-use Rattle.candidate_tables.specs.CandidateTable.{names_of}
+use Rattle.candidate_tables.specs.CandidateTable.{candidate_names}
 use Rattle.plan_report.proofs.Numbered.{before}
 use Rattle.plan_report.specs.ReportText.{take_text, takes_text}
 
@@ -25,25 +25,25 @@ chosen_line b line is = ap (λ (v : Bool). if v then line else []) is
 left_line : (b : Bool) (line : List ℕ) → b ≡ false → (if b then line else []) ≡ []
 left_line b line is = ap (λ (v : Bool). if v then line else []) is
 
-name_at : (n : ℕ) (candidates : List CandidateRecord) (candidate : CandidateRecord) → slice_get candidates n ≡ Some candidate → slice_get (names_of candidates) n ≡ Some candidate.name
+name_at : (n : ℕ) (candidates : List CandidateRecord) (candidate : CandidateRecord) → slice_get candidates n ≡ Some candidate → slice_get (candidate_names candidates) n ≡ Some candidate.name
 name_at n candidates candidate here = rw (slice_get-map (λ (c : CandidateRecord). c.name) candidates n, here) refl
 
 -- the lines of one candidate more, where it is chosen
-pub takes_text-chosen : (n : ℕ) (candidates : List CandidateRecord) (plan : List Bool) (candidate : CandidateRecord) (chosen : Bool) → slice_get candidates n ≡ Some candidate → slice_get plan n ≡ Some chosen → chosen ≡ true → takes_text (take (n + 1) (names_of candidates)) plan ≡ takes_text (take n (names_of candidates)) plan ++ take_text candidate.name
+pub takes_text-chosen : (n : ℕ) (candidates : List CandidateRecord) (plan : List Bool) (candidate : CandidateRecord) (chosen : Bool) → slice_get candidates n ≡ Some candidate → slice_get plan n ≡ Some chosen → chosen ≡ true → takes_text (take (n + 1) (candidate_names candidates)) plan ≡ takes_text (take n (candidate_names candidates)) plan ++ take_text candidate.name
 takes_text-chosen n candidates plan candidate chosen here flag is =
-    rw add-one (step n (names_of candidates) plan candidate.name chosen (name_at n candidates candidate here) flag
-    ∙ ap (λ t. takes_text (take n (names_of candidates)) plan ++ t) (chosen_line chosen (take_text candidate.name) is))
+    rw add-one (step n (candidate_names candidates) plan candidate.name chosen (name_at n candidates candidate here) flag
+    ∙ ap (λ t. takes_text (take n (candidate_names candidates)) plan ++ t) (chosen_line chosen (take_text candidate.name) is))
 
 -- .. and where it isn't
-pub takes_text-left : (n : ℕ) (candidates : List CandidateRecord) (plan : List Bool) (candidate : CandidateRecord) (chosen : Bool) → slice_get candidates n ≡ Some candidate → slice_get plan n ≡ Some chosen → chosen ≡ false → takes_text (take (n + 1) (names_of candidates)) plan ≡ takes_text (take n (names_of candidates)) plan
+pub takes_text-left : (n : ℕ) (candidates : List CandidateRecord) (plan : List Bool) (candidate : CandidateRecord) (chosen : Bool) → slice_get candidates n ≡ Some candidate → slice_get plan n ≡ Some chosen → chosen ≡ false → takes_text (take (n + 1) (candidate_names candidates)) plan ≡ takes_text (take n (candidate_names candidates)) plan
 takes_text-left n candidates plan candidate chosen here flag is =
-    rw add-one (step n (names_of candidates) plan candidate.name chosen (name_at n candidates candidate here) flag
-    ∙ ap (λ t. takes_text (take n (names_of candidates)) plan ++ t) (left_line chosen (take_text candidate.name) is) ∙ append-nil (takes_text (take n (names_of candidates)) plan))
+    rw add-one (step n (candidate_names candidates) plan candidate.name chosen (name_at n candidates candidate here) flag
+    ∙ ap (λ t. takes_text (take n (candidate_names candidates)) plan ++ t) (left_line chosen (take_text candidate.name) is) ∙ append-nil (takes_text (take n (candidate_names candidates)) plan))
 
 -- the lines of all
-pub takes_text-all : (n : ℕ) (candidates : List CandidateRecord) (plan : List Bool) → length candidates ≤ n → takes_text (take n (names_of candidates)) plan ≡ takes_text (names_of candidates) plan
+pub takes_text-all : (n : ℕ) (candidates : List CandidateRecord) (plan : List Bool) → length candidates ≤ n → takes_text (take n (candidate_names candidates)) plan ≡ takes_text (candidate_names candidates) plan
 takes_text-all n candidates plan past =
-    ap (λ names. takes_text names plan) (take_all n (names_of candidates) (omega (arith, length-map candidates (λ (c : CandidateRecord). c.name))))
+    ap (λ names. takes_text names plan) (take_all n (candidate_names candidates) (omega (arith, length-map candidates (λ (c : CandidateRecord). c.name))))
 
 -- a text of six pieces, put one after another
 pub six_pieces : (t1 t2 t3 t4 t5 t6 p1 p2 p3 p4 p5 p6 : List ℕ) → t1 ≡ p1 → t2 ≡ t1 ++ p2 → t3 ≡ t2 ++ p3 → t4 ≡ t3 ++ p4 → t5 ≡ t4 ++ p5 → t6 ≡ t5 ++ p6 → t6 ≡ p1 ++ (p2 ++ (p3 ++ (p4 ++ (p5 ++ p6))))

@@ -66,8 +66,8 @@ part_text network plan kind place name part.Fixed = []
 part_text network plan kind place name (part.New limit) = length_text kind name (length_of network plan kind place limit) limit
 
 -- the lines of a point: that of its axis, and then that of its height
-abbrev pub point_text : NetworkOf → List Bool → ℕ → PointRecord → List ℕ
-point_text network plan place point =
+abbrev pub point_lines : NetworkOf → List Bool → ℕ → PointRecord → List ℕ
+point_lines network plan place point =
     part_text network plan kind_of_length.Axis place point.name point.plane ++ part_text network plan kind_of_length.Height place point.name point.height
 
 -- the line of a row: its candidate, its number, what is shown of its redundancy, and the limit
@@ -96,7 +96,7 @@ end_text network plan counts = counts_text counts ++ price_text (codes "bound ")
 unfoldable pub plan_text : List PointRecord → List (List ℕ) → ℕ → NetworkOf → List Bool → Counts → List ℕ
 plan_text points names limit network plan counts =
     codes "plan\n" ++ (choice_text names network plan
-    ++ (numbered (point_text network plan) 0 points ++ (numbered (chosen_text network plan limit names) 0 network.candidates ++ end_text network plan counts)))
+    ++ (numbered (point_lines network plan) 0 points ++ (numbered (chosen_text network plan limit names) 0 network.candidates ++ end_text network plan counts)))
 
 -- the report that no plan meets the limits
 abbrev pub no_plan_text : Counts → List ℕ

@@ -38,12 +38,12 @@ IsAnswerFor network (answer.Undecided plan number step lo hi) = (length plan ≡
 
 -- the report of an answer, with the counts of the lines of its log
 abbrev pub IsReport : List PointRecord → List CandidateRecord → ℕ → NetworkOf → Counts → Answer → List ℕ → Type 0
-IsReport points candidates q network counts (answer.Best plan) text = text ≡ plan_text points (candidate.names_of candidates) q network plan counts
+IsReport points candidates q network counts (answer.Best plan) text = text ≡ plan_text points (candidate.candidate_names candidates) q network plan counts
 IsReport points candidates q network counts answer.NoPlan text = text ≡ no_plan_text counts
 IsReport points candidates q network counts (answer.Undecided plan number step lo hi) text =
     (given : LimitOf) → slice_get network.limits number ≡ Some given →
-    text ≡ undecided_text (candidate.names_of candidates) network plan
-    (open_text (which_text (point.names_of points) (candidate.names_of candidates) given.kind) step lo hi) counts
+    text ≡ undecided_text (candidate.candidate_names candidates) network plan
+    (open_text (which_text (point.point_names points) (candidate.candidate_names candidates) given.kind) step lo hi) counts
 
 -- ---- a plan that is reported; what follows is cited by private clauses alone
 

@@ -46,9 +46,9 @@ pub record TakesLengths (network : NetworkOf) (given : LimitOf) : Type 0 where
 -- ---- of a plan for a network
 
 -- the part of a point that is limited: that of its plane, or of its height
-abbrev pub part_of : LengthKind → PointRecord → Part
-part_of kind_of_length.Axis point = point.plane
-part_of kind_of_length.Height point = point.height
+abbrev pub limited_part : LengthKind → PointRecord → Part
+limited_part kind_of_length.Axis point = point.plane
+limited_part kind_of_length.Height point = point.height
 
 -- the limit on the semi-major axis of the point of this number, or on its height
 abbrev pub length_limit : LengthKind → List Unknown → ℕ → ℕ → LimitOf

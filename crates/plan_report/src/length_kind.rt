@@ -1,6 +1,6 @@
 ghost use Rattle.std.specs.Prelude.{◌≡◌};
 ghost use Rattle.plan_report.specs.ReportText.{length_word};
-ghost use Rattle.plan_report.specs.Shown.{part_of};
+ghost use Rattle.plan_report.specs.Shown.{limited_part};
 
 use point_tables::{Part, PointRecord};
 
@@ -25,7 +25,7 @@ impl LengthKind {
 
     /// The part of a point that it is on.
     pub(crate) fn part(self, point: &PointRecord) -> Part
-        ensures { result ≡ part_of self point.now }
+        ensures { result ≡ limited_part self point.now }
     {
         match self {
             LengthKind::Axis => point.plane,

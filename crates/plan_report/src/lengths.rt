@@ -5,9 +5,9 @@ ghost use Rattle.point_tables.specs.Accepted.{IsAccepted, IsPart};
 ghost use Rattle.net_build.specs.Build.{limits_of_part, limits_of_point};
 ghost use Rattle.pivot_chain.specs.Room.{IsRoomOf};
 ghost use Rattle.plan_report.specs.Reported.{IsReported, StandFrom};
-ghost use Rattle.plan_report.specs.ReportText.{values_text, length_text, part_text, point_text};
+ghost use Rattle.plan_report.specs.ReportText.{values_text, length_text, part_text, point_lines};
 ghost use Rattle.plan_report.specs.RowsText.{numbered};
-ghost use Rattle.plan_report.specs.Shown.{length_limit, part_of};
+ghost use Rattle.plan_report.specs.Shown.{length_limit, limited_part};
 
 use crate::length_kind::LengthKind;
 use crate::reported::Reported;
@@ -70,10 +70,10 @@ fn put_part(
 ) -> Result<u32, NoMemory>
     requires reported { IsReported reported.now }
     requires room { IsRoomOf reported.now.network.now room.old }
-    requires bounds { IsPart (part_of kind point.now) }
-    requires number { StandFrom reported.now.network.now.limits number (limits_of_part (length_limit kind reported.now.network.now.unknowns place) (part_of kind point.now)) }
-    ensures text { OnOk result (text.new.items ≡ text.old.items ++ part_text reported.now.network.now reported.now.plan.now kind place point.now.name (part_of kind point.now)) }
-    ensures next { IfOk result (λ next. next ≡ number + length (limits_of_part (length_limit kind reported.now.network.now.unknowns place) (part_of kind point.now))) }
+    requires bounds { IsPart (limited_part kind point.now) }
+    requires number { StandFrom reported.now.network.now.limits number (limits_of_part (length_limit kind reported.now.network.now.unknowns place) (limited_part kind point.now)) }
+    ensures text { OnOk result (text.new.items ≡ text.old.items ++ part_text reported.now.network.now reported.now.plan.now kind place point.now.name (limited_part kind point.now)) }
+    ensures next { IfOk result (λ next. next ≡ number + length (limits_of_part (length_limit kind reported.now.network.now.unknowns place) (limited_part kind point.now))) }
     ensures room { IsRoomOf reported.now.network.now room.new }
 {
     let network = reported.network;
@@ -100,7 +100,7 @@ fn put_point(
     requires room { IsRoomOf reported.now.network.now room.old }
     requires accepted { IsAccepted point.now }
     requires number { StandFrom reported.now.network.now.limits number (limits_of_point reported.now.network.now.unknowns (place, point.now)) }
-    ensures text { OnOk result (text.new.items ≡ text.old.items ++ point_text reported.now.network.now reported.now.plan.now place point.now) }
+    ensures text { OnOk result (text.new.items ≡ text.old.items ++ point_lines reported.now.network.now reported.now.plan.now place point.now) }
     ensures next { IfOk result (λ next. next ≡ number + length (limits_of_point reported.now.network.now.unknowns (place, point.now))) }
     ensures room { IsRoomOf reported.now.network.now room.new }
 {
@@ -117,7 +117,7 @@ pub(crate) fn put_points(
 ) -> Result<(), NoMemory>
     requires reported { IsReported reported.now }
     requires room { IsRoomOf reported.now.network.now room.old }
-    ensures text { OnOk result (text.new.items ≡ text.old.items ++ numbered (point_text reported.now.network.now reported.now.plan.now) 0 reported.now.points.now) }
+    ensures text { OnOk result (text.new.items ≡ text.old.items ++ numbered (point_lines reported.now.network.now reported.now.plan.now) 0 reported.now.points.now) }
     ensures room { IsRoomOf reported.now.network.now room.new }
 {
     let points = reported.points;

@@ -15,7 +15,7 @@ use text_num::put_whole;
 
 /// The name of a point, and no bytes where there is no point of this number.
 fn point_name(points: &Points, place: u32) -> &[u8]
-    ensures { result.now ≡ get_or (point.names_of points.now) place [] }
+    ensures { result.now ≡ get_or (point.point_names points.now) place [] }
 {
     if place >= points.len() {
         return b"";
@@ -25,7 +25,7 @@ fn point_name(points: &Points, place: u32) -> &[u8]
 
 /// The name of a candidate, and no bytes where there is no candidate of this number.
 fn candidate_name(candidates: &Candidates, place: u32) -> &[u8]
-    ensures { result.now ≡ get_or (candidate.names_of candidates.now) place [] }
+    ensures { result.now ≡ get_or (candidate.candidate_names candidates.now) place [] }
 {
     if place >= candidates.len() {
         return b"";
@@ -41,7 +41,7 @@ fn which(
     candidates: &Candidates,
     kind: LimitKind,
 ) -> Result<Vec<u8>, NoMemory>
-    ensures { IfOk result (λ text. text.items ≡ which_text (point.names_of points.now) (candidate.names_of candidates.now) kind) }
+    ensures { IfOk result (λ text. text.items ≡ which_text (point.point_names points.now) (candidate.candidate_names candidates.now) kind) }
 {
     let mut text = Vec::new(alloc);
     match kind {
@@ -102,7 +102,7 @@ pub(crate) fn open_line(
     lo: i128,
     hi: i128,
 ) -> Result<Vec<u8>, NoMemory>
-    ensures { IfOk result (λ text. text.items ≡ open_text (which_text (point.names_of points.now) (candidate.names_of candidates.now) kind) step lo hi) }
+    ensures { IfOk result (λ text. text.items ≡ open_text (which_text (point.point_names points.now) (candidate.candidate_names candidates.now) kind) step lo hi) }
 {
     let name = which(alloc, points, candidates, kind)?;
     line_of(alloc, name.as_slice(), step, lo, hi)

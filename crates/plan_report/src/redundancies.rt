@@ -2,7 +2,7 @@
 ghost use Rattle.std.specs.Prelude.{◌≡◌, ◌++◌, ◌<◌, ◌≤◌, [], Some, get_or, length, slice_get, OnOk};
 ghost use Rattle.geo_model.specs.Candidate.{CandidateOf};
 ghost use Rattle.geo_model.specs.Row.{RowOf};
-ghost use Rattle.candidate_tables.specs.CandidateTable.{names_of};
+ghost use Rattle.candidate_tables.specs.CandidateTable.{candidate_names};
 ghost use Rattle.pivot_chain.specs.Room.{IsRoomOf};
 ghost use Rattle.plan_report.specs.Reported.{IsReported};
 ghost use Rattle.plan_report.specs.ReportText.{redundancy_text, row_redundancy_text, chosen_text};
@@ -68,7 +68,7 @@ fn put_rows(
     requires reported { IsReported reported.now }
     requires room { IsRoomOf reported.now.network.now room.old }
     requires owner { slice_get reported.now.network.now.candidates owner ≡ Some candidate.now }
-    ensures text { OnOk result (text.new.items ≡ text.old.items ++ numbered (row_redundancy_text reported.now.network.now reported.now.plan.now reported.now.q (get_or (names_of reported.now.candidates.now) owner []) owner) 0 candidate.now.rows) }
+    ensures text { OnOk result (text.new.items ≡ text.old.items ++ numbered (row_redundancy_text reported.now.network.now reported.now.plan.now reported.now.q (get_or (candidate_names reported.now.candidates.now) owner []) owner) 0 candidate.now.rows) }
     ensures room { IsRoomOf reported.now.network.now room.new }
 {
     // The network's bounds, for the proof.
@@ -91,7 +91,7 @@ fn put_candidate(
     requires reported { IsReported reported.now }
     requires room { IsRoomOf reported.now.network.now room.old }
     requires owner { slice_get reported.now.network.now.candidates owner ≡ Some candidate.now }
-    ensures text { OnOk result (text.new.items ≡ text.old.items ++ chosen_text reported.now.network.now reported.now.plan.now reported.now.q (names_of reported.now.candidates.now) owner candidate.now) }
+    ensures text { OnOk result (text.new.items ≡ text.old.items ++ chosen_text reported.now.network.now reported.now.plan.now reported.now.q (candidate_names reported.now.candidates.now) owner candidate.now) }
     ensures room { IsRoomOf reported.now.network.now room.new }
 {
     if !reported.plan.has(owner) {
@@ -109,7 +109,7 @@ pub(crate) fn put_redundancies(
 ) -> Result<(), NoMemory>
     requires reported { IsReported reported.now }
     requires room { IsRoomOf reported.now.network.now room.old }
-    ensures text { OnOk result (text.new.items ≡ text.old.items ++ numbered (chosen_text reported.now.network.now reported.now.plan.now reported.now.q (names_of reported.now.candidates.now)) 0 reported.now.network.now.candidates) }
+    ensures text { OnOk result (text.new.items ≡ text.old.items ++ numbered (chosen_text reported.now.network.now reported.now.plan.now reported.now.q (candidate_names reported.now.candidates.now)) 0 reported.now.network.now.candidates) }
     ensures room { IsRoomOf reported.now.network.now room.new }
 {
     let offered = reported.network.candidates();

@@ -1,6 +1,6 @@
 //! The reports of a search and of a replay.
 ghost use Rattle.std.specs.Prelude.{◌≡◌, ◌++◌, length, IfOk, OnOk};
-ghost use Rattle.candidate_tables.specs.CandidateTable.{names_of};
+ghost use Rattle.candidate_tables.specs.CandidateTable.{candidate_names};
 ghost use Rattle.plan_report.specs.Reported.{IsNetworkFor, IsAnswerFor, IsReport, IsReported};
 ghost use Rattle.plan_report.specs.ReportText.{take_text, takes_text, price_text, choice_text, end_text, plan_text, no_plan_text, undecided_text, count_text, counts_text, bound_text, checked_text};
 
@@ -31,7 +31,7 @@ fn put_take(text: &mut Vec<u8>, name: &Name) -> Result<(), NoMemory>
 /// Appends a line for each chosen candidate.
 fn put_takes(text: &mut Vec<u8>, candidates: &Candidates, plan: &Plan) -> Result<(), NoMemory>
     requires { length candidates.now ≡ length plan.now }
-    ensures { OnOk result (text.new.items ≡ text.old.items ++ takes_text (names_of candidates.now) plan.now) }
+    ensures { OnOk result (text.new.items ≡ text.old.items ++ takes_text (candidate_names candidates.now) plan.now) }
 {
     for k in 0..candidates.len() {
         let candidate = candidates.get(k);
@@ -78,7 +78,7 @@ fn put_counts(text: &mut Vec<u8>, counts: &Counts) -> Result<(), NoMemory>
 /// Appends the price of a plan, and the lines of its candidates.
 fn put_choice(text: &mut Vec<u8>, reported: &Reported<'_>) -> Result<(), NoMemory>
     requires { IsReported reported.now }
-    ensures { OnOk result (text.new.items ≡ text.old.items ++ choice_text (names_of reported.now.candidates.now) reported.now.network.now reported.now.plan.now) }
+    ensures { OnOk result (text.new.items ≡ text.old.items ++ choice_text (candidate_names reported.now.candidates.now) reported.now.network.now reported.now.plan.now) }
 {
     let price = cost(reported.network, reported.plan);
     put_price(text, b"cost ", price)?;
@@ -104,7 +104,7 @@ fn found_report(
     counts: &Counts,
 ) -> Result<Vec<u8>, NoMemory>
     requires { IsReported reported.now }
-    ensures { IfOk result (λ text. text.items ≡ plan_text reported.now.points.now (names_of reported.now.candidates.now) reported.now.q reported.now.network.now reported.now.plan.now counts.now) }
+    ensures { IfOk result (λ text. text.items ≡ plan_text reported.now.points.now (candidate_names reported.now.candidates.now) reported.now.q reported.now.network.now reported.now.plan.now counts.now) }
 {
     let mut room = ChainRoom::new(alloc, reported.network)?;
     let mut text = Vec::from_slice(alloc, b"plan\n")?;
@@ -123,7 +123,7 @@ fn undecided_report(
     counts: &Counts,
 ) -> Result<Vec<u8>, NoMemory>
     requires { IsReported reported.now }
-    ensures { IfOk result (λ text. text.items ≡ undecided_text (names_of reported.now.candidates.now) reported.now.network.now reported.now.plan.now line.now counts.now) }
+    ensures { IfOk result (λ text. text.items ≡ undecided_text (candidate_names reported.now.candidates.now) reported.now.network.now reported.now.plan.now line.now counts.now) }
 {
     let mut text = Vec::from_slice(alloc, b"undecided\n")?;
     put_choice(&mut text, reported)?;

@@ -47,7 +47,7 @@ fn put_unknown(
 /// Appends the lines of the unknowns.
 fn put_unknowns(text: &mut Vec<u8>, points: &Points, unknowns: &[Unknown]) -> Result<(), NoMemory>
     requires inside { All (λ unknown. unknown.point < length points.now) unknowns.now }
-    ensures { OnOk result (text.new.items ≡ text.old.items ++ numbered (unknown_text (point.names_of points.now)) 0 unknowns.now) }
+    ensures { OnOk result (text.new.items ≡ text.old.items ++ numbered (unknown_text (point.point_names points.now)) 0 unknowns.now) }
 {
     for (number, unknown) in unknowns.iter().enumerate() {
         let name = &points.get(unknown.point).name;
@@ -109,7 +109,7 @@ fn put_candidates(
 ) -> Result<(), NoMemory>
     requires named { length candidates.now ≡ length names.now }
     requires few { length candidates.now ≤ 256 }
-    ensures { OnOk result (text.new.items ≡ text.old.items ++ numbered (candidate_text (candidate.names_of names.now)) 0 candidates.now) }
+    ensures { OnOk result (text.new.items ≡ text.old.items ++ numbered (candidate_text (candidate.candidate_names names.now)) 0 candidates.now) }
 {
     for (number, candidate) in candidates.iter().enumerate() {
         let name = &names.get(number as u32).name;
@@ -133,7 +133,7 @@ pub fn rows_text(
 ) -> Result<Vec<u8>, NoMemory>
     requires points { All (λ unknown. unknown.point < length points.now) network.now.unknowns }
     requires candidates { length network.now.candidates ≡ length candidates.now }
-    ensures { IfOk result (λ text. text.items ≡ rows_text (point.names_of points.now) (candidate.names_of candidates.now) network.now) }
+    ensures { IfOk result (λ text. text.items ≡ rows_text (point.point_names points.now) (candidate.candidate_names candidates.now) network.now) }
 {
     let mut text = Vec::new(alloc);
     put_unknowns(&mut text, points, network.unknowns())?;

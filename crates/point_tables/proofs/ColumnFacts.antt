@@ -6,7 +6,7 @@ use Rattle.std.proofs.lemmas.Int.{ints}
 use Rattle.text_num.specs.Decimal.{decimal_of}
 use Rattle.table_rows.specs.Faults.{first_broken}
 use Rattle.table_rows.proofs.FaultFacts.{first_broken-left}
-use Rattle.point_tables.specs.declared.columns.Columns.{Columns}
+use Rattle.point_tables.specs.declared.columns.PointColumns.{PointColumns}
 use Rattle.point_tables.specs.declared.fault.FaultKind.{FaultKind}
 use Rattle.point_tables.specs.declared.fault.FaultKind.TheVariants as kind
 use Rattle.point_tables.specs.declared.part.Part.TheVariants as part
@@ -14,7 +14,7 @@ use Rattle.point_tables.specs.Accepted.{is_absent}
 use Rattle.table_columns.specs.Columns.{IsNumber, is_empty, number_rules, text_at}
 use Rattle.table_columns.proofs.RecordFacts.{at-field, past}
 use Rattle.point_tables.specs.Columns.{number_kinds}
-use Rattle.point_tables.specs.PointTable.{column_rules, coordinate_of, coordinate_rules, is_fixed, missing_rules, part_of, part_rules}
+use Rattle.point_tables.specs.PointTable.{point_column_rules, coordinate_of, coordinate_rules, is_fixed, missing_rules, part_of, part_rules}
 use Rattle.point_tables.specs.Read.{IsCoordinateOf, IsPartOf, has_missing}
 
 -- ---- a coordinate
@@ -77,41 +77,41 @@ pub keeps-part : (row : List (List ℕ)) (place : ℕ) (text : List ℕ) → sli
 keeps-part row place text e p = at-field (λ t. first_broken (part_rules t) ≡ None) row place text e p
 
 module _ (row : List (List ℕ)) (broken : FaultKind) where
-  pub broken-x : first_broken (coordinate_rules (text_at row 1)) ≡ Some broken → first_broken (column_rules row) ≡ Some broken
-  unfolding column_rules
+  pub broken-x : first_broken (coordinate_rules (text_at row 1)) ≡ Some broken → first_broken (point_column_rules row) ≡ Some broken
+  unfolding point_column_rules
   broken-x x = first_broken-left _ _ broken x
 
   pub broken-y : first_broken (coordinate_rules (text_at row 1)) ≡ None → first_broken (coordinate_rules (text_at row 2)) ≡ Some broken
-      → first_broken (column_rules row) ≡ Some broken
-  unfolding column_rules
+      → first_broken (point_column_rules row) ≡ Some broken
+  unfolding point_column_rules
   broken-y x y = past _ _ _ x (first_broken-left _ _ broken y)
 
   pub broken-z : first_broken (coordinate_rules (text_at row 1)) ≡ None → first_broken (coordinate_rules (text_at row 2)) ≡ None
-      → first_broken (coordinate_rules (text_at row 3)) ≡ Some broken → first_broken (column_rules row) ≡ Some broken
-  unfolding column_rules
+      → first_broken (coordinate_rules (text_at row 3)) ≡ Some broken → first_broken (point_column_rules row) ≡ Some broken
+  unfolding point_column_rules
   broken-z x y z = past _ _ _ x (past _ _ _ y (first_broken-left _ _ broken z))
 
   pub broken-plane : first_broken (coordinate_rules (text_at row 1)) ≡ None → first_broken (coordinate_rules (text_at row 2)) ≡ None
       → first_broken (coordinate_rules (text_at row 3)) ≡ None → first_broken (part_rules (text_at row 4)) ≡ Some broken
-      → first_broken (column_rules row) ≡ Some broken
-  unfolding column_rules
+      → first_broken (point_column_rules row) ≡ Some broken
+  unfolding point_column_rules
   broken-plane x y z plane = past _ _ _ x (past _ _ _ y (past _ _ _ z (first_broken-left _ _ broken plane)))
 
   pub broken-height : first_broken (coordinate_rules (text_at row 1)) ≡ None → first_broken (coordinate_rules (text_at row 2)) ≡ None
       → first_broken (coordinate_rules (text_at row 3)) ≡ None → first_broken (part_rules (text_at row 4)) ≡ None
-      → first_broken (part_rules (text_at row 5)) ≡ Some broken → first_broken (column_rules row) ≡ Some broken
-  unfolding column_rules
+      → first_broken (part_rules (text_at row 5)) ≡ Some broken → first_broken (point_column_rules row) ≡ Some broken
+  unfolding point_column_rules
   broken-height x y z plane height = past _ _ _ x (past _ _ _ y (past _ _ _ z (past _ _ _ plane (first_broken-left _ _ broken height))))
 
 pub broken-missing : (row : List (List ℕ)) (found : Option FaultKind) → first_broken (coordinate_rules (text_at row 1)) ≡ None
     → first_broken (coordinate_rules (text_at row 2)) ≡ None → first_broken (coordinate_rules (text_at row 3)) ≡ None
     → first_broken (part_rules (text_at row 4)) ≡ None → first_broken (part_rules (text_at row 5)) ≡ None → first_broken (missing_rules row) ≡ found
-    → first_broken (column_rules row) ≡ found
-unfolding column_rules
+    → first_broken (point_column_rules row) ≡ found
+unfolding point_column_rules
 broken-missing row found x y z plane height e = past _ _ _ x (past _ _ _ y (past _ _ _ z (past _ _ _ plane (past _ _ _ height e))))
 
 -- what is missing
-pub missing-some : (row : List (List ℕ)) (columns : Columns) → IsCoordinateOf (text_at row 1) columns.x → IsCoordinateOf (text_at row 2) columns.y
+pub missing-some : (row : List (List ℕ)) (columns : PointColumns) → IsCoordinateOf (text_at row 1) columns.x → IsCoordinateOf (text_at row 2) columns.y
     → IsCoordinateOf (text_at row 3) columns.z → IsPartOf (text_at row 4) columns.plane → IsPartOf (text_at row 5) columns.height
     → has_missing columns ≡ true → first_broken (missing_rules row) ≡ Some kind.Missing
 unfolding missing_rules first_broken
@@ -125,7 +125,7 @@ missing-some row columns x y z plane height e =
     by false true e = refl
     by false false e = cc e
 
-pub missing-none : (row : List (List ℕ)) (columns : Columns) → IsCoordinateOf (text_at row 1) columns.x → IsCoordinateOf (text_at row 2) columns.y
+pub missing-none : (row : List (List ℕ)) (columns : PointColumns) → IsCoordinateOf (text_at row 1) columns.x → IsCoordinateOf (text_at row 2) columns.y
     → IsCoordinateOf (text_at row 3) columns.z → IsPartOf (text_at row 4) columns.plane → IsPartOf (text_at row 5) columns.height
     → has_missing columns ≡ false → first_broken (missing_rules row) ≡ None
 unfolding missing_rules first_broken

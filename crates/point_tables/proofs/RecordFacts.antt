@@ -5,14 +5,14 @@ use Rattle.table_columns.specs.declared.refusal.Refusal.{Refusal}
 use Rattle.table_columns.specs.declared.refusal.Refusal.TheVariants as refusal
 use Rattle.table_columns.specs.Columns.{name_at}
 use Rattle.table_columns.specs.Read.{AnswersBy}
-use Rattle.point_tables.specs.declared.columns.Columns.{Columns}
+use Rattle.point_tables.specs.declared.columns.PointColumns.{PointColumns}
 use Rattle.point_tables.specs.declared.fault.FaultKind.{FaultKind}
 use Rattle.point_tables.specs.declared.fault.TableName.{TableName}
 use Rattle.point_tables.specs.Columns.{Answers, answer_of}
 use Rattle.point_tables.specs.PointTable.{point_of}
 use Rattle.point_tables.specs.Read.{IsColumns}
 
-pub read-point : (row : List (List ℕ)) (name : List ℕ) (columns : Columns) → name ≡ name_at row → IsColumns row columns
+pub read-point : (row : List (List ℕ)) (name : List ℕ) (columns : PointColumns) → name ≡ name_at row → IsColumns row columns
     → record { name = name; x = columns.x; y = columns.y; z = columns.z; plane = columns.plane; height = columns.height } ≡ point_of row
 unfolding point_of
 read-point row name columns same is = rw (same, is.x.value, is.y.value, is.z.value, is.plane.value, is.height.value) refl

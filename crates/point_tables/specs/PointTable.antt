@@ -47,8 +47,8 @@ missing_rules row =
     ∷ []
 
 -- the rules of the columns after the name: x, y, z, plane, height
-unfoldable pub column_rules : List (List ℕ) → List (Rule FaultKind)
-column_rules row =
+unfoldable pub point_column_rules : List (List ℕ) → List (Rule FaultKind)
+point_column_rules row =
     coordinate_rules (text_at row 1)
     ++ (coordinate_rules (text_at row 2)
     ++ (coordinate_rules (text_at row 3)
@@ -59,7 +59,7 @@ column_rules row =
 -- what a points table asks of a record: it is one of at most 1000 under the header row, and has 6 fields, a name of its
 -- own and these columns
 abbrev pub point_rules : NamedRules FaultKind
-point_rules = record { header = point_header; shape = shape_of 1001 6; name = name_kinds; columns = column_rules }
+point_rules = record { header = point_header; shape = shape_of 1001 6; name = name_kinds; columns = point_column_rules }
 
 -- the same as a table's
 abbrev pub points_table : TableRules FaultKind
@@ -85,8 +85,8 @@ unfoldable pub points_of : List ℕ → List PointRecord
 points_of bytes = map point_of (drop 1 (table_rows bytes))
 
 -- the names of points, in their order
-abbrev pub names_of : List PointRecord → List (List ℕ)
-names_of points = map (λ point. point.name) points
+abbrev pub point_names : List PointRecord → List (List ℕ)
+point_names points = map (λ point. point.name) points
 
 -- a point's name is the text of its record's first field
 pub point_of-name : (row : List (List ℕ)) → (point_of row).name ≡ name_at row

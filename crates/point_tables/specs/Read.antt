@@ -1,6 +1,6 @@
 -- What the columns of a record are read as. This project's own.
 use Rattle.std.specs.Prelude.{ℕ, ℤ, ◌≡◌, List, Bool, false, not, ◌&&◌, ◌||◌, Option, is_none}
-use Rattle.point_tables.specs.declared.columns.Columns.{Columns}
+use Rattle.point_tables.specs.declared.columns.PointColumns.{PointColumns}
 use Rattle.point_tables.specs.declared.part.Part.{Part}
 use Rattle.point_tables.specs.Accepted.{IsCoordinate, IsPart, is_absent}
 use Rattle.table_columns.specs.Columns.{is_empty, text_at}
@@ -19,12 +19,12 @@ pub record IsPartOf (text : List ℕ) (given : Part) : Type 0 where
   pub empty : is_absent given ≡ is_empty text
 
 -- whether a part lacks a coordinate that it needs
-abbrev pub has_missing : Columns → Bool
+abbrev pub has_missing : PointColumns → Bool
 has_missing columns =
     (not (is_absent columns.plane) && (is_none columns.x || is_none columns.y)) || (not (is_absent columns.height) && is_none columns.z)
 
 -- the columns of a record, none of which is missing
-pub record IsColumns (row : List (List ℕ)) (columns : Columns) : Type 0 where
+pub record IsColumns (row : List (List ℕ)) (columns : PointColumns) : Type 0 where
   pub x : IsCoordinateOf (text_at row 1) columns.x
   pub y : IsCoordinateOf (text_at row 2) columns.y
   pub z : IsCoordinateOf (text_at row 3) columns.z

@@ -1,6 +1,6 @@
 ghost use Rattle.std.specs.Prelude.{◌≡◌, length};
 ghost use Rattle.table_columns.specs.Read.{Reads};
-ghost use Rattle.point_tables.specs.PointTable.{column_rules, coordinate_rules, part_rules};
+ghost use Rattle.point_tables.specs.PointTable.{point_column_rules, coordinate_rules, part_rules};
 ghost use Rattle.point_tables.specs.Read.{IsColumns, IsCoordinateOf, IsPartOf, has_missing};
 
 use crate::fault::FaultKind;
@@ -15,7 +15,7 @@ const MOST_LIMIT: i64 = 1000;
 
 // The columns of a record after its name.
 #[derive(Clone, Copy)]
-pub(crate) struct Columns {
+pub(crate) struct PointColumns {
     pub(crate) x: Option<i64>,
     pub(crate) y: Option<i64>,
     pub(crate) z: Option<i64>,
@@ -23,7 +23,7 @@ pub(crate) struct Columns {
     pub(crate) height: Part,
 }
 
-impl Columns {
+impl PointColumns {
     // Whether a part lacks a coordinate that it needs.
     fn has_missing(&self) -> bool
         ensures { result ≡ has_missing self.now }
@@ -64,16 +64,16 @@ fn read_part(text: &[u8]) -> Result<Part, FaultKind>
 }
 
 // The columns of a record after its name.
-pub(crate) fn read_columns(row: &TableRow) -> Result<Columns, FaultKind>
+pub(crate) fn read_columns(row: &TableRow) -> Result<PointColumns, FaultKind>
     requires { length row.now ≡ 6 }
-    ensures { Reads (column_rules row.now) (IsColumns row.now) result }
+    ensures { Reads (point_column_rules row.now) (IsColumns row.now) result }
 {
     let x = read_coordinate(row.field(1))?;
     let y = read_coordinate(row.field(2))?;
     let z = read_coordinate(row.field(3))?;
     let plane = read_part(row.field(4))?;
     let height = read_part(row.field(5))?;
-    let columns = Columns {
+    let columns = PointColumns {
         x,
         y,
         z,

@@ -2,7 +2,7 @@ ghost use Rattle.std.specs.Prelude.{◌≡◌, ◌↔◌, ◌≢◌, ◌<◌, �
 ghost use Rattle.point_tables.specs.Accepted.{ArePoints, IsAccepted};
 ghost use Rattle.point_tables.specs.Coordinates.{x_at, y_at};
 ghost use Rattle.point_tables.specs.Names.{place_of};
-ghost use Rattle.point_tables.specs.PointTable.{names_of};
+ghost use Rattle.point_tables.specs.PointTable.{point_names};
 
 use crate::record::PointRecord;
 use std::marker::Model;
@@ -72,9 +72,9 @@ impl Points {
 
     /// The number of the point of this name, counted from 0. None where no point has it.
     pub fn find(&self, name: &[u8]) -> Option<u32>
-        ensures place { result ≡ place_of name.now (names_of self.now) }
-        ensures found { (k : ℕ) → (result ≡ Some k) ↔ (slice_get (names_of self.now) k ≡ Some name.now) }
-        ensures none { IsNone result ↔ ((k : ℕ) → slice_get (names_of self.now) k ≢ Some name.now) }
+        ensures place { result ≡ place_of name.now (point_names self.now) }
+        ensures found { (k : ℕ) → (result ≡ Some k) ↔ (slice_get (point_names self.now) k ≡ Some name.now) }
+        ensures none { IsNone result ↔ ((k : ℕ) → slice_get (point_names self.now) k ≢ Some name.now) }
     {
         self.records.find(name)
     }

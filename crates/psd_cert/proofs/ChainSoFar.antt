@@ -9,7 +9,7 @@ use Rattle.whole_algebra.proofs.LowerCertificate.{triangle-next_lower, lower_cer
 use Rattle.lent_parts.specs.Triangle.{IsTri}
 use Rattle.lent_parts.proofs.Triangles.{length-IsTri}
 use Rattle.psd_cert.specs.Sizes.{Fits}
-use Rattle.psd_cert.specs.Certificate.{IsCertificate, IsKept}
+use Rattle.psd_cert.specs.Certificate.{IsCertificate, IsKeptCertificate}
 use Rattle.psd_cert.specs.Lower.{StopsHere, Leaves, last_matrix}
 use Rattle.psd_cert.proofs.FormBounds.{chain_fits}
 use Rattle.chain_step.proofs.RowLaws.{parts}
@@ -126,7 +126,7 @@ length-lower_remainders (suc n) (row ∷ rest) t e =
 
 -- what a whole chain gives
 pub record Made (first : List (List ℤ)) (rs : List (List (List ℤ))) : Type 0 where
-  pub kept : IsKept rs
+  pub kept : IsKeptCertificate rs
   pub no_stop : stops (lower_chain first) ≡ false
   pub remainders : rs ≡ lower_remainders (length first) first
   pub size : length rs ≡ length first

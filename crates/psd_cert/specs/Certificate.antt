@@ -17,5 +17,5 @@ StepFrom [] remainder = ⊥
 StepFrom (row ∷ rest) remainder = StepHolds row rest remainder
 
 -- what a certificate keeps: the sizes of its remainders go down by one to 0, and their entries are within the limit
-abbrev pub IsKept : List (List (List ℤ)) → Type 0
-IsKept rs = IsCertificate (length rs) rs × All Fits rs
+abbrev pub IsKeptCertificate : List (List (List ℤ)) → Type 0
+IsKeptCertificate rs = IsCertificate (length rs) rs × All Fits rs

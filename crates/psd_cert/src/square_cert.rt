@@ -24,13 +24,13 @@ pub struct SquareCert {
 
 impl Model for SquareCert {
     ghost use Rattle.std.specs.Prelude.{List, ℤ};
-    ghost use Rattle.psd_cert.specs.Certificate.{IsKept};
+    ghost use Rattle.psd_cert.specs.Certificate.{IsKeptCertificate};
 
     ghost Value = { List (List (List ℤ)) };
 
     ghost view = { λ cert. cert.remainders.items };
 
-    ghost invariant = { λ cert. IsKept cert.remainders.items };
+    ghost invariant = { λ cert. IsKeptCertificate cert.remainders.items };
 }
 
 impl SquareCert {

@@ -1,7 +1,7 @@
 //! Cuts of three levels of 1.00 mm to one new height, whose limit is 0.9 mm.
 ghost use Rattle.std.specs.Prelude.{◌≡◌, length, IfOk};
 
-use crate::networks::{Tables, network_of};
+use crate::networks::{CaseTables, network_of};
 use cut_pool::{
     Cut, CutPool, Share, cut_into, cut_of, meeting_plans_satisfy_cuts, shifts_are_least,
 };
@@ -11,7 +11,7 @@ use std::alloc::Global;
 use std::process::Abort;
 use std::test::Fail;
 
-const THREE_LEVELS: Tables = Tables {
+const THREE_LEVELS: CaseTables = CaseTables {
     points: "A,,,100.000,,fixed\nH,,,101.000,,0.9\n",
     candidates: "l1,level,A,H,,1.00,,5\nl2,level,A,H,,1.00,,7\nl3,level,A,H,,1.00,,9\n",
     redundancy: 0,

@@ -3,7 +3,7 @@ ghost use Rattle.std.specs.Prelude.{◌≡◌, ◌<◌, ◌≤◌, ◌^◌, leng
 ghost use Rattle.cut_pool.specs.Cut.{CutOf, cover};
 ghost use Rattle.dual_bound.specs.Shares.{IsSmallCover, IsShare};
 
-use crate::networks::{Tables, network_of};
+use crate::networks::{CaseTables, network_of};
 use cut_pool::{Cut, CutPool, Share, cut_of};
 use dual_bound::{leaf_bound, meeting_plans_cost_the_dual_bound};
 use geo_base::NoMemory;
@@ -13,7 +13,7 @@ use std::process::Abort;
 use std::test::Fail;
 
 // Three levels of 1.00 mm to one new height, whose limit is 0.9 mm.
-const THREE_LEVELS: Tables = Tables {
+const THREE_LEVELS: CaseTables = CaseTables {
     points: "A,,,100.000,,fixed\nH,,,101.000,,0.9\n",
     candidates: "l1,level,A,H,,1.00,,5\nl2,level,A,H,,1.00,,7\nl3,level,A,H,,1.00,,9\n",
     redundancy: 0,
@@ -23,7 +23,7 @@ const THREE_LEVELS: Tables = Tables {
 };
 
 // Distances of 1.00 mm along the axes between a new point, whose limit is 1.0 mm, and fixed ones.
-const FOUR_DISTANCES: Tables = Tables {
+const FOUR_DISTANCES: CaseTables = CaseTables {
     points: "A,0.000,0.000,,fixed,\nB,100.000,-100.000,,fixed,\nP,100.000,0.000,,1.0,\n",
     candidates: "d1,distance,A,P,,1.00,,5\nd2,distance,B,P,,1.00,,6\nd3,distance,P,A,,1.00,,7\nd4,distance,P,B,,1.00,,7\n",
     redundancy: 0,

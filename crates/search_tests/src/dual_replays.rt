@@ -1,6 +1,6 @@
 //! Logs with dual bounds, of small networks of one new height with levels of 1.00 mm to it. The first
 //! one, and that the dual bound of its last node is 13, were reckoned by hand.
-use crate::networks::{TOO_REDUNDANT, Tables, network_of};
+use crate::networks::{CaseTables, TOO_REDUNDANT, network_of};
 use geo_model::{Counts, Network};
 use log_check::{Bound, LogFault, LogKind, ReplayAnswer, Replayed, replay};
 use std::alloc::Global;
@@ -10,7 +10,7 @@ use std::test::Fail;
 const HEIGHT: &str = "A,,,100.000,,fixed\nH,,,101.000,,0.9\n";
 
 // Levels for 1, 1 and 50.
-const THREE_LEVELS: Tables = Tables {
+const THREE_LEVELS: CaseTables = CaseTables {
     points: HEIGHT,
     candidates: "l1,level,A,H,,1.00,,1\nl2,level,A,H,,1.00,,1\nl3,level,A,H,,1.00,,50\n",
     redundancy: 0,
@@ -20,7 +20,7 @@ const THREE_LEVELS: Tables = Tables {
 };
 
 // Levels for 1 and 50.
-const TWO_LEVELS: Tables = Tables {
+const TWO_LEVELS: CaseTables = CaseTables {
     points: HEIGHT,
     candidates: "l1,level,A,H,,1.00,,1\nl3,level,A,H,,1.00,,50\n",
     redundancy: 0,

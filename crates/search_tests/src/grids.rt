@@ -4,7 +4,7 @@ ghost use Rattle.geo_model.specs.Limit.{IsLoad};
 ghost use Rattle.normal_matrix.specs.Normal.{IsNormalOf};
 ghost use Rattle.limit_forms.specs.Grid.{grid_of};
 
-use crate::networks::{Tables, network_of};
+use crate::networks::{CaseTables, network_of};
 use geo_base::NoMemory;
 use geo_model::{Network, Square};
 use limit_forms::{LimitGrid, form_entry, grid_row};
@@ -13,7 +13,7 @@ use std::alloc::Global;
 use std::test::Fail;
 
 // A level of weight 100 to a new height.
-const ONE_LEVEL: Tables = Tables {
+const ONE_LEVEL: CaseTables = CaseTables {
     points: "A,,,100.000,,fixed\nH,,,101.000,,100.0\n",
     candidates: "l1,level,A,H,,10.00,,5\n",
     redundancy: 0,
@@ -37,7 +37,7 @@ fn a_level_comes_and_goes(rt: HostRuntime) -> Result<(), Fail> {
 }
 
 // Two new heights, with a level of weight 1000000 to the first, and one between them.
-const TWO_LEVELS: Tables = Tables {
+const TWO_LEVELS: CaseTables = CaseTables {
     points: "A,,,100.000,,fixed\nH1,,,101.000,,100.0\nH2,,,102.000,,100.0\n",
     candidates: "l1,level,A,H1,,0.10,,5\nl2,level,H1,H2,,0.10,,5\n",
     redundancy: 0,

@@ -1,7 +1,7 @@
 //! Displacements that break a limit of a height with a level of 1.00 mm.
 ghost use Rattle.std.specs.Prelude.{◌<◌};
 
-use crate::networks::{CLOSER_LEVEL, ONE_LEVEL, Tables, network_of};
+use crate::networks::{CLOSER_LEVEL, CaseTables, ONE_LEVEL, network_of};
 use displacements::{breaks, energy, load, propose};
 use geo_model::{Displacement, Plan};
 use pivot_chain::ChainRoom;
@@ -24,7 +24,11 @@ fn the_widest_move_breaks_the_narrow_limit_alone(rt: HostRuntime) -> Result<(), 
 }
 
 // What is proposed for the plan of all candidates and the first limit of a network.
-fn proposed(rt: &impl Abort, alloc: Global, tables: &Tables) -> Result<Option<Displacement>, Fail>
+fn proposed(
+    rt: &impl Abort,
+    alloc: Global,
+    tables: &CaseTables,
+) -> Result<Option<Displacement>, Fail>
     requires { 0 < tables.now.limits }
 {
     let network = network_of(rt, alloc, tables)?;

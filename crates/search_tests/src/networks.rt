@@ -11,7 +11,7 @@ use std::test::Fail;
 
 /// Records of two tables, a redundancy in thousandths, and how many unknowns, candidates and limits
 /// their network has.
-pub struct Tables {
+pub struct CaseTables {
     pub points: &'static str,
     pub candidates: &'static str,
     pub redundancy: u32,
@@ -31,7 +31,7 @@ const LEVEL: &str = "l1,level,A,H,,1.00,,5\n";
 const LEVELS: &str = "l1,level,A,H,,1.00,,5\nl2,level,A,H,,1.00,,7\n";
 
 /// A level of 1.00 mm to a height with a limit of 1.0 mm.
-pub const ONE_LEVEL: Tables = Tables {
+pub const ONE_LEVEL: CaseTables = CaseTables {
     points: HEIGHT,
     candidates: LEVEL,
     redundancy: 0,
@@ -41,7 +41,7 @@ pub const ONE_LEVEL: Tables = Tables {
 };
 
 /// The same with a limit of 0.9 mm.
-pub const CLOSER_LEVEL: Tables = Tables {
+pub const CLOSER_LEVEL: CaseTables = CaseTables {
     points: CLOSER_HEIGHT,
     candidates: LEVEL,
     redundancy: 0,
@@ -51,7 +51,7 @@ pub const CLOSER_LEVEL: Tables = Tables {
 };
 
 /// Levels for 5 and 7, the limit of 1.0 mm on the height, and those of a half on their redundancies.
-pub const HALF_REDUNDANT: Tables = Tables {
+pub const HALF_REDUNDANT: CaseTables = CaseTables {
     points: HEIGHT,
     candidates: LEVELS,
     redundancy: 500,
@@ -61,7 +61,7 @@ pub const HALF_REDUNDANT: Tables = Tables {
 };
 
 /// The same with redundancies that two levels miss by a thousandth.
-pub const TOO_REDUNDANT: Tables = Tables {
+pub const TOO_REDUNDANT: CaseTables = CaseTables {
     points: HEIGHT,
     candidates: LEVELS,
     redundancy: 501,
@@ -74,7 +74,7 @@ const LINE: &str =
     "l1,level,A,H1,,0.50,,5\nl2,level,H1,H2,,0.50,,5\nl3,level,H2,H3,,0.50,,5\nl4,level,H3,H4,,0.50,,5\n";
 
 /// A line of four heights with levels of 0.50 mm, with a limit of 1.0 mm on the last one.
-pub const LEVELLING_LINE: Tables = Tables {
+pub const LEVELLING_LINE: CaseTables = CaseTables {
     points: "A,,,0.000,,fixed\nH1,,,0.000,,5.0\nH2,,,0.000,,5.0\nH3,,,0.000,,5.0\nH4,,,0.000,,1.0\n",
     candidates: LINE,
     redundancy: 0,
@@ -84,7 +84,7 @@ pub const LEVELLING_LINE: Tables = Tables {
 };
 
 /// The same with a limit of 1.1 mm on the last one.
-pub const WIDER_LINE: Tables = Tables {
+pub const WIDER_LINE: CaseTables = CaseTables {
     points: "A,,,0.000,,fixed\nH1,,,0.000,,5.0\nH2,,,0.000,,5.0\nH3,,,0.000,,5.0\nH4,,,0.000,,1.1\n",
     candidates: LINE,
     redundancy: 0,
@@ -105,7 +105,7 @@ fn built(
     rt: &impl Abort,
     alloc: Global,
     points: &Points,
-    tables: &Tables,
+    tables: &CaseTables,
 ) -> Result<Network, Fail> {
     assert!(rt; tables.redundancy <= 999);
     let mut bytes = b"name,kind,from,to,to2,sd,sdh,price\n".to_vec(alloc)?;
@@ -115,7 +115,7 @@ fn built(
 }
 
 /// The network of these tables.
-pub fn network_of(rt: &impl Abort, alloc: Global, tables: &Tables) -> Result<Network, Fail>
+pub fn network_of(rt: &impl Abort, alloc: Global, tables: &CaseTables) -> Result<Network, Fail>
     ensures unknowns { IfOk result (λ network. length network.unknowns ≡ tables.now.unknowns) }
     ensures candidates { IfOk result (λ network. length network.candidates ≡ tables.now.choices) }
     ensures limits { IfOk result (λ network. length network.limits ≡ tables.now.limits) }

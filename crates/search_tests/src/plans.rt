@@ -1,10 +1,10 @@
 //! Plans, rows, limits and displacements.
-use crate::networks::{Tables, network_of};
+use crate::networks::{CaseTables, network_of};
 use geo_model::{Counts, Displacement, Limit, LimitKind, Node, Plan, Row, cost};
 use std::test::Fail;
 
 // Two levels between fixed heights.
-const FIXED_LEVELS: Tables = Tables {
+const FIXED_LEVELS: CaseTables = CaseTables {
     points: "A,,,1.000,,fixed\nB,,,2.000,,fixed\n",
     candidates: "l1,level,A,B,,1.00,,5\nl2,level,A,B,,1.00,,7\n",
     redundancy: 0,

@@ -1,7 +1,7 @@
 //! Searches over networks of levels, whose answers were reckoned by an independent program. The
 //! log of each is replayed.
 use crate::networks::{
-    CLOSER_LEVEL, HALF_REDUNDANT, LEVELLING_LINE, ONE_LEVEL, TOO_REDUNDANT, Tables, network_of,
+    CLOSER_LEVEL, CaseTables, HALF_REDUNDANT, LEVELLING_LINE, ONE_LEVEL, TOO_REDUNDANT, network_of,
 };
 use crate::replays::replayed;
 use crate::tight_networks::missed;
@@ -73,7 +73,7 @@ fn expect_search(
 }
 
 // Tables, what a search of their network finds, and the bound of its log.
-const SEARCHES: [(Tables, Found, Bound); 5] = [
+const SEARCHES: [(CaseTables, Found, Bound); 5] = [
     (ONE_LEVEL, Found::Best(5), Bound::AtLeast(5)),
     (CLOSER_LEVEL, Found::NoPlan, Bound::NoPlan),
     (HALF_REDUNDANT, Found::Best(12), Bound::AtLeast(12)),
@@ -102,7 +102,7 @@ fn a_limit_missed_by_less_than_the_grid_has_no_plan(rt: HostRuntime) -> Result<(
 }
 
 // Two levels, both of which the limit of 0.9 mm asks for.
-const BOTH_LEVELS: Tables = Tables {
+const BOTH_LEVELS: CaseTables = CaseTables {
     points: "A,,,100.000,,fixed\nH,,,101.000,,0.9\n",
     candidates: "l1,level,A,H,,1.00,,5\nl2,level,A,H,,1.00,,7\n",
     redundancy: 0,

@@ -16,7 +16,7 @@ use std::test::Fail;
 // A level of the line that a plan doesn't have, and whether it has the others; the most steps that the
 // level's change takes, which are the places from the first one on that it touches; and the verdict
 // after it.
-struct Change {
+struct LevelChange {
     level: u32,
     has_others: bool,
     most_steps: u32,
@@ -24,7 +24,7 @@ struct Change {
 }
 
 // The plan before a change.
-fn plan_before(rt: &impl Abort, alloc: Global, change: &Change) -> Result<Plan, Fail>
+fn plan_before(rt: &impl Abort, alloc: Global, change: &LevelChange) -> Result<Plan, Fail>
     ensures { IfOk result (λ plan. length plan ≡ 4) }
 {
     if !change.has_others {
@@ -41,7 +41,7 @@ fn stack_before(
     rt: &impl Abort,
     alloc: Global,
     network: &Network,
-    change: &Change,
+    change: &LevelChange,
 ) -> Result<FactorStack, Fail>
     requires candidates { length network.now.candidates ≡ 4 }
     requires limits { length network.now.limits ≡ 4 }
@@ -98,7 +98,7 @@ fn expect_change(
     rt: &impl Abort,
     alloc: Global,
     network: &Network,
-    change: &Change,
+    change: &LevelChange,
 ) -> Result<(), Fail>
     requires unknowns { length network.now.unknowns ≡ 4 }
     requires candidates { length network.now.candidates ≡ 4 }
@@ -127,50 +127,50 @@ const OPEN: Verdict = Verdict::Open {
 };
 
 // No level reaches the last height alone.
-const CHANGES: [Change; 8] = [
-    Change {
+const CHANGES: [LevelChange; 8] = [
+    LevelChange {
         level: 3,
         has_others: false,
         most_steps: 4,
         verdict: Verdict::Refuted,
     },
-    Change {
+    LevelChange {
         level: 1,
         has_others: false,
         most_steps: 3,
         verdict: Verdict::Refuted,
     },
-    Change {
+    LevelChange {
         level: 2,
         has_others: false,
         most_steps: 2,
         verdict: Verdict::Refuted,
     },
-    Change {
+    LevelChange {
         level: 0,
         has_others: false,
         most_steps: 3,
         verdict: Verdict::Refuted,
     },
-    Change {
+    LevelChange {
         level: 3,
         has_others: true,
         most_steps: 4,
         verdict: OPEN,
     },
-    Change {
+    LevelChange {
         level: 1,
         has_others: true,
         most_steps: 3,
         verdict: OPEN,
     },
-    Change {
+    LevelChange {
         level: 2,
         has_others: true,
         most_steps: 2,
         verdict: OPEN,
     },
-    Change {
+    LevelChange {
         level: 0,
         has_others: true,
         most_steps: 3,

@@ -5,7 +5,7 @@ ghost use Rattle.geo_model.specs.Energy.{IsWithin};
 ghost use Rattle.idle_splits.specs.Tests.{IsTestOf};
 ghost use Rattle.idle_splits.specs.UnitCuts.{AreUnitCuts};
 
-use crate::networks::{Tables, network_of};
+use crate::networks::{CaseTables, network_of};
 use geo_base::NoMemory;
 use geo_model::{Network, Node, Plan};
 use idle_splits::{
@@ -15,7 +15,7 @@ use std::alloc::Global;
 use std::test::Fail;
 
 // Two levels for 1, and one for 50.
-const ONE_DEAR_LEVEL: Tables = Tables {
+const ONE_DEAR_LEVEL: CaseTables = CaseTables {
     points: "A,,,100.000,,fixed\nH,,,101.000,,0.9\n",
     candidates: "l1,level,A,H,,1.00,,1\nl2,level,A,H,,1.00,,1\nl3,level,A,H,,1.00,,50\n",
     redundancy: 0,
@@ -26,20 +26,20 @@ const ONE_DEAR_LEVEL: Tables = Tables {
 
 // What the plans of a node do with a candidate.
 #[derive(Clone, Copy)]
-enum Part {
+enum NodePart {
     Chosen,
     Open,
     Out,
 }
 
 // Whether each plan of a node chooses a candidate, and whether one may.
-fn chosen_and_allowed(part: Part) -> (bool, bool)
+fn chosen_and_allowed(part: NodePart) -> (bool, bool)
     ensures { IsTrue result.0 → IsTrue result.1 }
 {
     match part {
-        Part::Chosen => (true, true),
-        Part::Open => (false, true),
-        Part::Out => (false, false),
+        NodePart::Chosen => (true, true),
+        NodePart::Open => (false, true),
+        NodePart::Out => (false, false),
     }
 }
 
@@ -55,7 +55,12 @@ fn plan_of(alloc: Global, first: bool, second: bool, third: bool) -> Result<Plan
 }
 
 // A node of three candidates.
-fn node_of(alloc: Global, first: Part, second: Part, third: Part) -> Result<Node, NoMemory>
+fn node_of(
+    alloc: Global,
+    first: NodePart,
+    second: NodePart,
+    third: NodePart,
+) -> Result<Node, NoMemory>
     ensures within { IfOk result (λ node. IsWithin node.inside node.upper) }
     ensures inside { IfOk result (λ node. length node.inside ≡ 3) }
     ensures upper { IfOk result (λ node. length node.upper ≡ 3) }
@@ -74,7 +79,7 @@ fn share_at(
     alloc: Global,
     network: &Network,
     test: &mut IdleTest,
-    parts: [Part; 3],
+    parts: [NodePart; 3],
     earlier: u128,
 ) -> Result<Option<UnitShare>, NoMemory>
     requires candidates { length network.now.candidates ≡ 3 }
@@ -90,7 +95,7 @@ fn first_share_at(
     alloc: Global,
     network: &Network,
     cuts: &UnitCuts,
-    parts: [Part; 3],
+    parts: [NodePart; 3],
     earlier: u128,
 ) -> Result<Option<UnitShare>, NoMemory>
     requires candidates { length network.now.candidates ≡ 3 }
@@ -111,17 +116,17 @@ fn share_of(candidate: u32, y: u64) -> Option<UnitShare> {
     })
 }
 
-const ALL: [Part; 3] = [Part::Open, Part::Open, Part::Open];
+const ALL: [NodePart; 3] = [NodePart::Open, NodePart::Open, NodePart::Open];
 
-const FIRST: [Part; 3] = [Part::Chosen, Part::Open, Part::Open];
+const FIRST: [NodePart; 3] = [NodePart::Chosen, NodePart::Open, NodePart::Open];
 
-const FIRST_AND_MAYBE_THIRD: [Part; 3] = [Part::Chosen, Part::Out, Part::Open];
+const FIRST_AND_MAYBE_THIRD: [NodePart; 3] = [NodePart::Chosen, NodePart::Out, NodePart::Open];
 
-const MAYBE_LAST_TWO: [Part; 3] = [Part::Out, Part::Open, Part::Open];
+const MAYBE_LAST_TWO: [NodePart; 3] = [NodePart::Out, NodePart::Open, NodePart::Open];
 
-const MAYBE_THIRD: [Part; 3] = [Part::Out, Part::Out, Part::Open];
+const MAYBE_THIRD: [NodePart; 3] = [NodePart::Out, NodePart::Out, NodePart::Open];
 
-const FIRST_TWO: [Part; 3] = [Part::Chosen, Part::Chosen, Part::Open];
+const FIRST_TWO: [NodePart; 3] = [NodePart::Chosen, NodePart::Chosen, NodePart::Open];
 
 #[test]
 fn a_split_on_a_dear_level_is_idle(rt: HostRuntime) -> Result<(), Fail> {

@@ -2,7 +2,9 @@
 ghost use Rattle.std.specs.Prelude.{◌≡◌, ◌<◌, length, IfOk};
 ghost use Rattle.pivot_chain.specs.Room.{IsRoomOf};
 
-use crate::networks::{CLOSER_LEVEL, LEVELLING_LINE, ONE_LEVEL, Tables, WIDER_LINE, network_of};
+use crate::networks::{
+    CLOSER_LEVEL, CaseTables, LEVELLING_LINE, ONE_LEVEL, WIDER_LINE, network_of,
+};
 use crate::tight_networks::two_heights;
 use geo_model::{Network, Plan, Verdict};
 use pivot_chain::{ChainRoom, verdict};
@@ -62,7 +64,7 @@ const OPEN_AT_THE_LAST_HEIGHT: Verdict = Verdict::Open {
 
 // Tables, the candidate that a plan leaves out, a limit, and the verdict. No level reaches the last
 // height of a line whose last level is left out, but the limit on the first one is met.
-const VERDICTS: [(Tables, Option<u32>, u32, Verdict); 7] = [
+const VERDICTS: [(CaseTables, Option<u32>, u32, Verdict); 7] = [
     (ONE_LEVEL, None, 0, Verdict::Met),
     (ONE_LEVEL, Some(0), 0, Verdict::Refuted),
     (CLOSER_LEVEL, None, 0, Verdict::Refuted),

@@ -15,5 +15,5 @@ shelf_state shelf = record {
 }
 
 -- the calls that it counted, and those that are to fail
-abbrev pub calls_of : MemShelf → FailingCalls
-calls_of shelf = shelf.calls
+abbrev pub shelf_calls : MemShelf → FailingCalls
+shelf_calls shelf = shelf.calls

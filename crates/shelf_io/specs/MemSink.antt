@@ -9,5 +9,5 @@ abbrev pub sink_state : MemSink → SinkState
 sink_state sink = record { written = Some sink.bytes.items; faults = sink.faults }
 
 -- the calls that it counted, and those that are to fail
-abbrev pub calls_of : MemSink → FailingCalls
-calls_of sink = sink.calls
+abbrev pub sink_calls : MemSink → FailingCalls
+sink_calls sink = sink.calls

@@ -26,7 +26,7 @@ pub struct MemShelf {
 
 impl Shelf for MemShelf {
     ghost use Rattle.shelf_io.specs.FailingCalls.{IsNextFailing, CountsCall};
-    ghost use Rattle.shelf_io.specs.MemShelf.{calls_of, shelf_state};
+    ghost use Rattle.shelf_io.specs.MemShelf.{shelf_calls, shelf_state};
     ghost use Rattle.shelf_io.specs.Stored.{started_of-held};
 
     ghost state = { shelf_state };
@@ -49,12 +49,12 @@ impl Shelf for MemShelf {
         ensures cause { HasReadCause result name.now (shelf_state self.old) (shelf_state self.new) }
 
         // It fails where it is told to, whatever the file's length, and where the name isn't held.
-        ensures told { OnOk result (¬ (IsNextFailing (calls_of self.old))) }
-        ensures told_first { IsErrOf result ReadAnswer.TooLong → ¬ (IsNextFailing (calls_of self.old)) }
+        ensures told { OnOk result (¬ (IsNextFailing (shelf_calls self.old))) }
+        ensures told_first { IsErrOf result ReadAnswer.TooLong → ¬ (IsNextFailing (shelf_calls self.old)) }
         ensures found { OnOk result (ForSome (shelf_state self.old).held (λ files. IsHeld files name.now)) }
         ensures failed { IsErrOf result ReadAnswer.Failed → ForSome (shelf_state self.old).held
-            (λ files. IsNextFailing (calls_of self.old) ⊎ (get files name.now ≡ None)) }
-        ensures counts { CountsCall (calls_of self.old) (calls_of self.new) }
+            (λ files. IsNextFailing (shelf_calls self.old) ⊎ (get files name.now ≡ None)) }
+        ensures counts { CountsCall (shelf_calls self.old) (shelf_calls self.new) }
     {
         let fails = self.calls.next_fails();
         if fails || self.stored.file(name).is_none() {
@@ -87,11 +87,11 @@ impl Shelf for MemShelf {
         ensures cause { HasPartCause result name.now (shelf_state self.old) (shelf_state self.new) }
 
         // It fails where it is told to, and where the name isn't held, and then reads nothing.
-        ensures told { OnOk result (¬ (IsNextFailing (calls_of self.old))) }
+        ensures told { OnOk result (¬ (IsNextFailing (shelf_calls self.old))) }
         ensures found { OnOk result (ForSome (shelf_state self.old).held (λ files. IsHeld files name.now)) }
         ensures failed { IsErrOf result PartAnswer.Failed → ForSome (shelf_state self.old).held
-            (λ files. IsNextFailing (calls_of self.old) ⊎ (get files name.now ≡ None)) }
-        ensures counts { CountsCall (calls_of self.old) (calls_of self.new) }
+            (λ files. IsNextFailing (shelf_calls self.old) ⊎ (get files name.now ≡ None)) }
+        ensures counts { CountsCall (shelf_calls self.old) (shelf_calls self.new) }
     {
         let fails = self.calls.next_fails();
         if fails || self.stored.file(name).is_none() {
@@ -111,10 +111,10 @@ impl Shelf for MemShelf {
         ensures cause { HasWriteCause result name.now (shelf_state self.old) (shelf_state self.new) }
 
         // It fails where it is told to, and then does nothing else.
-        ensures told { OnOk result (¬ (IsNextFailing (calls_of self.old))) }
-        ensures failed { IsErrOf result WriteAnswer.Failed → IsNextFailing (calls_of self.old) }
+        ensures told { OnOk result (¬ (IsNextFailing (shelf_calls self.old))) }
+        ensures failed { IsErrOf result WriteAnswer.Failed → IsNextFailing (shelf_calls self.old) }
         ensures nothing_else { OnErr result ((shelf_state self.new).held ≡ (shelf_state self.old).held) }
-        ensures counts { CountsCall (calls_of self.old) (calls_of self.new) }
+        ensures counts { CountsCall (shelf_calls self.old) (shelf_calls self.new) }
     {
         if self.calls.next_fails() {
             self.stored.stop();
@@ -136,11 +136,11 @@ impl Shelf for MemShelf {
         ensures cause { HasWriteCause result name.now (shelf_state self.old) (shelf_state self.new) }
 
         // It fails where it is told to, and then adds the first half of the piece.
-        ensures told { OnOk result (¬ (IsNextFailing (calls_of self.old))) }
-        ensures failed { IsErrOf result WriteAnswer.Failed → IsNextFailing (calls_of self.old) }
+        ensures told { OnOk result (¬ (IsNextFailing (shelf_calls self.old))) }
+        ensures failed { IsErrOf result WriteAnswer.Failed → IsNextFailing (shelf_calls self.old) }
         ensures half { IsErrOf result WriteAnswer.Failed → (shelf_state self.new).held
             ≡ with_piece (shelf_state self.old).held name.now (take (length piece.now / 2) piece.now) }
-        ensures counts { CountsCall (calls_of self.old) (calls_of self.new) }
+        ensures counts { CountsCall (shelf_calls self.old) (shelf_calls self.new) }
     {
         if self.calls.next_fails() {
             return self.append_half(name, piece);
@@ -154,13 +154,13 @@ impl Shelf for MemShelf {
 
 impl MemShelf {
     ghost use Rattle.shelf_io.specs.FailingCalls.{AwaitsCalls};
-    ghost use Rattle.shelf_io.specs.MemShelf.{calls_of, shelf_state};
+    ghost use Rattle.shelf_io.specs.MemShelf.{shelf_calls, shelf_state};
 
     /// Holds no file. The calls with the numbers in `failing`, counted from 1 over all calls of the trait, are
     /// to fail.
     pub fn new(alloc: Global, failing: Vec<u64>) -> MemShelf
         ensures state { ⟦<MemShelf as Shelf>⟧.state result ≡ new_shelf (Some empty) }
-        ensures calls { AwaitsCalls failing.items (calls_of result) }
+        ensures calls { AwaitsCalls failing.items (shelf_calls result) }
     {
         MemShelf {
             stored: StoredFiles::new(alloc),
@@ -176,7 +176,7 @@ impl MemShelf {
         ensures stopped { OnOk result ((⟦<MemShelf as Shelf>⟧.state self.new).started ≡ None) }
         ensures refused { OnErr result (⟦<MemShelf as Shelf>⟧.state self.new ≡ ⟦<MemShelf as Shelf>⟧.state self.old) }
         ensures faults { KeepsFaults (⟦<MemShelf as Shelf>⟧.state self.old) (⟦<MemShelf as Shelf>⟧.state self.new) }
-        ensures calls { calls_of self.new ≡ calls_of self.old }
+        ensures calls { shelf_calls self.new ≡ shelf_calls self.old }
     {
         self.stored.put(name, bytes)
     }
@@ -199,7 +199,7 @@ impl MemShelf {
             ≡ with_piece (shelf_state self.old).held name.now (take n piece.now))) }
         ensures stopped { (shelf_state self.new).started ≡ None }
         ensures cause { HasWriteCause result name.now (shelf_state self.old) (shelf_state self.new) }
-        ensures calls { calls_of self.new ≡ calls_of self.old }
+        ensures calls { shelf_calls self.new ≡ shelf_calls self.old }
     {
         let half = &piece[..piece.len() / 2];
         match self.stored.append(name, half) {

@@ -18,7 +18,7 @@ pub struct MemSink {
 
 impl Sink for MemSink {
     ghost use Rattle.shelf_io.specs.FailingCalls.{IsNextFailing, CountsCall};
-    ghost use Rattle.shelf_io.specs.MemSink.{calls_of, sink_state};
+    ghost use Rattle.shelf_io.specs.MemSink.{sink_calls, sink_state};
 
     ghost state = { sink_state };
 
@@ -29,11 +29,11 @@ impl Sink for MemSink {
         ensures cause { HasPutCause result (sink_state self.old) (sink_state self.new) }
 
         // It fails where it is told to, and then adds the first half of the piece.
-        ensures told { OnOk result (¬ (IsNextFailing (calls_of self.old))) }
-        ensures failed { IsErrOf result WriteAnswer.Failed → IsNextFailing (calls_of self.old) }
+        ensures told { OnOk result (¬ (IsNextFailing (sink_calls self.old))) }
+        ensures failed { IsErrOf result WriteAnswer.Failed → IsNextFailing (sink_calls self.old) }
         ensures half { IsErrOf result WriteAnswer.Failed → (sink_state self.new).written
             ≡ with_written (sink_state self.old).written (take (length piece.now / 2) piece.now) }
-        ensures counts { CountsCall (calls_of self.old) (calls_of self.new) }
+        ensures counts { CountsCall (sink_calls self.old) (sink_calls self.new) }
     {
         if self.calls.next_fails() {
             return self.put_half(piece);
@@ -47,12 +47,12 @@ impl Sink for MemSink {
 
 impl MemSink {
     ghost use Rattle.shelf_io.specs.FailingCalls.{AwaitsCalls};
-    ghost use Rattle.shelf_io.specs.MemSink.{calls_of, sink_state};
+    ghost use Rattle.shelf_io.specs.MemSink.{sink_calls, sink_state};
 
     /// Nothing was put to it. The calls with the numbers in `failing`, counted from 1, are to fail.
     pub fn new(alloc: Global, failing: Vec<u64>) -> MemSink
         ensures state { ⟦<MemSink as Sink>⟧.state result ≡ new_sink (Some []) }
-        ensures calls { AwaitsCalls failing.items (calls_of result) }
+        ensures calls { AwaitsCalls failing.items (sink_calls result) }
     {
         MemSink {
             bytes: Vec::new(alloc),
@@ -76,7 +76,7 @@ impl MemSink {
         ensures refused { OnErr result ((n : ℕ)
             × ((sink_state self.new).written ≡ with_written (sink_state self.old).written (take n piece.now))) }
         ensures cause { HasPutCause result (sink_state self.old) (sink_state self.new) }
-        ensures calls { calls_of self.new ≡ calls_of self.old }
+        ensures calls { sink_calls self.new ≡ sink_calls self.old }
     {
         let half = &piece[..piece.len() / 2];
         match self.bytes.extend_from_slice(half) {

@@ -1,4 +1,4 @@
-use crate::probe::{Probe, Side};
+use crate::probe::{Probe, SplitSide};
 use dual_simplex::Tableau;
 use geo_base::NoMemory;
 use std::alloc::Global;
@@ -83,9 +83,9 @@ fn side(
     is_in: bool,
     before: i64,
     steps: u32,
-) -> Result<Side, NoMemory> {
+) -> Result<SplitSide, NoMemory> {
     child.copy_from(node)?;
     child.fix(candidate, is_in);
     let outcome = child.run(steps)?;
-    Ok(Side::of(outcome, before, child.objective()))
+    Ok(SplitSide::of(outcome, before, child.objective()))
 }

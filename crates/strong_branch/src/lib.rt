@@ -13,4 +13,4 @@ mod branching;
 mod probe;
 
 pub use branching::Branching;
-pub use probe::{Probe, Side};
+pub use probe::{Probe, SplitSide};

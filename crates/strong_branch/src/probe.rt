@@ -1,4 +1,4 @@
-use dual_simplex::Outcome;
+use dual_simplex::RunEnd;
 
 /// What a rise is where a side has no shares at all: above that of any price.
 const INFEASIBLE: i64 = 1 << 60;
@@ -6,24 +6,24 @@ const INFEASIBLE: i64 = 1 << 60;
 /// One side of a split: by how much the bound rises there within the steps, and whether no shares
 /// are left. Numbers that got too large count as no rise.
 #[derive(Clone, Copy)]
-pub struct Side {
+pub struct SplitSide {
     pub rise: i64,
     pub is_infeasible: bool,
 }
 
-impl Side {
+impl SplitSide {
     /// The side whose run ended so, with the price before and after.
-    pub(crate) fn of(outcome: Outcome, before: i64, after: i64) -> Side {
+    pub(crate) fn of(outcome: RunEnd, before: i64, after: i64) -> SplitSide {
         match outcome {
-            Outcome::Infeasible => Side {
+            RunEnd::Infeasible => SplitSide {
                 rise: INFEASIBLE,
                 is_infeasible: true,
             },
-            Outcome::Lost => Side {
+            RunEnd::Lost => SplitSide {
                 rise: 0,
                 is_infeasible: false,
             },
-            Outcome::Solved | Outcome::OutOfSteps => Side {
+            RunEnd::Solved | RunEnd::OutOfSteps => SplitSide {
                 rise: after.wrapping_sub(before).max(0),
                 is_infeasible: false,
             },
@@ -35,8 +35,8 @@ impl Side {
 #[derive(Clone, Copy)]
 pub struct Probe {
     pub candidate: u32,
-    pub inside: Side,
-    pub outside: Side,
+    pub inside: SplitSide,
+    pub outside: SplitSide,
 }
 
 impl Probe {

@@ -7,13 +7,13 @@ use Rattle.std.proofs.lemmas.Option.{get_or_from_slice_get}
 use Rattle.geo_model.specs.Limit.{LimitOf, IsInForce}
 use Rattle.geo_model.specs.Prices.{chooses}
 use Rattle.pivot_chain.specs.Verdict.{verdict_of}
-use Rattle.trial.specs.declared.command.Command.{Command}
-use Rattle.trial.specs.declared.command.Command.TheVariants.{Change, Undo, Show, Unknown}
-use Rattle.trial.specs.declared.answer.Answer.{Answer}
-use Rattle.trial.specs.declared.answer.Answer.TheVariants.{Done, NoCandidate, TakenAlready, NotTaken, TooDeep, NothingToUndo, Shown, TooManyShows, NotACommand}
-use Rattle.trial.specs.Script.{command_of}
+use Rattle.trial.specs.declared.command.SessionCommand.{SessionCommand}
+use Rattle.trial.specs.declared.command.SessionCommand.TheVariants.{Change, Undo, Show, Unknown}
+use Rattle.trial.specs.declared.answer.Reply.{Reply}
+use Rattle.trial.specs.declared.answer.Reply.TheVariants.{Done, NoCandidate, TakenAlready, NotTaken, TooDeep, NothingToUndo, Shown, TooManyShows, NotACommand}
+use Rattle.trial.specs.Script.{session_command}
 use Rattle.trial.specs.Session.{SessionOf, is_chosen, answer_to, after, is_done, shown, change_answer, undo_answer}
-use Rattle.trial.specs.TrialText.{SurveyOf, is_in_force, limit_text, limit_line, verdict_text, answer_text, line_text}
+use Rattle.trial.specs.TrialText.{SurveyOf, is_in_force, limit_text, limit_line, verdict_text, answer_text, reply_text}
 
 -- ---- limits in force
 
@@ -53,7 +53,7 @@ one_line survey plan read limit said same tests is =
 -- ---- answers
 
 -- all but one answer are the same of every plan
-any_plan : (survey : SurveyOf) (p q : List Bool) (a : Answer) → a ≢ Shown → answer_text survey p a ≡ answer_text survey q a
+any_plan : (survey : SurveyOf) (p q : List Bool) (a : Reply) → a ≢ Shown → answer_text survey p a ≡ answer_text survey q a
 unfolding answer_text
 any_plan survey p q Done other = refl
 any_plan survey p q NoCandidate other = refl
@@ -84,7 +84,7 @@ still session true = refl
 still session false = refl
 
 -- a plan that is shown is the one before the command
-same_plan : (survey : SurveyOf) (session : SessionOf) (command : Command)
+same_plan : (survey : SurveyOf) (session : SessionOf) (command : SessionCommand)
     → answer_text survey (after session command).plan (answer_to session command) ≡ answer_text survey session.plan (answer_to session command)
 same_plan survey session (Change candidate chosen) = any_plan survey _ _ _ (change_unshown session candidate chosen)
 same_plan survey session Undo = any_plan survey _ _ _ (undo_unshown session.before)
@@ -92,8 +92,8 @@ same_plan survey session Show = ap (λ (p : List Bool). answer_text survey p (an
 same_plan survey session Unknown = any_plan survey _ _ NotACommand (λ is. absurd (cc))
 
 -- the answer to a line
-pub said : (survey : SurveyOf) (session next : SessionOf) (line : List ℕ) (command : Command) (answer : Answer)
-    → command ≡ command_of survey.candidates line → answer ≡ answer_to session command → next ≡ after session command → answer_text survey next.plan answer ≡ line_text survey session line
+pub said : (survey : SurveyOf) (session next : SessionOf) (line : List ℕ) (command : SessionCommand) (answer : Reply)
+    → command ≡ session_command survey.candidates line → answer ≡ answer_to session command → next ≡ after session command → answer_text survey next.plan answer ≡ reply_text survey session line
 said survey session next line command answer read is later =
-    ap₂ (λ (s : SessionOf) (a : Answer). answer_text survey s.plan a) later is ∙ same_plan survey session command
-    ∙ ap (λ (c : Command). answer_text survey session.plan (answer_to session c)) read
+    ap₂ (λ (s : SessionOf) (a : Reply). answer_text survey s.plan a) later is ∙ same_plan survey session command
+    ∙ ap (λ (c : SessionCommand). answer_text survey session.plan (answer_to session c)) read

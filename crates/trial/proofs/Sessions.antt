@@ -3,14 +3,14 @@ use Rattle.std.specs.Prelude.{Some, None, take, get_or, slice_set}
 use Rattle.std.proofs.lemmas.List.{get_or_push}
 use Rattle.std.proofs.Math.Seq.{take-append_seam}
 use Rattle.std.proofs.Common.{◌≡◌, ℕ, ◌<◌, Bool, true, if◌then◌else◌, List, [], ◌∷◌, ◌++◌, ◌-◌, length, refl, ap, ap₂, sym, ◌∙◌, arith, length-append}
-use Rattle.trial.specs.declared.command.Command.{Command}
-use Rattle.trial.specs.declared.command.Command.TheVariants.{Change, Undo}
-use Rattle.trial.specs.declared.answer.Answer.{Answer}
-use Rattle.trial.specs.declared.answer.Answer.TheVariants as answer
+use Rattle.trial.specs.declared.command.SessionCommand.{SessionCommand}
+use Rattle.trial.specs.declared.command.SessionCommand.TheVariants.{Change, Undo}
+use Rattle.trial.specs.declared.answer.Reply.{Reply}
+use Rattle.trial.specs.declared.answer.Reply.TheVariants as answer
 use Rattle.trial.specs.Session.{SessionOf, answer_to, after, after_done, changed, undone, is_done, undo_answer, UndoTakesChangesBack}
 
 -- a command that is done
-pub done : (session : SessionOf) (command : Command) (said : Answer) → answer_to session command ≡ said → is_done said ≡ true → after session command ≡ after_done session command
+pub done : (session : SessionOf) (command : SessionCommand) (said : Reply) → answer_to session command ≡ said → is_done said ≡ true → after session command ≡ after_done session command
 done session command said is so = ap (λ (b : Bool). if b then after_done session command else session) (ap is_done is ∙ so)
 
 pub something_to_undo : (before : List (List Bool)) → 0 < length before → undo_answer before ≡ answer.Done

@@ -1,10 +1,10 @@
 -- A session: a plan that changes, one candidate at a time, and goes back. This project's own.
 use Rattle.std.specs.Prelude.{◌≡◌, ℕ, ◌+◌, ◌-◌, nat_lt, Bool, true, false, if◌then◌else◌, List, [], ◌∷◌, ◌++◌, length, take, get_or, slice_set, replicate, Option, Some, None}
 use Rattle.std.specs.Bool.{beq}
-use Rattle.trial.specs.declared.command.Command.{Command}
-use Rattle.trial.specs.declared.command.Command.TheVariants.{Change, Undo, Show, Unknown}
-use Rattle.trial.specs.declared.answer.Answer.{Answer}
-use Rattle.trial.specs.declared.answer.Answer.TheVariants as answer
+use Rattle.trial.specs.declared.command.SessionCommand.{SessionCommand}
+use Rattle.trial.specs.declared.command.SessionCommand.TheVariants.{Change, Undo, Show, Unknown}
+use Rattle.trial.specs.declared.answer.Reply.{Reply}
+use Rattle.trial.specs.declared.answer.Reply.TheVariants as answer
 
 -- the plan; the plans before the changes that aren't taken back, the oldest first;
 -- and how often a plan was shown
@@ -25,7 +25,7 @@ is_chosen session candidate = get_or session.plan candidate false
 
 -- .. to a change: it can be made where a candidate has the name, isn't chosen or left out already,
 -- and fewer than 32 changes aren't taken back
-abbrev pub change_answer : SessionOf → Option ℕ → Bool → Answer
+abbrev pub change_answer : SessionOf → Option ℕ → Bool → Reply
 change_answer session None chosen = answer.NoCandidate
 change_answer session (Some candidate) chosen =
     if beq (is_chosen session candidate) chosen then (if chosen then answer.TakenAlready else answer.NotTaken)
@@ -33,15 +33,15 @@ change_answer session (Some candidate) chosen =
     else answer.TooDeep
 
 -- .. to an undo: there is a change to take back
-abbrev pub undo_answer : List (List Bool) → Answer
+abbrev pub undo_answer : List (List Bool) → Reply
 undo_answer [] = answer.NothingToUndo
 undo_answer (plan ∷ plans) = answer.Done
 
 -- .. to a show: fewer than 256 came before
-abbrev pub show_answer : ℕ → Answer
+abbrev pub show_answer : ℕ → Reply
 show_answer shows = if nat_lt shows 256 then answer.Shown else answer.TooManyShows
 
-abbrev pub answer_to : SessionOf → Command → Answer
+abbrev pub answer_to : SessionOf → SessionCommand → Reply
 answer_to session (Change candidate chosen) = change_answer session candidate chosen
 answer_to session Undo = undo_answer session.before
 answer_to session Show = show_answer session.shows
@@ -71,19 +71,19 @@ abbrev pub shown : SessionOf → SessionOf
 shown session = record { plan = session.plan; before = session.before; shows = session.shows + 1 }
 
 -- .. that is done
-abbrev pub after_done : SessionOf → Command → SessionOf
+abbrev pub after_done : SessionOf → SessionCommand → SessionOf
 after_done session (Change candidate chosen) = changed session candidate chosen
 after_done session Undo = undone session
 after_done session Show = shown session
 after_done session Unknown = session
 
-abbrev pub is_done : Answer → Bool
+abbrev pub is_done : Reply → Bool
 is_done answer.Done = true
 is_done answer.Shown = true
 is_done _ = false
 
 -- .. that may be refused: then the session is the same
-abbrev pub after : SessionOf → Command → SessionOf
+abbrev pub after : SessionOf → SessionCommand → SessionOf
 after session command = if is_done (answer_to session command) then after_done session command else session
 
 -- ---- a law of them

@@ -10,8 +10,8 @@ use Rattle.trial.specs.TrialText.{SurveyOf}
 
 abbrev pub survey_from : List PointRecord → List CandidateRecord → NetworkOf → SurveyOf
 survey_from points candidates network = record {
-  points = point.names_of points;
-  candidates = candidate.names_of candidates;
+  points = point.point_names points;
+  candidates = candidate.candidate_names candidates;
   network = network;
 }
 

@@ -13,9 +13,9 @@ use Rattle.geo_model.specs.declared.verdict.Verdict.{Verdict}
 use Rattle.geo_model.specs.declared.verdict.Verdict.TheVariants.{Met, Refuted, Open}
 use Rattle.lent_parts.specs.Pieces.{lines_of}
 use Rattle.pivot_chain.specs.Verdict.{verdict_of}
-use Rattle.trial.specs.declared.answer.Answer.{Answer}
-use Rattle.trial.specs.declared.answer.Answer.TheVariants as answer
-use Rattle.trial.specs.Script.{bodies, command_of}
+use Rattle.trial.specs.declared.answer.Reply.{Reply}
+use Rattle.trial.specs.declared.answer.Reply.TheVariants as answer
+use Rattle.trial.specs.Script.{bodies, session_command}
 use Rattle.trial.specs.Session.{SessionOf, first_session, answer_to, after}
 
 -- the names of points and candidates, in their order, and the network of both
@@ -35,14 +35,14 @@ limit_text survey (limit.Redundancy owner row) = codes "redundancy," ++ (get_or 
 limit_text survey (limit.Added number) = codes "added," ++ decimal number
 
 -- an open verdict, at the end of a line: the step of its chain, and the interval there
-abbrev pub open_text : ℕ → ℤ → ℤ → List ℕ
-open_text step lo hi = codes ",open," ++ (decimal step ++ (codes "," ++ (whole_text lo ++ (codes "," ++ (whole_text hi ++ codes "\n")))))
+abbrev pub open_verdict_text : ℕ → ℤ → ℤ → List ℕ
+open_verdict_text step lo hi = codes ",open," ++ (decimal step ++ (codes "," ++ (whole_text lo ++ (codes "," ++ (whole_text hi ++ codes "\n")))))
 
 -- a verdict, at the end of a line
 unfoldable pub verdict_text : Verdict → List ℕ
 verdict_text Met = codes ",met\n"
 verdict_text Refuted = codes ",broken\n"
-verdict_text (Open step lo hi) = open_text step lo hi
+verdict_text (Open step lo hi) = open_verdict_text step lo hi
 
 -- whether a limit is in force: it has no owner, or its owner is chosen
 abbrev pub is_in_force : List Bool → LimitOf → Bool
@@ -54,33 +54,33 @@ limit_line survey plan limit =
     if is_in_force plan limit then limit_text survey limit.kind ++ verdict_text (verdict_of survey.network plan limit) else []
 
 -- the price of a plan, and the lines of the limits in force, in their order
-abbrev pub plan_text : SurveyOf → List Bool → List ℕ
-plan_text survey plan =
+abbrev pub shown_plan_text : SurveyOf → List Bool → List ℕ
+shown_plan_text survey plan =
     codes "cost " ++ (decimal (price_of survey.network plan) ++ (codes "\n" ++ flat_map (limit_line survey plan) survey.network.limits))
 
 -- ---- answers
 
 -- the text of an answer, of this plan
-unfoldable pub answer_text : SurveyOf → List Bool → Answer → List ℕ
+unfoldable pub answer_text : SurveyOf → List Bool → Reply → List ℕ
 answer_text survey plan answer.Done = codes "ok\n"
 answer_text survey plan answer.NoCandidate = codes "no candidate\n"
 answer_text survey plan answer.TakenAlready = codes "taken already\n"
 answer_text survey plan answer.NotTaken = codes "not taken\n"
 answer_text survey plan answer.TooDeep = codes "too deep\n"
 answer_text survey plan answer.NothingToUndo = codes "nothing to undo\n"
-answer_text survey plan answer.Shown = plan_text survey plan
+answer_text survey plan answer.Shown = shown_plan_text survey plan
 answer_text survey plan answer.TooManyShows = codes "too many shows\n"
 answer_text survey plan answer.NotACommand = codes "not a command\n"
 
 -- the answer to a line
-abbrev pub line_text : SurveyOf → SessionOf → List ℕ → List ℕ
-line_text survey session line = answer_text survey session.plan (answer_to session (command_of survey.candidates line))
+abbrev pub reply_text : SurveyOf → SessionOf → List ℕ → List ℕ
+reply_text survey session line = answer_text survey session.plan (answer_to session (session_command survey.candidates line))
 
 -- the answers to lines, from a session on
 abbrev pub answers_from : SurveyOf → SessionOf → List (List ℕ) → List ℕ
 answers_from survey session [] = []
 answers_from survey session (line ∷ lines) =
-    line_text survey session line ++ answers_from survey (after session (command_of survey.candidates line)) lines
+    reply_text survey session line ++ answers_from survey (after session (session_command survey.candidates line)) lines
 
 -- the answers to a script
 unfoldable pub trial_text : SurveyOf → List ℕ → List ℕ

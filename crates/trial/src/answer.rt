@@ -1,6 +1,6 @@
 /// The answer to a command.
 #[derive(Clone, Copy, Debug)]
-pub enum Answer {
+pub enum Reply {
     /// The plan is changed, or changed back.
     Done,
     NoCandidate,

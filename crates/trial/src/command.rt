@@ -1,15 +1,15 @@
 //! The commands of a script.
 ghost use Rattle.std.specs.Prelude.{◌≡◌, length};
-ghost use Rattle.candidate_tables.specs.CandidateTable.{names_of};
+ghost use Rattle.candidate_tables.specs.CandidateTable.{candidate_names};
 ghost use Rattle.lent_parts.specs.Walks.{line_of};
-ghost use Rattle.trial.specs.Script.{command_of, line_body, IsInside};
+ghost use Rattle.trial.specs.Script.{session_command, line_without_end, IsInside};
 
 use candidate_tables::Candidates;
 use lent_parts::Line;
 
 /// What a line of a script asks for.
 #[derive(Clone, Copy, Debug)]
-pub enum Command {
+pub enum SessionCommand {
     /// A candidate is to be chosen or left out. None where no candidate has the name.
     Change {
         candidate: Option<u32>,
@@ -22,36 +22,36 @@ pub enum Command {
     Unknown,
 }
 
-impl Command {
+impl SessionCommand {
     /// What a line asks for, without its end.
-    #[tactic(auto, unfolding(crate::specs::Script::command_of))]
-    pub fn read(candidates: &Candidates, line: &[u8]) -> Command
-        ensures value { result ≡ command_of (names_of candidates.now) line.now }
+    #[tactic(auto, unfolding(crate::specs::Script::session_command))]
+    pub fn read(candidates: &Candidates, line: &[u8]) -> SessionCommand
+        ensures value { result ≡ session_command (candidate_names candidates.now) line.now }
         ensures inside { IsInside (length candidates.now) result }
     {
         if let Some(name) = line.strip_prefix(b"take ") {
-            return Command::Change {
+            return SessionCommand::Change {
                 candidate: candidates.find(name),
                 chosen: true,
             };
         }
         if let Some(name) = line.strip_prefix(b"drop ") {
-            return Command::Change {
+            return SessionCommand::Change {
                 candidate: candidates.find(name),
                 chosen: false,
             };
         }
         match line {
-            b"undo" => Command::Undo,
-            b"show" => Command::Show,
-            _ => Command::Unknown,
+            b"undo" => SessionCommand::Undo,
+            b"show" => SessionCommand::Show,
+            _ => SessionCommand::Unknown,
         }
     }
 }
 
 // A line without its end: LF, or CR and LF.
 pub fn body_of<'a>(line: &Line<'a>) -> &'a [u8]
-    ensures { result.now ≡ line_body (line_of line.now) }
+    ensures { result.now ≡ line_without_end (line_of line.now) }
 {
     let text = line.text;
     let n = text.len();

@@ -15,7 +15,7 @@ use text_num::put_whole;
 
 // The name of a point, and no bytes where there is no point of this number.
 fn point_name(points: &Points, place: u32) -> &[u8]
-    ensures { result.now ≡ get_or (point.names_of points.now) place [] }
+    ensures { result.now ≡ get_or (point.point_names points.now) place [] }
 {
     if place >= points.len() {
         return b"";
@@ -25,7 +25,7 @@ fn point_name(points: &Points, place: u32) -> &[u8]
 
 // The name of a candidate, and no bytes where there is no candidate of this number.
 fn candidate_name(candidates: &Candidates, place: u32) -> &[u8]
-    ensures { result.now ≡ get_or (candidate.names_of candidates.now) place [] }
+    ensures { result.now ≡ get_or (candidate.candidate_names candidates.now) place [] }
 {
     if place >= candidates.len() {
         return b"";

@@ -1,14 +1,14 @@
 //! A script, line by line.
 ghost use Rattle.std.specs.Prelude.{◌≡◌, ◌++◌, length, IfOk, OnOk};
 ghost use Rattle.candidate_tables.specs.CandidateTable as candidate;
-ghost use Rattle.trial.specs.Script.{command_of};
+ghost use Rattle.trial.specs.Script.{session_command};
 ghost use Rattle.trial.specs.Session.{after};
 ghost use Rattle.trial.specs.Stacks.{session_of, IsSessionOf};
 ghost use Rattle.trial.specs.Surveyed.{survey_from, survey_of};
-ghost use Rattle.trial.specs.TrialText.{answer_text, line_text, trial_text};
+ghost use Rattle.trial.specs.TrialText.{answer_text, reply_text, trial_text};
 
-use crate::answer::Answer;
-use crate::command::{Command, body_of};
+use crate::answer::Reply;
+use crate::command::{SessionCommand, body_of};
 use crate::session::Session;
 use crate::shown::put_plan;
 use crate::survey::Survey;
@@ -25,21 +25,21 @@ fn put_answer(
     text: &mut Vec<u8>,
     survey: &Survey<'_>,
     session: &Session,
-    answer: Answer,
+    answer: Reply,
 ) -> Result<(), NoMemory>
     requires { IsSessionOf survey.now.network.now session.now }
     ensures { OnOk result (text.new.items ≡ text.old.items ++ answer_text (survey_of survey.now) session.now.plan answer) }
 {
     match answer {
-        Answer::Done => text.extend_from_slice(b"ok\n")?,
-        Answer::NoCandidate => text.extend_from_slice(b"no candidate\n")?,
-        Answer::TakenAlready => text.extend_from_slice(b"taken already\n")?,
-        Answer::NotTaken => text.extend_from_slice(b"not taken\n")?,
-        Answer::TooDeep => text.extend_from_slice(b"too deep\n")?,
-        Answer::NothingToUndo => text.extend_from_slice(b"nothing to undo\n")?,
-        Answer::Shown => put_plan(text, survey, session)?,
-        Answer::TooManyShows => text.extend_from_slice(b"too many shows\n")?,
-        Answer::NotACommand => text.extend_from_slice(b"not a command\n")?,
+        Reply::Done => text.extend_from_slice(b"ok\n")?,
+        Reply::NoCandidate => text.extend_from_slice(b"no candidate\n")?,
+        Reply::TakenAlready => text.extend_from_slice(b"taken already\n")?,
+        Reply::NotTaken => text.extend_from_slice(b"not taken\n")?,
+        Reply::TooDeep => text.extend_from_slice(b"too deep\n")?,
+        Reply::NothingToUndo => text.extend_from_slice(b"nothing to undo\n")?,
+        Reply::Shown => put_plan(text, survey, session)?,
+        Reply::TooManyShows => text.extend_from_slice(b"too many shows\n")?,
+        Reply::NotACommand => text.extend_from_slice(b"not a command\n")?,
     }
     Ok(())
 }
@@ -54,11 +54,11 @@ fn put_line(
 ) -> Result<(), NoMemory>
     requires named { length survey.now.candidates.now ≡ length survey.now.network.now.candidates }
     requires made { IsSessionOf survey.now.network.now session.old }
-    ensures text { OnOk result (text.new.items ≡ text.old.items ++ line_text (survey_of survey.now) (session_of session.old) line.now) }
-    ensures after { OnOk result (session_of session.new ≡ after (session_of session.old) (command_of (candidate.names_of survey.now.candidates.now) line.now)) }
+    ensures text { OnOk result (text.new.items ≡ text.old.items ++ reply_text (survey_of survey.now) (session_of session.old) line.now) }
+    ensures after { OnOk result (session_of session.new ≡ after (session_of session.old) (session_command (candidate.candidate_names survey.now.candidates.now) line.now)) }
     ensures made { OnOk result (IsSessionOf survey.now.network.now session.new) }
 {
-    let command = Command::read(survey.candidates, line);
+    let command = SessionCommand::read(survey.candidates, line);
     let answer = session.obey(alloc, survey.network, command)?;
     put_answer(text, survey, session, answer)
 }

@@ -1,13 +1,13 @@
 //! A session: a plan that changes, one candidate at a time, and goes back.
 ghost use Rattle.std.specs.Prelude.{◌≡◌, ◌<◌, ◌≤◌, length, not, slice_get, Some, IfOk, OnOk};
 ghost use Rattle.geo_model.specs.Network.{NetworkOf};
-ghost use Rattle.trial.specs.declared.command.Command.TheVariants.{Change, Undo, Show};
+ghost use Rattle.trial.specs.declared.command.SessionCommand.TheVariants.{Change, Undo, Show};
 ghost use Rattle.trial.specs.Script.{IsInside};
 ghost use Rattle.trial.specs.Session.{answer_to, after, first_session, change_answer, changed, show_answer, undo_answer};
 ghost use Rattle.trial.specs.Stacks.{session_of, IsSessionOf};
 
-use crate::answer::Answer;
-use crate::command::Command;
+use crate::answer::Reply;
+use crate::command::SessionCommand;
 use crate::stacks::{change_stacks, new_stacks, undo_stacks};
 use factor_stack::FactorStack;
 use geo_base::NoMemory;
@@ -51,8 +51,8 @@ impl Session {
         &mut self,
         alloc: Global,
         network: &Network,
-        command: Command,
-    ) -> Result<Answer, NoMemory>
+        command: SessionCommand,
+    ) -> Result<Reply, NoMemory>
         requires made { IsSessionOf network.now self.old }
         requires inside { IsInside (length network.now.candidates) command }
         ensures answer { IfOk result (λ answer. answer ≡ answer_to (session_of self.old) command) }
@@ -60,13 +60,13 @@ impl Session {
         ensures made { OnOk result (IsSessionOf network.now self.new) }
     {
         match command {
-            Command::Change { candidate, chosen } => match candidate {
+            SessionCommand::Change { candidate, chosen } => match candidate {
                 Some(candidate) => self.change(alloc, network, candidate, chosen),
-                None => Ok(Answer::NoCandidate),
+                None => Ok(Reply::NoCandidate),
             },
-            Command::Undo => Ok(self.undo()),
-            Command::Show => Ok(self.show()),
-            Command::Unknown => Ok(Answer::NotACommand),
+            SessionCommand::Undo => Ok(self.undo()),
+            SessionCommand::Show => Ok(self.show()),
+            SessionCommand::Unknown => Ok(Reply::NotACommand),
         }
     }
 
@@ -77,7 +77,7 @@ impl Session {
         network: &Network,
         candidate: u32,
         chosen: bool,
-    ) -> Result<Answer, NoMemory>
+    ) -> Result<Reply, NoMemory>
         requires made { IsSessionOf network.now self.old }
         requires inside { candidate < length network.now.candidates }
         ensures answer { IfOk result (λ answer. answer ≡ change_answer (session_of self.old) (Some candidate) chosen) }
@@ -86,16 +86,16 @@ impl Session {
     {
         if self.plan.has(candidate) == chosen {
             return Ok(if chosen {
-                Answer::TakenAlready
+                Reply::TakenAlready
             } else {
-                Answer::NotTaken
+                Reply::NotTaken
             });
         }
         if self.before.len() >= MOST_CHANGES {
-            return Ok(Answer::TooDeep);
+            return Ok(Reply::TooDeep);
         }
         self.change_plan(alloc, network, candidate, chosen)?;
-        Ok(Answer::Done)
+        Ok(Reply::Done)
     }
 
     // The same, where it isn't chosen or left out yet, and there may be one more change.
@@ -119,31 +119,31 @@ impl Session {
     }
 
     // Goes back to the plan before the latest change.
-    fn undo(&mut self) -> Answer
+    fn undo(&mut self) -> Reply
         requires { (network : NetworkOf) × IsSessionOf network self.old }
         ensures answer { result ≡ undo_answer self.old.before.items }
         ensures after { session_of self.new ≡ after (session_of self.old) Undo }
         ensures made { (network : NetworkOf) → IsSessionOf network self.old → IsSessionOf network self.new }
     {
         let Some(plan) = self.before.pop() else {
-            return Answer::NothingToUndo;
+            return Reply::NothingToUndo;
         };
         self.plan = plan;
         undo_stacks(self.stacks.as_mut_slice());
-        Answer::Done
+        Reply::Done
     }
 
     // Counts a plan that is to be shown.
-    fn show(&mut self) -> Answer
+    fn show(&mut self) -> Reply
         requires { self.old.shows ≤ 256 }
         ensures answer { result ≡ show_answer self.old.shows }
         ensures after { session_of self.new ≡ after (session_of self.old) Show }
         ensures made { (network : NetworkOf) → IsSessionOf network self.old → IsSessionOf network self.new }
     {
         if self.shows >= MOST_SHOWS {
-            return Answer::TooManyShows;
+            return Reply::TooManyShows;
         }
         self.shows += 1;
-        Answer::Shown
+        Reply::Shown
     }
 }

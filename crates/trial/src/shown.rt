@@ -3,7 +3,7 @@ ghost use Rattle.std.specs.Prelude.{◌≡◌, ◌++◌, ◌<◌, Some, flat_map
 ghost use Rattle.geo_model.specs.Limit.{LimitOf};
 ghost use Rattle.trial.specs.Stacks.{IsSessionOf};
 ghost use Rattle.trial.specs.Surveyed.{survey_of};
-ghost use Rattle.trial.specs.TrialText.{limit_line, open_text, plan_text, verdict_text};
+ghost use Rattle.trial.specs.TrialText.{limit_line, open_verdict_text, shown_plan_text, verdict_text};
 
 use crate::limit_name::{put_count, put_limit_name};
 use crate::session::Session;
@@ -14,7 +14,7 @@ use text_num::put_whole;
 
 // Appends the step and the interval of an open verdict, and ends its line.
 fn put_open(text: &mut Vec<u8>, step: u32, lo: i128, hi: i128) -> Result<(), NoMemory>
-    ensures { OnOk result (text.new.items ≡ text.old.items ++ open_text step lo hi) }
+    ensures { OnOk result (text.new.items ≡ text.old.items ++ open_verdict_text step lo hi) }
 {
     text.extend_from_slice(b",open,")?;
     put_count(text, u64::from(step))?;
@@ -62,7 +62,7 @@ fn put_limit(
 /// Appends the price of the plan and a line for each limit in force.
 pub fn put_plan(text: &mut Vec<u8>, survey: &Survey<'_>, session: &Session) -> Result<(), NoMemory>
     requires { IsSessionOf survey.now.network.now session.now }
-    ensures { OnOk result (text.new.items ≡ text.old.items ++ plan_text (survey_of survey.now) session.now.plan) }
+    ensures { OnOk result (text.new.items ≡ text.old.items ++ shown_plan_text (survey_of survey.now) session.now.plan) }
 {
     text.extend_from_slice(b"cost ")?;
     put_count(text, cost(survey.network, &session.plan))?;

@@ -11,7 +11,7 @@ use trial::run;
 
 /// Records of two tables, and a redundancy in thousandths.
 #[derive(Clone, Copy)]
-struct Tables<'a> {
+struct SessionTables<'a> {
     points: &'a [u8],
     candidates: &'a [u8],
     redundancy: u32,
@@ -21,7 +21,7 @@ struct Tables<'a> {
 fn answers(
     rt: &impl Abort,
     alloc: Global,
-    tables: &Tables<'_>,
+    tables: &SessionTables<'_>,
     script: &[u8],
 ) -> Result<Vec<u8>, Fail>
     requires { tables.now.redundancy ≤ 999 }
@@ -48,30 +48,30 @@ const LEVEL: &[u8] = b"l1,level,A,H,,1.00,,5\n";
 const LEVELS: &[u8] = b"l1,level,A,H,,1.00,,5\nl2,level,A,H,,1.00,,7\n";
 
 // A level for 5.
-const ONE: Tables<'static> = Tables {
+const ONE: SessionTables<'static> = SessionTables {
     points: HEIGHT,
     candidates: LEVEL,
     redundancy: 0,
 };
 
 // Levels for 5 and 7, and a limit of a half on their redundancies.
-const HALF_REDUNDANT: Tables<'static> = Tables {
+const HALF_REDUNDANT: SessionTables<'static> = SessionTables {
     points: HEIGHT,
     candidates: LEVELS,
     redundancy: 500,
 };
 
 // Four heights in a row, of which the last has a limit that four levels of 0.50 mm just meet.
-const ROW: Tables<'static> = Tables {
+const ROW: SessionTables<'static> = SessionTables {
     points: b"A,,,0.000,,fixed\nH1,,,0.000,,5.0\nH2,,,0.000,,5.0\nH3,,,0.000,,5.0\nH4,,,0.000,,1.0\n",
     candidates: b"l1,level,A,H1,,0.50,,5\nl2,level,H1,H2,,0.50,,5\nl3,level,H2,H3,,0.50,,5\nl4,level,H3,H4,,0.50,,5\n",
     redundancy: 0,
 };
 
 // Tables, a script, and the answers to it.
-const SCRIPTS: [(Tables<'static>, &[u8], &[u8]); 10] = [
+const SCRIPTS: [(SessionTables<'static>, &[u8], &[u8]); 10] = [
     (
-        Tables {
+        SessionTables {
             points: CLOSER_HEIGHT,
             candidates: LEVELS,
             redundancy: 0,
@@ -155,7 +155,7 @@ fn repeated(alloc: Global, line: &[u8], count: u32) -> Result<Vec<u8>, Fail> {
 #[test]
 fn the_33rd_change_is_too_deep(rt: HostRuntime) -> Result<(), Fail> {
     let records = levels(rt.alloc(), 33)?;
-    let tables = Tables {
+    let tables = SessionTables {
         points: HEIGHT,
         candidates: records.as_slice(),
         redundancy: 0,

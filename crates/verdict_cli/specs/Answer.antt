@@ -16,11 +16,11 @@ use Rattle.geo_model.specs.declared.verdict.Verdict.TheVariants.{Met, Refuted, O
 use Rattle.net_build.specs.Build.{network_fault, network_of}
 use Rattle.pivot_chain.specs.Verdict.{verdict_of}
 use Rattle.verdict_cli.specs.Request.{RequestOf, request_of}
-use Rattle.verdict_cli.specs.declared.refusal.Refusal.{Refusal}
-use Rattle.verdict_cli.specs.declared.refusal.Refusal.TheVariants as refused
+use Rattle.verdict_cli.specs.declared.refusal.InputRefusal.{InputRefusal}
+use Rattle.verdict_cli.specs.declared.refusal.InputRefusal.TheVariants as refused
 
 -- why a table that was not read refuses the whole
-abbrev pub refusal_of : TableAnswer → Refusal
+abbrev pub refusal_of : TableAnswer → InputRefusal
 refusal_of (answer.Fault fault) = refused.Table fault.table
 refusal_of answer.NoMemory = refused.NoMemory
 
@@ -67,8 +67,8 @@ abbrev pub network_for : RequestOf → NetworkOf
 network_for request = network_of (points_of request.points) (candidates_of (points_of request.points) request.candidates) request.redundancy
 
 -- all that is printed for a request
-abbrev pub answer_of : RequestOf → List ℕ
-answer_of request = plans_lines (network_for request) request.plans
+abbrev pub request_lines : RequestOf → List ℕ
+request_lines request = plans_lines (network_for request) request.plans
 
 -- the input has the parts of a request, of which this holds
 abbrev pub HasRequest : List ℕ → (RequestOf → Type 0) → Type 0
@@ -76,7 +76,7 @@ HasRequest input Holds = (request : RequestOf) × (request_of input ≡ Some req
 
 -- the text is what is added for an input
 abbrev pub IsAnswered : List ℕ → List ℕ → List ℕ → Type 0
-IsAnswered input before after = HasRequest input (λ request. after ≡ before ++ answer_of request)
+IsAnswered input before after = HasRequest input (λ request. after ≡ before ++ request_lines request)
 
 -- ---- refusals
 
@@ -85,7 +85,7 @@ abbrev pub HasFault : Option (ℕ × FaultKind) → Type 0
 HasFault fault = (first : ℕ × FaultKind) × (fault ≡ Some first)
 
 -- what a refusal tells of the tables of a request: the one that it names has a fault
-abbrev pub RefusesTables : RequestOf → Refusal → Type 0
+abbrev pub RefusesTables : RequestOf → InputRefusal → Type 0
 RefusesTables request (refused.Table table.Points) = HasFault (points_fault request.points)
 RefusesTables request (refused.Table table.Candidates) = HasFault (candidates_fault (points_of request.points) request.candidates)
 RefusesTables request (refused.Table table.Network) =
@@ -95,7 +95,7 @@ RefusesTables request refused.Request = ⊥
 RefusesTables request refused.Plan = ⊥
 
 -- .. of a line
-abbrev pub RefusesPlan : ℕ → List ℕ → Refusal → Type 0
+abbrev pub RefusesPlan : ℕ → List ℕ → InputRefusal → Type 0
 RefusesPlan m line refused.Plan = IsFalse (is_plan m line)
 RefusesPlan m line refused.NoMemory = Unit {0}
 RefusesPlan m line refused.Request = ⊥
@@ -106,16 +106,16 @@ abbrev pub are_plans : ℕ → List TextLineOf → Bool
 are_plans m lines = list_all (λ (line : TextLineOf). is_plan m line.text) lines
 
 -- .. of a text of plans
-abbrev pub RefusesPlans : ℕ → List ℕ → Refusal → Type 0
+abbrev pub RefusesPlans : ℕ → List ℕ → InputRefusal → Type 0
 RefusesPlans m plans refused.Plan = IsFalse (are_plans m (lines_of plans))
 RefusesPlans m plans refused.NoMemory = Unit {0}
 RefusesPlans m plans refused.Request = ⊥
 RefusesPlans m plans (refused.Table name) = ⊥
 
 -- .. of a whole input
-abbrev pub Refuses : List ℕ → Refusal → Type 0
-Refuses input refused.Request = request_of input ≡ None
-Refuses input (refused.Table name) = HasRequest input (λ request. RefusesTables request (refused.Table name))
-Refuses input refused.Plan =
+abbrev pub RefusesInput : List ℕ → InputRefusal → Type 0
+RefusesInput input refused.Request = request_of input ≡ None
+RefusesInput input (refused.Table name) = HasRequest input (λ request. RefusesTables request (refused.Table name))
+RefusesInput input refused.Plan =
     HasRequest input (λ request. RefusesPlans (length (network_for request).candidates) request.plans refused.Plan)
-Refuses input refused.NoMemory = Unit {0}
+RefusesInput input refused.NoMemory = Unit {0}

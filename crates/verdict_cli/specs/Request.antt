@@ -1,6 +1,6 @@
 -- What stands on the standard input: a first line of four numbers, two tables, and plans. This project's own.
-use Rattle.std.specs.Prelude.{ℕ, ◌+◌, nat_le, ◌&&◌, if◌then◌else◌, List, [], ◌∷◌, map, length, take, drop, Option, None, Some, ℤ, pos, negsuc}
-use Rattle.lent_parts.specs.Pieces.{TextLineOf, TokenOf, lines_of, tokens_of}
+use Rattle.std.specs.Prelude.{ℕ, ◌+◌, nat_le, ◌&&◌, if◌then◌else◌, List, [], ◌∷◌, length, take, drop, Option, None, Some, ℤ, pos, negsuc}
+use Rattle.lent_parts.specs.Pieces.{TextLineOf, lines_of, tokens_of, words_of}
 use Rattle.text_num.specs.Decimal.{decimal_of}
 use Rattle.verdict_cli.specs.declared.header.Header.{Header}
 use Rattle.verdict_cli.specs.declared.request.Request.{Request}
@@ -22,10 +22,6 @@ abbrev pub header_from : Option ℕ → Option ℕ → Option ℕ → Option ℕ
 header_from (Some points) (Some candidates) (Some redundancy) (Some times) =
     Some (record { points = points; candidates = candidates; redundancy = redundancy; times = times })
 header_from _ _ _ _ = None
-
--- the texts of a line's tokens
-abbrev pub words_of : List TokenOf → List (List ℕ)
-words_of tokens = map (λ token. token.text) tokens
 
 -- the words of a first line: the bytes of the points table and of the candidates table, the redundancy limit in thousandths,
 -- and how often each verdict is reckoned

@@ -2,10 +2,10 @@
 ghost use Rattle.std.specs.Prelude.{◌≡◌, ◌++◌, ◌≤◌, OnOk, IfOk, IfErr, length};
 ghost use Rattle.pivot_chain.specs.Room.{IsRoomOf};
 ghost use Rattle.verdict_cli.specs.Request.{request_seen};
-ghost use Rattle.verdict_cli.specs.Answer.{IsAnswered, Refuses, RefusesPlans, RefusesTables, network_for, plans_lines};
+ghost use Rattle.verdict_cli.specs.Answer.{IsAnswered, RefusesInput, RefusesPlans, RefusesTables, network_for, plans_lines};
 
 use crate::plan::read_plan;
-use crate::refusal::{Refusal, refusal_of};
+use crate::refusal::{InputRefusal, refusal_of};
 use crate::request::{Request, read_request};
 use crate::verdicts::put_verdicts;
 use candidate_tables::read_candidates;
@@ -18,19 +18,19 @@ use std::alloc::Global;
 
 /// Appends what is printed for an input: for each plan, in their order, its verdict on each limit of the
 /// network of both tables, a line each. After a refusal `out` has some of it.
-pub fn put_answer(alloc: Global, input: &[u8], out: &mut Vec<u8>) -> Result<(), Refusal>
+pub fn put_answer(alloc: Global, input: &[u8], out: &mut Vec<u8>) -> Result<(), InputRefusal>
     ensures answer { OnOk result (IsAnswered input.now out.old.items out.new.items) }
-    ensures refused { IfErr result (Refuses input.now) }
+    ensures refused { IfErr result (RefusesInput input.now) }
 {
     let Some(request) = read_request(input) else {
-        return Err(Refusal::Request);
+        return Err(InputRefusal::Request);
     };
     let network = network_of(alloc, &request)?;
     put_plans(alloc, &network, request.plans, request.times, out)
 }
 
 // The network of the tables of a request.
-fn network_of(alloc: Global, request: &Request<'_>) -> Result<Network, Refusal>
+fn network_of(alloc: Global, request: &Request<'_>) -> Result<Network, InputRefusal>
     requires { request.now.redundancy ≤ 999 }
     ensures network { IfOk result (λ network. network ≡ network_for (request_seen request.now)) }
     ensures refused { IfErr result (RefusesTables (request_seen request.now)) }
@@ -56,18 +56,18 @@ fn put_plans(
     plans: &[u8],
     times: u32,
     out: &mut Vec<u8>,
-) -> Result<(), Refusal>
+) -> Result<(), InputRefusal>
     ensures lines { OnOk result (out.new.items ≡ out.old.items ++ plans_lines network.now plans.now) }
     ensures refused { IfErr result (RefusesPlans (length network.now.candidates) plans.now) }
 {
     let m = network.candidates().len() as u32;
     let Ok(mut room) = ChainRoom::new(alloc, network) else {
-        return Err(Refusal::NoMemory);
+        return Err(InputRefusal::NoMemory);
     };
     for line in lines(plans) {
         let plan = read_plan(alloc, line.text, m)?;
         let Ok(()) = put_verdicts(out, &mut room, network, &plan, times) else {
-            return Err(Refusal::NoMemory);
+            return Err(InputRefusal::NoMemory);
         };
     }
     Ok(())

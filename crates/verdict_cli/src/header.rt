@@ -1,7 +1,8 @@
 //! The first line: four numbers with one space between each two.
 ghost use Rattle.std.specs.Prelude.{◌≡◌, ◌≤◌, IfSome, IfNone, Some, None, [], ◌∷◌};
 ghost use Rattle.lent_parts.specs.Pieces.{tokens_of};
-ghost use Rattle.verdict_cli.specs.Request.{header_of, number_in, words_of};
+ghost use Rattle.lent_parts.specs.Pieces.{words_of};
+ghost use Rattle.verdict_cli.specs.Request.{header_of, number_in};
 
 use lent_parts::tokens;
 use text_num::read_decimal;

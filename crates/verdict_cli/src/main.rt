@@ -15,7 +15,7 @@ mod request;
 mod verdicts;
 
 use answer::put_answer;
-use refusal::Refusal;
+use refusal::InputRefusal;
 use std::alloc::Global;
 use std::io::{self, Read, Write};
 use std::process::ExitCode;
@@ -35,7 +35,7 @@ fn end_with(rt: &HostRuntime, text: &[u8], status: u8) -> ExitCode {
 }
 
 // What the program prints for the bytes of its input.
-fn text_for(alloc: Global, input: &[u8]) -> Result<Vec<u8>, Refusal> {
+fn text_for(alloc: Global, input: &[u8]) -> Result<Vec<u8>, InputRefusal> {
     let mut out = Vec::new(alloc);
     put_answer(alloc, input, &mut out)?;
     Ok(out)

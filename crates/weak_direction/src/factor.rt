@@ -1,4 +1,4 @@
-use crate::form::{Form, Term};
+use crate::form::{Form, FormTerm};
 use fixed_point::{Divisor, divide_row, dot, product, subtract_scaled};
 use geo_base::NoMemory;
 use std::alloc::Global;
@@ -142,7 +142,7 @@ impl Factor {
 }
 
 // Adds `factor` times the terms of a form to a row.
-fn add_terms(row: &mut [i64], factor: i64, terms: &[Term]) {
+fn add_terms(row: &mut [i64], factor: i64, terms: &[FormTerm]) {
     for term in terms {
         add_to(
             row,

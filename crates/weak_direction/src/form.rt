@@ -2,7 +2,7 @@ use fixed_point::{ONE, product};
 
 /// A coefficient of a linear form, and the number of its unknown.
 #[derive(Clone, Copy)]
-pub struct Term {
+pub struct FormTerm {
     pub unknown: u32,
     pub coefficient: i64,
 }
@@ -11,12 +11,12 @@ pub struct Term {
 /// weight, or a square of a limit.
 #[derive(Drop)]
 pub struct Form {
-    pub(crate) terms: Vec<Term>,
+    pub(crate) terms: Vec<FormTerm>,
 }
 
 impl Form {
     /// The coefficients, each with its unknown.
-    pub fn terms(&self) -> &[Term] {
+    pub fn terms(&self) -> &[FormTerm] {
         self.terms.as_slice()
     }
 

@@ -17,6 +17,6 @@ mod weakest;
 
 pub use eigen::{Greatest, greatest_eigenvalue};
 pub use factor::Factor;
-pub use form::{Form, Term, common_shift, lifted};
+pub use form::{Form, FormTerm, common_shift, lifted};
 pub use scaling::Scaling;
 pub use weakest::Weakest;

@@ -1,4 +1,4 @@
-use crate::form::{Form, Term};
+use crate::form::{Form, FormTerm};
 use fixed_point::root_of_ratio;
 use geo_base::NoMemory;
 use std::alloc::Global;
@@ -48,7 +48,7 @@ impl Scaling {
             let square = weighted_square(weight, *coefficient);
             let divisor = diagonal.saturating_mul(factor.unsigned_abs() as u128);
             let size = root_of_ratio(square, divisor);
-            terms.push(Term {
+            terms.push(FormTerm {
                 unknown: *unknown,
                 coefficient: if *coefficient < 0 {
                     size.wrapping_neg()

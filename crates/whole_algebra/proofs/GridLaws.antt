@@ -4,7 +4,7 @@ use Rattle.std.proofs.lemmas.Int.{ints}
 use Rattle.std.proofs.lemmas.List.{length-map}
 use Rattle.whole_algebra.specs.Sums.{int_sum_by, dot}
 use Rattle.whole_algebra.specs.Matrices.{at, scale, row_quad, quad, lower_over, upper_over, diagonal, IsTriangle, padded}
-use Rattle.whole_algebra.specs.Chains.{size_limit, met, refuted, verdict_of}
+use Rattle.whole_algebra.specs.Chains.{size_limit, met, refuted, chains_outcome}
 use Rattle.whole_algebra.specs.Grid.{times_lists, scaled, packed}
 use Rattle.whole_algebra.proofs.Ring.{mul_zero}
 use Rattle.whole_algebra.proofs.Order.{mul_nonneg, mul_pos, nonneg_of_mul}
@@ -193,14 +193,14 @@ upper_grid_negative n m ws d k d_above z l h =
 
 pub grid-met : (n : ℕ) (m : List (List ℤ)) (ws vs : List ℤ) (d p : ℤ) → IsTriangle n m → length ws ≡ n → length vs ≡ n
     → pos 0 <ℤ d → pos 0 <ℤ p → times_lists ws vs ≡ replicate n p
-    → verdict_of (lower_over d (scaled ws m)) (upper_over d (scaled ws m)) ≡ met → (x : List ℤ) → pos 0 ≤ℤ quad m x
+    → chains_outcome (lower_over d (scaled ws m)) (upper_over d (scaled ws m)) ≡ met → (x : List ℤ) → pos 0 ≤ℤ quad m x
 grid-met n m ws vs d p t k j d_above p_above e v x =
     lower_grid_nonneg n m ws vs d p t k j d_above p_above e
     (λ z. verdict-met n (lower_over d (scaled ws m)) (upper_over d (scaled ws m)) z (triangle-lower_over d n (scaled ws m) (triangle-scaled n ws m k t)) v) x
 
 pub grid-refuted : (n : ℕ) (m : List (List ℤ)) (ws : List ℤ) (d h : ℤ) → IsTriangle n m → length ws ≡ n → pos 0 <ℤ d → n ≤ 64
     → ((i : ℕ) → at (diagonal (upper_over d (scaled ws m))) i ≤ℤ h) → (h +ℤ pos (64 * n)) ≤ℤ size_limit
-    → verdict_of (lower_over d (scaled ws m)) (upper_over d (scaled ws m)) ≡ refuted → (x : List ℤ) × (length x ≡ n) × (quad m x <ℤ pos 0)
+    → chains_outcome (lower_over d (scaled ws m)) (upper_over d (scaled ws m)) ≡ refuted → (x : List ℤ) × (length x ≡ n) × (quad m x <ℤ pos 0)
 grid-refuted n m ws d h t k d_above le high room v =
     let z = verdict-refuted n (lower_over d (scaled ws m)) (upper_over d (scaled ws m)) h (triangle-upper_over d n (scaled ws m) (triangle-scaled n ws m k t)) le high room v in
     upper_grid_negative n m ws d k d_above z.0 z.1 z.2

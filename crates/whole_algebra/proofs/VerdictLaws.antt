@@ -1,7 +1,7 @@
 -- What the verdict on two matrices says of their forms.
 use Rattle.std.proofs.Common.{◌≡◌, ℕ, zero, suc, ◌*◌, ◌<◌, ◌≤◌, Bool, true, false, cond, List, [], ◌∷◌, length, refl, ap, subst, arith, ℤ, pos, ◌+ℤ◌, ◌≤ℤ◌, ◌<ℤ◌}
 use Rattle.whole_algebra.specs.Matrices.{at, quad, diagonal, lower_over, upper_over, IsTriangle, padded}
-use Rattle.whole_algebra.specs.Chains.{Step, free, pivot, stop, size_limit, next, chain_rows, chain_steps, lower_chain, upper_chain, stops, stop_place, stop_value, pivot_at, Outcome, met, refuted, open_at, outcome_of, verdict_of}
+use Rattle.whole_algebra.specs.Chains.{Step, free, pivot, stop, size_limit, next, chain_rows, chain_steps, lower_chain, upper_chain, stops, stop_place, stop_value, pivot_at, Outcome, met, refuted, open_at, outcome_of, chains_outcome}
 use Rattle.whole_algebra.proofs.Shapes.{length-triangle, quad-padded, length-padded}
 use Rattle.whole_algebra.proofs.ChainLaws.{lower_nonneg, stop_value-low, pivot_at-nonneg}
 use Rattle.whole_algebra.proofs.Refutation.{upper_negative, negative_list}
@@ -103,15 +103,15 @@ stop_place-range (pivot a ∷ s) e = place_by (stops s) (stop_place s) (length s
 stop_place-range (stop v ∷ s) e = (omega arith, omega arith)
 
 -- ---- the verdict
-pub verdict-met : (n : ℕ) (lower upper : List (List ℤ)) (x : List ℤ) → IsTriangle n lower → verdict_of lower upper ≡ met → pos 0 ≤ℤ quad lower x
+pub verdict-met : (n : ℕ) (lower upper : List (List ℤ)) (x : List ℤ) → IsTriangle n lower → chains_outcome lower upper ≡ met → pos 0 ≤ℤ quad lower x
 verdict-met n lower upper x t e = lower_sound n lower x t (met-out (lower_chain lower) (upper_chain upper) e)
 
 pub verdict-refuted : (n : ℕ) (lower upper : List (List ℤ)) (h : ℤ) → IsTriangle n upper → n ≤ 64 → ((i : ℕ) → at (diagonal upper) i ≤ℤ h)
-    → (h +ℤ pos (64 * n)) ≤ℤ size_limit → verdict_of lower upper ≡ refuted → (x : List ℤ) × (length x ≡ n) × (quad upper x <ℤ pos 0)
+    → (h +ℤ pos (64 * n)) ≤ℤ size_limit → chains_outcome lower upper ≡ refuted → (x : List ℤ) × (length x ≡ n) × (quad upper x <ℤ pos 0)
 verdict-refuted n lower upper h t le high room e =
     upper_refutes n upper h t le high room (refuted-out (lower_chain lower) (upper_chain upper) e).1
 
-pub verdict-open : (n : ℕ) (lower upper : List (List ℤ)) (k : ℕ) (lo hi : ℤ) → IsTriangle n lower → verdict_of lower upper ≡ open_at k lo hi
+pub verdict-open : (n : ℕ) (lower upper : List (List ℤ)) (k : ℕ) (lo hi : ℤ) → IsTriangle n lower → chains_outcome lower upper ≡ open_at k lo hi
     → (lo ≤ℤ pos 0) × (pos 0 ≤ℤ hi) × (0 < k) × (k ≤ n)
 verdict-open n lower upper k lo hi t e =
     let p = open-out (lower_chain lower) (upper_chain upper) k lo hi e in

@@ -1,6 +1,6 @@
 -- The definitions at matrices that were worked by hand.
 use Rattle.std.proofs.Common.{◌≡◌, ℕ, zero, suc, inl, inr, arith, List, [], ◌∷◌, refl, ℤ, pos, negsuc, ◌*ℤ◌, ◌*◌}
-use Rattle.whole_algebra.specs.Chains.{pivot, stop, lower_chain, upper_chain, met, refuted, open_at, verdict_of}
+use Rattle.whole_algebra.specs.Chains.{pivot, stop, lower_chain, upper_chain, met, refuted, open_at, chains_outcome}
 use Rattle.whole_algebra.specs.Matrices.{schur, minus_matrix}
 use Rattle.whole_algebra.specs.Certificates.{IsDominant, CertificateHolds}
 use Rattle.std.proofs.lemmas.Int.{ints}
@@ -26,19 +26,19 @@ line_above : upper_chain (line (pos weight)) ≡ pivot (pos (3 * weight)) ∷ pi
 unfolding line weight
 line_above = refl
 
-line_open : verdict_of (line (pos weight)) (line (pos weight)) ≡ open_at 4 (negsuc 0) (pos 1)
+line_open : chains_outcome (line (pos weight)) (line (pos weight)) ≡ open_at 4 (negsuc 0) (pos 1)
 unfolding line weight
 line_open = refl
 
 -- an equality is met by a row of zeros
-nothing_left : verdict_of ((pos 0 ∷ []) ∷ []) ((pos 0 ∷ []) ∷ []) ≡ met
+nothing_left : chains_outcome ((pos 0 ∷ []) ∷ []) ((pos 0 ∷ []) ∷ []) ≡ met
 nothing_left = refl
 
 -- 3 - 9 / 2 is negative, rounded up too
-below_zero : verdict_of ((pos 2 ∷ pos 3 ∷ []) ∷ (pos 3 ∷ []) ∷ []) ((pos 2 ∷ pos 3 ∷ []) ∷ (pos 3 ∷ []) ∷ []) ≡ refuted
+below_zero : chains_outcome ((pos 2 ∷ pos 3 ∷ []) ∷ (pos 3 ∷ []) ∷ []) ((pos 2 ∷ pos 3 ∷ []) ∷ (pos 3 ∷ []) ∷ []) ≡ refuted
 below_zero = refl
 
-above_zero : verdict_of ((pos 2 ∷ negsuc 0 ∷ []) ∷ (pos 2 ∷ []) ∷ []) ((pos 2 ∷ negsuc 0 ∷ []) ∷ (pos 2 ∷ []) ∷ []) ≡ met
+above_zero : chains_outcome ((pos 2 ∷ negsuc 0 ∷ []) ∷ (pos 2 ∷ []) ∷ []) ((pos 2 ∷ negsuc 0 ∷ []) ∷ (pos 2 ∷ []) ∷ []) ≡ met
 above_zero = refl
 
 -- beside a zero pivot nothing may stand

@@ -108,5 +108,5 @@ outcome_of low high =
     (cond (stops high) refuted (open_at (stop_place low) (stop_value low) (pivot_at high (stop_place low))))
     met
 
-abbrev pub verdict_of : List (List ℤ) → List (List ℤ) → Outcome
-verdict_of lower upper = outcome_of (lower_chain lower) (upper_chain upper)
+abbrev pub chains_outcome : List (List ℤ) → List (List ℤ) → Outcome
+chains_outcome lower upper = outcome_of (lower_chain lower) (upper_chain upper)

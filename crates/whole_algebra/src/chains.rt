@@ -3,7 +3,7 @@
 ghost use Rattle.std.specs.Prelude.{◌≡◌, neg_ℤ, ◌*ℤ◌, ◌∷◌, ℕ, ◌+◌, ◌*◌, ◌<◌, ◌≤◌, ℤ, pos, ◌+ℤ◌, ◌≤ℤ◌, ◌<ℤ◌, List, length, IsTrue, IsFalse};
 ghost use Rattle.whole_algebra.specs.Matrices.{at, quad, diagonal, lower_over, upper_over, IsTriangle};
 ghost use Rattle.whole_algebra.specs.Rounding.{floor_over};
-ghost use Rattle.whole_algebra.specs.Chains.{size_limit, step_of, pivot, stops, lower_chain, upper_chain, met, refuted, open_at, verdict_of, matrix_after};
+ghost use Rattle.whole_algebra.specs.Chains.{size_limit, step_of, pivot, stops, lower_chain, upper_chain, met, refuted, open_at, chains_outcome, matrix_after};
 
 /// Where the lower chain of a matrix doesn't stop, its form is negative on no list of whole numbers.
 #[tactic(auto, using(crate::proofs::VerdictLaws::lower_sound))]
@@ -27,13 +27,13 @@ pub fn upper_chain_refutes()
 #[tactic(auto, using(crate::proofs::VerdictLaws::verdict_laws))]
 pub fn verdicts_are_sound()
     ensures met_everywhere { (n : ℕ) (lower upper : List (List ℤ)) (x : List ℤ)
-        → IsTriangle n lower → verdict_of lower upper ≡ met → pos 0 ≤ℤ quad lower x }
+        → IsTriangle n lower → chains_outcome lower upper ≡ met → pos 0 ≤ℤ quad lower x }
     ensures refuted_somewhere { (n : ℕ) (lower upper : List (List ℤ)) (h : ℤ)
         → IsTriangle n upper → n ≤ 64 → ((i : ℕ) → at (diagonal upper) i ≤ℤ h)
-        → (h +ℤ pos (64 * n)) ≤ℤ size_limit → verdict_of lower upper ≡ refuted
+        → (h +ℤ pos (64 * n)) ≤ℤ size_limit → chains_outcome lower upper ≡ refuted
         → (x : List ℤ) × (length x ≡ n) × (quad upper x <ℤ pos 0) }
     ensures open_between { (n : ℕ) (lower upper : List (List ℤ)) (k : ℕ) (lo hi : ℤ)
-        → IsTriangle n lower → verdict_of lower upper ≡ open_at k lo hi
+        → IsTriangle n lower → chains_outcome lower upper ≡ open_at k lo hi
         → (lo ≤ℤ pos 0) × (pos 0 ≤ℤ hi) × (0 < k) × (k ≤ n) }
 {}
 

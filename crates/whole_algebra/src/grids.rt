@@ -3,7 +3,7 @@
 ghost use Rattle.std.specs.Prelude.{◌≡◌, ℕ, ◌*◌, ◌≤◌, ℤ, pos, ◌+ℤ◌, ◌*ℤ◌, ◌≤ℤ◌, ◌<ℤ◌, List, length, map, replicate};
 ghost use Rattle.whole_algebra.specs.Sums.{dot};
 ghost use Rattle.whole_algebra.specs.Matrices.{at, quad, diagonal, lower_over, upper_over, IsTriangle};
-ghost use Rattle.whole_algebra.specs.Chains.{size_limit, met, refuted, verdict_of};
+ghost use Rattle.whole_algebra.specs.Chains.{size_limit, met, refuted, chains_outcome};
 ghost use Rattle.whole_algebra.specs.Grid.{times_lists, scaled, packed};
 
 /// Forms of packed matrices add up with their numbers, and the products of a row's numbers give the
@@ -25,12 +25,12 @@ pub fn grid_verdicts_are_sound()
     ensures met_everywhere { (n : ℕ) (m : List (List ℤ)) (scale parts : List ℤ) (d p : ℤ)
         → IsTriangle n m → length scale ≡ n → length parts ≡ n → pos 0 <ℤ d → pos 0 <ℤ p
         → times_lists scale parts ≡ replicate n p
-        → verdict_of (lower_over d (scaled scale m)) (upper_over d (scaled scale m)) ≡ met
+        → chains_outcome (lower_over d (scaled scale m)) (upper_over d (scaled scale m)) ≡ met
         → (x : List ℤ) → pos 0 ≤ℤ quad m x }
     ensures refuted_somewhere { (n : ℕ) (m : List (List ℤ)) (scale : List ℤ) (d h : ℤ)
         → IsTriangle n m → length scale ≡ n → pos 0 <ℤ d → n ≤ 64
         → ((i : ℕ) → at (diagonal (upper_over d (scaled scale m))) i ≤ℤ h)
         → (h +ℤ pos (64 * n)) ≤ℤ size_limit
-        → verdict_of (lower_over d (scaled scale m)) (upper_over d (scaled scale m)) ≡ refuted
+        → chains_outcome (lower_over d (scaled scale m)) (upper_over d (scaled scale m)) ≡ refuted
         → (x : List ℤ) × (length x ≡ n) × (quad m x <ℤ pos 0) }
 {}

@@ -1,5 +1,5 @@
 use Rattle.std.proofs.Common.{ℕ, arith, ◌≤◌, ◌≡◌}
-use Rattle.bound_log.specs.LogWords.{words_of}
+use Rattle.lent_parts.specs.Pieces.{words_of}
 use Rattle.bound_log.proofs.CutLemmas.{pair_kind}
 use Rattle.bound_log.proofs.ItemLemmas.{took_all, took_missing, took_one}
 use Rattle.bound_log.proofs.cut_words.take_pairs.Goals as goal

@@ -1,4 +1,4 @@
-use Rattle.bound_log.specs.LogWords.{words_of}
+use Rattle.lent_parts.specs.Pieces.{words_of}
 use Rattle.bound_log.proofs.CutLemmas.{pair_kind}
 use Rattle.bound_log.proofs.ItemLemmas.{Took}
 use Rattle.bound_log.proofs.cut_words.take_pairs.Given as goal

@@ -1,5 +1,5 @@
 use Rattle.bound_log.specs.Reading.{words_in}
-use Rattle.bound_log.specs.LogWords.{words_of}
+use Rattle.lent_parts.specs.Pieces.{words_of}
 use Rattle.bound_log.proofs.CutLemmas.{pair_kind}
 use Rattle.bound_log.proofs.ItemLemmas.{items_spelled, left_words, no_head}
 use Rattle.bound_log.proofs.next_cut.next_cut.Goals as goal

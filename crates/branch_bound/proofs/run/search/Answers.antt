@@ -3,7 +3,7 @@ use Rattle.std.proofs.lemmas.Result.{err_from_is_err_and}
 use Rattle.geo_model.specs.Nodes.{all_plans}
 use Rattle.bound_log.specs.LogTree.{root_of}
 use Rattle.branch_bound.proofs.ExploreLemmas.{IsNode-root, IsNode-same}
-use Rattle.branch_bound.proofs.SearchLemmas.{BreaksLog-nothing, BreaksLog-head, BreaksLog-tree, IsStart-same, IsKept-start, Searches-done}
+use Rattle.branch_bound.proofs.SearchLemmas.{BreaksLog-nothing, BreaksLog-head, BreaksLog-tree, IsStart-same, IsTrueBest-start, Searches-done}
 use Rattle.branch_bound.proofs.InheritedLemmas.{IsInherited-nothing}
 use Rattle.branch_bound.proofs.run.search.Goals as goal
 
@@ -74,5 +74,5 @@ explore-requires-clause-inherited g c = IsInherited-nothing c.args.network.now c
 
 pub explore-requires-clause-kept : goal.explore-requires-clause-kept
 explore-requires-clause-kept g c =
-    IsKept-start c.args.network.now c.new-findings.result.best
+    IsTrueBest-start c.args.network.now c.new-findings.result.best
     (IsStart-same c.args.network.now c.in_ok-first.first c.new-findings.result.best c.new-findings.ensures.best c.in_ok-first.ensures.first)

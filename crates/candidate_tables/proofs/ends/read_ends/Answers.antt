@@ -3,7 +3,7 @@ use Rattle.std.proofs.lemmas.Result.{err_from_is_err_and}
 use Rattle.table_rows.specs.Faults.{first_broken}
 use Rattle.table_columns.specs.Columns.{text_at}
 use Rattle.table_columns.proofs.RecordFacts.{at-field}
-use Rattle.candidate_tables.specs.CandidateTable.{foresight_rules, kind_at, kind_rules, point_rules}
+use Rattle.candidate_tables.specs.CandidateTable.{foresight_rules, kind_at, kind_rules, known_point_rules}
 use Rattle.candidate_tables.specs.Read.{IsForesight, IsKindOf, IsPlaceOf}
 use Rattle.candidate_tables.proofs.RuleFacts.{broken-from, broken-kind, broken-to, broken-to2, ends-read, keeps-kind, keeps-point, kind-at}
 use Rattle.candidate_tables.proofs.ends.read_ends.Goals as goal
@@ -21,7 +21,7 @@ returns-in_err-from c =
     rw (p.1, p.2)
     (broken-from c.args.points.now c.args.row.now c.in_err-from.field-0.0
     (keeps-kind c.args.row.now c.field.result.now c.field.ensures c.in_ok-kind.ensures.0)
-    (at-field (λ t. first_broken (point_rules c.args.points.now t) ≡ Some c.in_err-from.field-0.0) c.args.row.now 2 c.field-2.result.now c.field-2.ensures c.in_err-from.ensures))
+    (at-field (λ t. first_broken (known_point_rules c.args.points.now t) ≡ Some c.in_err-from.field-0.0) c.args.row.now 2 c.field-2.result.now c.field-2.ensures c.in_err-from.ensures))
 
 pub returns-in_err-to : goal.returns-in_err-to
 returns-in_err-to c =
@@ -30,7 +30,7 @@ returns-in_err-to c =
     (broken-to c.args.points.now c.args.row.now c.in_err-to.field-0.0
     (keeps-kind c.args.row.now c.field.result.now c.field.ensures c.in_ok-kind.ensures.0)
     (keeps-point c.args.points.now c.args.row.now 2 c.field-2.result.now c.field-2.ensures c.in_ok-from.ensures.0)
-    (at-field (λ t. first_broken (point_rules c.args.points.now t) ≡ Some c.in_err-to.field-0.0) c.args.row.now 3 c.field-3.result.now c.field-3.ensures c.in_err-to.ensures))
+    (at-field (λ t. first_broken (known_point_rules c.args.points.now t) ≡ Some c.in_err-to.field-0.0) c.args.row.now 3 c.field-3.result.now c.field-3.ensures c.in_err-to.ensures))
 
 pub returns-in_err-to2 : goal.returns-in_err-to2
 returns-in_err-to2 c =

@@ -2,7 +2,7 @@ use Rattle.std.proofs.Common.{◌≡◌, Some, None}
 use Rattle.std.proofs.lemmas.Result.{err_from_is_err_and}
 use Rattle.table_rows.specs.Faults.{first_broken}
 use Rattle.table_columns.proofs.RecordFacts.{at-field}
-use Rattle.candidate_tables.specs.CandidateTable.{deviation_of, deviation_rules, height_deviation_of, height_rules, price_of, price_rules}
+use Rattle.candidate_tables.specs.CandidateTable.{deviation_of, deviation_rules, height_deviation_of, height_rules, written_price, price_rules}
 use Rattle.candidate_tables.proofs.RuleFacts.{broken-price, broken-sd, broken-sdh, keeps-deviation, keeps-height}
 use Rattle.candidate_tables.proofs.figures.read_figures.Goals as goal
 
@@ -39,6 +39,6 @@ returns c = (
   record {
     sd = at-field (λ t. c.in_ok-sd.sd ≡ deviation_of t) c.args.row.now 5 c.field.result.now c.field.ensures c.in_ok-sd.ensures.1;
     sdh = at-field (λ t. c.in_ok-sdh.sdh ≡ height_deviation_of c.args.kind t) c.args.row.now 6 c.field-2.result.now c.field-2.ensures c.in_ok-sdh.ensures.1;
-    price = at-field (λ t. c.in_ok-price.price ≡ price_of t) c.args.row.now 7 c.field-3.result.now c.field-3.ensures c.in_ok-price.ensures.1;
+    price = at-field (λ t. c.in_ok-price.price ≡ written_price t) c.args.row.now 7 c.field-3.result.now c.field-3.ensures c.in_ok-price.ensures.1;
   },
 )

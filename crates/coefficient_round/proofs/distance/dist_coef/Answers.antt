@@ -2,7 +2,7 @@ use Rattle.std.proofs.Common.{◌≡◌, ℕ, ◌+◌, ◌*◌, ◌<◌, ◌≤�
 use Rattle.std.specs.Prelude.{ℤ, pos, neg_ℤ, ◌-ℤ◌, ◌<ℤ◌, ◌≤ℤ◌, unsigned_abs, FitsSigned}
 use Rattle.std.specs.Int.{w64, cast_signed, cast_unsigned}
 use Rattle.std.proofs.lemmas.Int.{ints, to_z-of_z, to_z_pos}
-use Rattle.coefficient_round.specs.Coefficient.{scale, square, square_length, Reaches, IsDistanceCoefficient, greatest_reached, with_sign_of, distance_coefficient}
+use Rattle.coefficient_round.specs.Coefficient.{coefficient_scale, square, square_length, ReachesCoefficient, IsDistanceCoefficient, greatest_reached, with_sign_of, distance_coefficient}
 use Rattle.coefficient_round.proofs.Bounds.{part-within}
 use Rattle.coefficient_round.proofs.Ratio.{with_sign_of-negative, with_sign_of-not_negative, signed_coefficient}
 use Rattle.coefficient_round.proofs.distance.dist_coef.Goals as goal
@@ -15,11 +15,11 @@ coefficient_size-size-requires-clause-within c =
 
 -- the size and its inequalities, of the part and the line themselves
 record Sized (part : ℤ) (dx dy : ℤ) (n : ℕ) : Type 0 where
-  value : n ≡ greatest_reached (unsigned_abs part) (square_length dx dy) scale
+  value : n ≡ greatest_reached (unsigned_abs part) (square_length dx dy) coefficient_scale
   some : 0 < square_length dx dy
-  reached : 0 < n → Reaches (unsigned_abs part) (square_length dx dy) n
-  next_above : 4 * square scale * square (unsigned_abs part) < square (2 * n + 1) * square_length dx dy
-  small : n ≤ scale
+  reached : 0 < n → ReachesCoefficient (unsigned_abs part) (square_length dx dy) n
+  next_above : 4 * square coefficient_scale * square (unsigned_abs part) < square (2 * n + 1) * square_length dx dy
+  small : n ≤ coefficient_scale
 
 negative_value : (part dx dy : ℤ) (n : ℕ) → Sized part dx dy n → part <ℤ pos 0 → cast_signed w64 (cast_unsigned w64 (pos 0 -ℤ cast_signed w64 n)) ≡ with_sign_of part n
 negative_value part dx dy n sized below =
@@ -44,12 +44,12 @@ coefficient part dx dy n sized = ap (with_sign_of part) sized.value
 rounded : (part dx dy : ℤ) (n : ℕ) → Sized part dx dy n → IsDistanceCoefficient part (square_length dx dy) (with_sign_of part n)
 rounded part dx dy n sized = signed_coefficient part (square_length dx dy) n sized.some sized.reached sized.next_above
 
-sized_from : (part dx dy : ℤ) (p l n : ℕ) → p ≡ unsigned_abs part → l ≡ square_length dx dy → 10 ^ 6 ≤ square_length dx dy → n ≡ greatest_reached p l scale → (0 < n → Reaches p l n) → 4 * square scale * square p < square (2 * n + 1) * l → n ≤ scale → Sized part dx dy n
+sized_from : (part dx dy : ℤ) (p l n : ℕ) → p ≡ unsigned_abs part → l ≡ square_length dx dy → 10 ^ 6 ≤ square_length dx dy → n ≡ greatest_reached p l coefficient_scale → (0 < n → ReachesCoefficient p l n) → 4 * square coefficient_scale * square p < square (2 * n + 1) * l → n ≤ coefficient_scale → Sized part dx dy n
 sized_from part dx dy p l n part_is length_is long value reached next small = record {
-  value = value ∙ ap₂ (λ a d. greatest_reached a d scale) part_is length_is;
+  value = value ∙ ap₂ (λ a d. greatest_reached a d coefficient_scale) part_is length_is;
   some = omega arith;
-  reached = subst (λ a. 0 < n → Reaches a (square_length dx dy) n) part_is (subst (λ d. 0 < n → Reaches p d n) length_is reached);
-  next_above = subst (λ a. 4 * square scale * square a < square (2 * n + 1) * square_length dx dy) part_is (subst (λ d. 4 * square scale * square p < square (2 * n + 1) * d) length_is next);
+  reached = subst (λ a. 0 < n → ReachesCoefficient a (square_length dx dy) n) part_is (subst (λ d. 0 < n → ReachesCoefficient p d n) length_is reached);
+  next_above = subst (λ a. 4 * square coefficient_scale * square a < square (2 * n + 1) * square_length dx dy) part_is (subst (λ d. 4 * square coefficient_scale * square p < square (2 * n + 1) * d) length_is next);
   small = small;
 }
 

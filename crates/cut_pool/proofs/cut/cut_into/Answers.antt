@@ -10,7 +10,7 @@ use Rattle.geo_model.specs.Candidate.{CandidateOf, candidate_energy}
 use Rattle.geo_model.specs.Limit.{LimitOf}
 use Rattle.geo_model.specs.Cover.{CoverOf}
 use Rattle.geo_model.proofs.SumSteps.{same_limit}
-use Rattle.cut_pool.specs.Cut.{shift_of, load_number, rounded_up, bound_of, coefficient_of}
+use Rattle.cut_pool.specs.Cut.{cut_shift, load_number, rounded_up, bound_of, coefficient_of}
 use Rattle.cut_pool.proofs.cut.cut_into.Goals as goal
 
 same_numbers : (xs ys : List ℕ) → length xs ≡ length ys → ((k : ℕ) → k < length xs → get_or xs k 0 ≡ get_or ys k 0) → xs ≡ ys
@@ -33,7 +33,7 @@ written candidates coefficients i bound shift alpha x long all so_far =
     (λ k lt. so_far k (omega arith) none ∙ sym (get_or-map f candidates k none 0 (omega arith)))
 
 -- the code's numbers are the cut's
-told : (candidates : List CandidateOf) (bound shift : ℕ) (alpha : ℤ) (limit : LimitOf) (x : Displaced) → bound ≡ bound_of limit x → shift ≡ shift_of (load_number limit x) → alpha ≡ limit.alpha
+told : (candidates : List CandidateOf) (bound shift : ℕ) (alpha : ℤ) (limit : LimitOf) (x : Displaced) → bound ≡ bound_of limit x → shift ≡ cut_shift (load_number limit x) → alpha ≡ limit.alpha
     → map (number_of bound shift alpha x) candidates ≡ map (coefficient_of limit x) candidates
 told candidates bound shift alpha limit x bound_is shift_is alpha_is = rw bound_is (rw shift_is (rw alpha_is refl))
 
@@ -44,13 +44,13 @@ pub returns-clause-value : goal.returns-clause-value
 returns-clause-value c l found =
     let x = at c.args.x.now in
     let number = c.unsigned_abs-number.result in
-    let shift = c.shift_of-shift.result in
+    let shift = c.cut_shift-shift.result in
     let f : FitsSigned w128 c.load.result = search rules in
     let same = same_limit c.args.network.now c.limits-limits.result.now c.args.limit c.index-limits-limit.result l c.limits-limits.ensures.value c.index-limits-limit.is found in
     let alpha_is : c.form.inside.alpha ≡ l.alpha = ap (λ (v : LimitOf). v.alpha) c.form.view_is ∙ ap (λ (v : LimitOf). v.alpha) same in
     let plain = simp to_z-of_z at c.unsigned_abs-number.ensures.value in
     let number_is : number ≡ load_number l x = plain ∙ ap unsigned_abs (c.load.ensures.value l found) in
-    let shift_is : shift ≡ shift_of (load_number l x) = c.shift_of-shift.ensures.value ∙ ap shift_of number_is in
+    let shift_is : shift ≡ cut_shift (load_number l x) = c.cut_shift-shift.ensures.value ∙ ap cut_shift number_is in
     let bound_is : number / 2 ^ shift ≡ bound_of l x = ap₂ (λ (n s : ℕ). n / 2 ^ s) number_is shift_is in
     let listed = written c.candidates-candidates.result.now c.loop-i.coefficients c.loop-i.i (number / 2 ^ shift) shift c.form.inside.alpha x (omega (arith, ap length c.candidates-candidates.ensures.value)) (omega arith) c.loop-i.invariant in
     ap₂ (λ (cs : List ℕ) (b : ℕ). let v : CoverOf = record { coefficients = cs; bound = b } in v)
@@ -61,9 +61,9 @@ returns-clause-value c l found =
 pub returns-clause-each_small : goal.returns-clause-each_small
 returns-clause-each_small c =
     let x = at c.args.x.now in
-    let bound = c.unsigned_abs-number.result / 2 ^ c.shift_of-shift.result in
-    let listed = written c.candidates-candidates.result.now c.loop-i.coefficients c.loop-i.i bound c.shift_of-shift.result c.form.inside.alpha x (omega (arith, ap length c.candidates-candidates.ensures.value)) (omega arith) c.loop-i.invariant in
-    let all : All (λ n. n < 2 ^ 24) (map (number_of bound c.shift_of-shift.result c.form.inside.alpha x) c.candidates-candidates.result.now) =
-    All-map (λ n. n < 2 ^ 24) (number_of bound c.shift_of-shift.result c.form.inside.alpha x) c.candidates-candidates.result.now
-    (λ k d lt. few bound (rounded_up (unsigned_abs (c.form.inside.alpha *ℤ candidate_energy (get_or c.candidates-candidates.result.now k d) x)) (2 ^ c.shift_of-shift.result)) c.shift_of-shift.ensures.reached) in
+    let bound = c.unsigned_abs-number.result / 2 ^ c.cut_shift-shift.result in
+    let listed = written c.candidates-candidates.result.now c.loop-i.coefficients c.loop-i.i bound c.cut_shift-shift.result c.form.inside.alpha x (omega (arith, ap length c.candidates-candidates.ensures.value)) (omega arith) c.loop-i.invariant in
+    let all : All (λ n. n < 2 ^ 24) (map (number_of bound c.cut_shift-shift.result c.form.inside.alpha x) c.candidates-candidates.result.now) =
+    All-map (λ n. n < 2 ^ 24) (number_of bound c.cut_shift-shift.result c.form.inside.alpha x) c.candidates-candidates.result.now
+    (λ k d lt. few bound (rounded_up (unsigned_abs (c.form.inside.alpha *ℤ candidate_energy (get_or c.candidates-candidates.result.now k d) x)) (2 ^ c.cut_shift-shift.result)) c.cut_shift-shift.ensures.reached) in
     rw listed all

@@ -2,7 +2,7 @@ use Rattle.std.proofs.Common.{◌≡◌, ◌+◌, ◌≤◌, ◌++◌, length, t
 use Rattle.std.proofs.lemmas.List.{append-nil, take_all}
 use Rattle.std.proofs.lemmas.Option.{get_or_from_slice_get}
 use Rattle.net_build.specs.Build.{limits_of_point}
-use Rattle.plan_report.specs.ReportText.{point_text}
+use Rattle.plan_report.specs.ReportText.{point_lines}
 use Rattle.plan_report.specs.RowsText.{numbered}
 use Rattle.plan_report.specs.Reported.{StandFrom}
 use Rattle.plan_report.proofs.LimitPlaces.{point_stands, point_count}
@@ -29,7 +29,7 @@ points-preserved c =
     let test = c.points-test.true in
     record {
       room = c.put_point.ensures.room;
-      text = numbered-grows (point_text reported.network.now reported.plan.now) 0 c.points.place c.points.place reported.points.now c.get.result.now
+      text = numbered-grows (point_lines reported.network.now reported.plan.now) 0 c.points.place c.points.place reported.points.now c.get.result.now
           c.args.text.now.items c.points.text.items c.put_point.new.text.items
           (omega arith) (sym (get_or_from_slice_get reported.points.now c.points.place c.get.result.now c.get.result.now c.get.ensures.value)) (omega arith) c.points.invariant.text c.in_ok-number.ensures.text;
       number = rw add-one (c.in_ok-number.ensures.next ∙ ap (λ n. n + length (limits_of_point reported.network.now.unknowns (c.points.place, c.get.result.now))) c.points.invariant.number ∙ sym count);
@@ -41,6 +41,6 @@ returns c =
     let places = c.len-place-end.ensures.value in
     let past : length reported.points.now ≤ c.points.place = omega arith in
     record {
-      text = c.points.invariant.text ∙ ap (λ ps. c.args.text.now.items ++ numbered (point_text reported.network.now reported.plan.now) 0 ps) (take_all c.points.place reported.points.now past);
+      text = c.points.invariant.text ∙ ap (λ ps. c.args.text.now.items ++ numbered (point_lines reported.network.now reported.plan.now) 0 ps) (take_all c.points.place reported.points.now past);
       room = c.points.invariant.room;
     }

@@ -1,6 +1,6 @@
 use Rattle.std.proofs.Common.{rules, ◌≡◌, arith}
 use Rattle.std.proofs.lemmas.Option.{slice_get_within}
-use Rattle.candidate_tables.specs.CandidateTable.{names_of}
+use Rattle.candidate_tables.specs.CandidateTable.{candidate_names}
 use Rattle.plan_report.proofs.RedundancyLines.{chosen_is, left_is}
 use Rattle.plan_report.proofs.redundancies.put_candidate.Goals as goal
 
@@ -14,7 +14,7 @@ pub returns-then-not-has : goal.returns-then-not-has
 returns-then-not-has c =
     let reported = c.args.reported.now in
     record {
-      text = left_is reported.network.now reported.plan.now reported.q c.args.owner (names_of reported.candidates.now) c.args.candidate.now c.has.result c.args.text.now.items c.has.ensures (search (rules, c.if-not-has.true));
+      text = left_is reported.network.now reported.plan.now reported.q c.args.owner (candidate_names reported.candidates.now) c.args.candidate.now c.has.result c.args.text.now.items c.has.ensures (search (rules, c.if-not-has.true));
       room = c.requires.room;
     }
 
@@ -22,6 +22,6 @@ pub returns : goal.returns
 returns c =
     let reported = c.args.reported.now in
     record {
-      text = chosen_is reported.network.now reported.plan.now reported.q c.args.owner (names_of reported.candidates.now) c.args.candidate.now c.has.result c.args.text.now.items c.put_rows.new.text.items c.has.ensures (search (rules, c.if-not-has.false)) c.in_ok-put_rows.ensures.text;
+      text = chosen_is reported.network.now reported.plan.now reported.q c.args.owner (candidate_names reported.candidates.now) c.args.candidate.now c.has.result c.args.text.now.items c.put_rows.new.text.items c.has.ensures (search (rules, c.if-not-has.false)) c.in_ok-put_rows.ensures.text;
       room = c.put_rows.ensures.room;
     }

@@ -1,6 +1,6 @@
 use Rattle.std.proofs.Common.{◌≡◌, ◌<◌, ◌≤◌, ◌++◌, length, sym, ◌∙◌, ap, subst, arith}
 use Rattle.std.proofs.lemmas.List.{append-nil, take_all}
-use Rattle.candidate_tables.specs.CandidateTable.{names_of}
+use Rattle.candidate_tables.specs.CandidateTable.{candidate_names}
 use Rattle.pivot_chain.proofs.Values.{found_at}
 use Rattle.plan_report.specs.ReportText.{chosen_text}
 use Rattle.plan_report.specs.RowsText.{numbered}
@@ -24,7 +24,7 @@ offers-preserved c =
     let reported = c.args.reported.now in
     record {
       room = c.put_candidate.ensures.room;
-      text = numbered-grows (chosen_text reported.network.now reported.plan.now reported.q (names_of reported.candidates.now)) 0 c.offers.owner c.offers.owner c.candidates-offered.result.now c.index-offered-owner.result
+      text = numbered-grows (chosen_text reported.network.now reported.plan.now reported.q (candidate_names reported.candidates.now)) 0 c.offers.owner c.offers.owner c.candidates-offered.result.now c.index-offered-owner.result
           c.args.text.now.items c.offers.text.items c.put_candidate.new.text.items
           c.offers-test.true c.index-offered-owner.is (omega arith) c.offers.invariant.text c.in_ok-put_candidate.ensures.text;
     }
@@ -34,7 +34,7 @@ returns c =
     let reported = c.args.reported.now in
     record {
       text = c.offers.invariant.text
-          ∙ ap (λ cs. c.args.text.now.items ++ numbered (chosen_text reported.network.now reported.plan.now reported.q (names_of reported.candidates.now)) 0 cs)
+          ∙ ap (λ cs. c.args.text.now.items ++ numbered (chosen_text reported.network.now reported.plan.now reported.q (candidate_names reported.candidates.now)) 0 cs)
           (take_all c.offers.owner c.candidates-offered.result.now c.offers-test.false ∙ c.candidates-offered.ensures.value);
       room = c.offers.invariant.room;
     }

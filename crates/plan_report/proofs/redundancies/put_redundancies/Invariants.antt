@@ -1,5 +1,5 @@
 use Rattle.std.proofs.Common.{◌≡◌, ◌++◌, take}
-use Rattle.candidate_tables.specs.CandidateTable.{names_of}
+use Rattle.candidate_tables.specs.CandidateTable.{candidate_names}
 use Rattle.pivot_chain.specs.Room.{IsRoomOf}
 use Rattle.plan_report.specs.ReportText.{chosen_text}
 use Rattle.plan_report.specs.RowsText.{numbered}
@@ -8,5 +8,5 @@ use Rattle.plan_report.proofs.redundancies.put_redundancies.Given as goal
 abbrev pub invariant-offers : goal.invariant-offers
 invariant-offers l = record {
   room : IsRoomOf l.reported.network.now l.room;
-  text : l.text.items ≡ l.fn.text.items ++ numbered (chosen_text l.reported.network.now l.reported.plan.now l.reported.q (names_of l.reported.candidates.now)) 0 (take l.owner l.offered);
+  text : l.text.items ≡ l.fn.text.items ++ numbered (chosen_text l.reported.network.now l.reported.plan.now l.reported.q (candidate_names l.reported.candidates.now)) 0 (take l.owner l.offered);
 }

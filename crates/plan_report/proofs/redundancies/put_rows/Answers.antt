@@ -3,7 +3,7 @@ use Rattle.std.proofs.Common.{rules, ◌≡◌, ◌<◌, ◌≤◌, ◌++◌, []
 use Rattle.std.proofs.lemmas.List.{append-nil, take_all}
 use Rattle.std.proofs.lemmas.Option.{slice_get_within}
 use Rattle.geo_model.specs.Candidate.{CandidateOf}
-use Rattle.candidate_tables.specs.CandidateTable.{names_of}
+use Rattle.candidate_tables.specs.CandidateTable.{candidate_names}
 use Rattle.candidate_tables.specs.declared.record.CandidateRecord.{CandidateRecord}
 use Rattle.pivot_chain.proofs.Values.{same_found}
 use Rattle.plan_report.specs.ReportText.{row_redundancy_text}
@@ -53,7 +53,7 @@ rows-preserved c =
     let name = map-at (λ (v : CandidateRecord). v.name) reported.candidates.now c.args.owner c.get.result.now [] c.get.ensures in
     record {
       room = c.put_row.ensures.room;
-      text = rows_more reported.network.now reported.plan.now reported.q c.args.owner c.rows.place (get_or (names_of reported.candidates.now) c.args.owner []) c.get.result.now.name
+      text = rows_more reported.network.now reported.plan.now reported.q c.args.owner c.rows.place (get_or (candidate_names reported.candidates.now) c.args.owner []) c.get.result.now.name
           reported.network.now.candidates c.args.candidate.now c.args.text.now.items c.rows.text.items c.put_row.new.text.items
           name (omega arith) c.rows.invariant.text (λ row there. c.in_ok-put_row.ensures.text c.args.candidate.now row c.requires.owner there);
     }
@@ -66,7 +66,7 @@ returns c =
     let past : length c.args.candidate.now.rows ≤ c.rows.place = omega arith in
     record {
       text = c.rows.invariant.text
-          ∙ ap (λ rs. c.args.text.now.items ++ numbered (row_redundancy_text reported.network.now reported.plan.now reported.q (get_or (names_of reported.candidates.now) c.args.owner []) c.args.owner) 0 rs)
+          ∙ ap (λ rs. c.args.text.now.items ++ numbered (row_redundancy_text reported.network.now reported.plan.now reported.q (get_or (candidate_names reported.candidates.now) c.args.owner []) c.args.owner) 0 rs)
           (take_all c.rows.place c.args.candidate.now.rows past);
       room = c.rows.invariant.room;
     }

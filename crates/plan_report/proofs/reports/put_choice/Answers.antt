@@ -1,7 +1,7 @@
 use Rattle.std.specs.Prelude.{codes}
 use Rattle.std.proofs.Common.{◌++◌, ◌∙◌, ap, sym}
 use Rattle.geo_model.specs.Prices.{price_of}
-use Rattle.candidate_tables.specs.CandidateTable.{names_of}
+use Rattle.candidate_tables.specs.CandidateTable.{candidate_names}
 use Rattle.plan_report.specs.ReportText.{price_text, takes_text}
 use Rattle.plan_report.proofs.LimitPlaces.{as_many}
 use Rattle.plan_report.proofs.Numbered.{before}
@@ -15,5 +15,5 @@ put_takes-requires c =
 pub returns : goal.returns
 returns c =
     let reported = c.args.reported.now in
-    before c.args.text.now.items c.put_price.new.text.items c.put_takes.new.text.items (price_text (codes "cost ") (price_of reported.network.now reported.plan.now)) (takes_text (names_of reported.candidates.now) reported.plan.now)
+    before c.args.text.now.items c.put_price.new.text.items c.put_takes.new.text.items (price_text (codes "cost ") (price_of reported.network.now reported.plan.now)) (takes_text (candidate_names reported.candidates.now) reported.plan.now)
     (c.in_ok-put_price.ensures ∙ ap (λ p. c.args.text.now.items ++ price_text (codes "cost ") p) c.cost-price.ensures) c.in_ok-put_takes.ensures

@@ -1,5 +1,5 @@
 use Rattle.std.proofs.Common.{◌++◌, ap, ◌∙◌, sym, [], arith}
-use Rattle.candidate_tables.specs.CandidateTable.{names_of}
+use Rattle.candidate_tables.specs.CandidateTable.{candidate_names}
 use Rattle.plan_report.specs.RowsText.{candidate_text, numbered, row_text}
 use Rattle.plan_report.proofs.Numbered.{map-at, numbered-grows}
 use Rattle.plan_report.proofs.rows.put_candidates.Goals as goal
@@ -7,7 +7,7 @@ use Rattle.plan_report.proofs.rows.put_candidates.Goals as goal
 pub loop-number-preserved : goal.loop-number-preserved
 loop-number-preserved c =
     let name = map-at (λ candidate. candidate.name) c.args.names.now c.loop-number.number c.get.result.now [] c.get.ensures in
-    numbered-grows (candidate_text (names_of c.args.names.now)) 0 c.loop-number.number c.loop-number.number c.args.candidates.now c.index-candidates-number.result
+    numbered-grows (candidate_text (candidate_names c.args.names.now)) 0 c.loop-number.number c.loop-number.number c.args.candidates.now c.index-candidates-number.result
     c.args.text.now.items c.loop-number.text.items c.put_rows.new.text.items
     c.loop-number-test.true c.index-candidates-number.is (omega arith) c.loop-number.invariant
     (c.in_ok-put_rows.ensures

@@ -5,6 +5,6 @@ use Rattle.plan_report.proofs.rows.rows_text.Goals as goal
 
 pub returns : goal.returns
 returns c =
-    rows_text-is (point.names_of c.args.points.now) (candidate.names_of c.args.candidates.now) c.args.network.now c.new-text.result.items
+    rows_text-is (point.point_names c.args.points.now) (candidate.candidate_names c.args.candidates.now) c.args.network.now c.new-text.result.items
     c.put_unknowns.new.text.items c.put_candidates.new.text.items c.unknowns.result.now c.candidates.result.now
     c.new-text.ensures.items c.unknowns.ensures.value c.candidates.ensures.value c.in_ok-put_unknowns.ensures c.in_ok-put_candidates.ensures

@@ -2,7 +2,7 @@ use Rattle.std.proofs.Common.{◌-◌, List, ℕ, subst}
 use Rattle.std.specs.Prelude.{ℤ}
 use Rattle.std.specs.Iterator.{YieldsFirst}
 use Rattle.bound_log.specs.CutReading.{pairs_in}
-use Rattle.bound_log.specs.LogWords.{words_of}
+use Rattle.lent_parts.specs.Pieces.{words_of}
 use Rattle.bound_log.proofs.CutLemmas.{pair_kind}
 use Rattle.bound_log.proofs.ItemLemmas.{next_reads}
 use Rattle.bound_log.proofs.cut_text.PairsIterator.next.Goals as goal

@@ -2,7 +2,7 @@ use Rattle.std.proofs.Common.{◌≡◌, ◌-◌, ◌<◌, List, ◌∷◌, leng
 use Rattle.bound_log.specs.CutText.{CutTextOf}
 use Rattle.std.specs.Iterator.{MakesProgress, YieldsFirst, item_count}
 use Rattle.bound_log.specs.DualReading.{shares_in}
-use Rattle.bound_log.specs.LogWords.{words_of}
+use Rattle.lent_parts.specs.Pieces.{words_of}
 use Rattle.bound_log.proofs.DualLemmas.{share_kind}
 use Rattle.bound_log.proofs.ItemLemmas.{next_reads}
 use Rattle.bound_log.proofs.dual_text.ShareTextsIterator.next.Goals as goal

@@ -1,7 +1,7 @@
 use Rattle.std.proofs.Common.{List, ℕ, ap, sym, ◌∙◌, subst}
 use Rattle.lent_parts.proofs.PieceLemmas.{tokens_of-texts}
 use Rattle.bound_log.specs.DualReading.{CanReadShares, shares_in}
-use Rattle.bound_log.specs.LogWords.{words_of}
+use Rattle.lent_parts.specs.Pieces.{words_of}
 use Rattle.bound_log.proofs.dual_text.Shares.shares.Goals as goal
 
 pub invariant_of-result : goal.invariant_of-result

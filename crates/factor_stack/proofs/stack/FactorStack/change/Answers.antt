@@ -7,9 +7,9 @@ use Rattle.geo_model.specs.Limit.{LimitOf}
 use Rattle.limit_forms.specs.Grid.{grid_of}
 use Rattle.pivot_chain.proofs.Judged.{load_of, limit_at, same_limit}
 use Rattle.factor_stack.specs.declared.held.Held.{Held}
-use Rattle.factor_stack.specs.Stored.{IsHeld, images_before}
+use Rattle.factor_stack.specs.Stored.{AreHeldFactors, images_before}
 use Rattle.factor_stack.specs.Running.{IsRoom}
-use Rattle.factor_stack.specs.Stack.{StackOf, IsImage, IsKept}
+use Rattle.factor_stack.specs.Stack.{StackOf, IsImage, IsKeptStack}
 use Rattle.factor_stack.proofs.Stacks.{depth_of}
 use Rattle.factor_stack.proofs.Untouched.{agree_before}
 use Rattle.factor_stack.proofs.CarriedGrids.{IsChanging, lower_known, upper_known}
@@ -91,7 +91,7 @@ recompute-requires-clause-known g c =
       bounds = c.limits.ensures.bounds;
       load = is_limit.bounded;
       image = held_told network form held c.args.self.now.now (ap (λ (v : StackOf). v.now) c.self.view_is) (c.requires.made.now form found);
-      rows = subst (λ n. IsHeld n held.factors) tall c.self.invariant.held_rows;
+      rows = subst (λ n. AreHeldFactors n held.factors) tall c.self.invariant.held_rows;
       within = c.first_place-first.ensures.within;
       agree = agree_before network form one.0 held.plan c.args.i first (not c.args.chosen) c.args.chosen (ap (λ (v : StackOf). slice_get v.now.plan c.args.i) c.self.view_is ∙ c.requires.differs) inside one.1
           (c.first_place-first.ensures.value form one.0 found one.1);
@@ -109,7 +109,7 @@ recompute-requires-clause-room g c =
 
 pub invariant_of-self : goal.invariant_of-self
 invariant_of-self g c =
-    subst (λ saves. IsKept (length c.self.inside.grid.order) c.self.inside.held c.self.inside.room saves) (sym c.in_err-push.ensures.items) c.self.invariant
+    subst (λ saves. IsKeptStack (length c.self.inside.grid.order) c.self.inside.held c.self.inside.room saves) (sym c.in_err-push.ensures.items) c.self.invariant
 
 pub invariant_of-self-2 : goal.invariant_of-self-2
 invariant_of-self-2 g c =
@@ -131,7 +131,7 @@ invariant_of-self-2 g c =
       factors = c.in_ok-saved.ensures.factors;
     } in
     kept_more n c.args.i held c.args.chosen c.set.new.self c.recompute.new.factors c.self.inside.room c.recompute.new.room c.self.inside.saves.items c.push.new.self.items c.in_ok-saved.saved
-    c.self.invariant c.set.ensures (subst (λ k. IsHeld k c.recompute.new.factors) (sym tall) c.recompute.ensures.held) (subst (λ k. IsRoom k c.recompute.new.room) (sym tall) c.recompute.ensures.room)
+    c.self.invariant c.set.ensures (subst (λ k. AreHeldFactors k c.recompute.new.factors) (sym tall) c.recompute.ensures.held) (subst (λ k. IsRoom k c.recompute.new.room) (sym tall) c.recompute.ensures.room)
     (saved_is n c.args.i first held c.in_ok-saved.saved saved c.self.invariant.held_rows (omega arith) (omega arith)) c.in_ok-push.ensures.items (omega arith)
 
 before_now : goal.returns-clause-before

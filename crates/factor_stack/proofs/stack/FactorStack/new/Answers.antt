@@ -6,7 +6,7 @@ use Rattle.geo_model.specs.Limit.{LimitOf}
 use Rattle.limit_forms.specs.Grid.{grid_of}
 use Rattle.limit_forms.proofs.GridReads.{length-grid_of}
 use Rattle.pivot_chain.proofs.Judged.{same_limit}
-use Rattle.factor_stack.specs.Stored.{images_before, IsHeld, IsSaved}
+use Rattle.factor_stack.specs.Stored.{images_before, AreHeldFactors, IsSaved}
 use Rattle.factor_stack.specs.Running.{IsRoom}
 use Rattle.factor_stack.specs.Stack.{IsImage}
 use Rattle.factor_stack.proofs.Verdicts.{computed}
@@ -19,7 +19,7 @@ invariant_of-result c =
     let none = c.new-6.ensures.items in
     let size = ap length none in
     record {
-      held_rows = subst (λ k. IsHeld k c.compute.new.factors) (sym tall) c.compute.ensures.held;
+      held_rows = subst (λ k. AreHeldFactors k c.compute.new.factors) (sym tall) c.compute.ensures.held;
       room_rows = subst (λ k. IsRoom k c.compute.new.room) (sym tall) c.compute.ensures.room;
       few = omega arith;
       each = All-same (IsSaved (length c.in_ok-grid.grid.order) (length c.in_ok-held.held.plan)) c.new-6.result.items [] none (All-nil (IsSaved (length c.in_ok-grid.grid.order) (length c.in_ok-held.held.plan)));

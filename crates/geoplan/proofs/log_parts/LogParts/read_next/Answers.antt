@@ -1,6 +1,6 @@
 use Rattle.std.proofs.Common.{refl, arith, ◌∙◌}
 use Rattle.geoplan.proofs.LoadLemmas.{keeps}
-use Rattle.geoplan.proofs.PartLemmas.{HasRead-part, long_part}
+use Rattle.geoplan.proofs.PartLemmas.{HasReadLog-part, long_part}
 use Rattle.geoplan.proofs.log_parts.LogParts.read_next.Goals as goal
 
 pub returns-then-self-most_bytes : goal.returns-then-self-most_bytes
@@ -20,7 +20,7 @@ returns-then-self-most_bytes g c = λ name text before read.
 
 pub returns : goal.returns
 returns g c = λ name text before read. (
-  HasRead-part name text c.args.self.now before (g.H.Shelf.state c.args.shelf.now) (g.H.Shelf.state c.read_part.new.self) read c.read_part.ensures.held
+  HasReadLog-part name text c.args.self.now before (g.H.Shelf.state c.args.shelf.now) (g.H.Shelf.state c.read_part.new.self) read c.read_part.ensures.held
       c.clear.new.self.items c.read_part.new.into.items c.in-Ok.count 65536 c.clear.ensures.items c.in-Ok.ensures.appends c.in-Ok.ensures.bytes (c.in-Ok.ensures.cause.done refl)
       _ refl refl (omega (arith, c.if-self-most_bytes.false, c.most_bytes.ensures)),
   omega (arith, c.if-count-eq0.false),

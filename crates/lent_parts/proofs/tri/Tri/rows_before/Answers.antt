@@ -1,6 +1,6 @@
 use Rattle.std.proofs.Common.{ℕ, ◌≤◌, ℤ, List, refl, ◌∙◌, ap, length, take, arith}
 use Rattle.std.proofs.lemmas.Grind.{common_steps}
-use Rattle.lent_parts.proofs.Triangles.{taken_out, IsKept-refilled, long_row, row_given, rows_kept}
+use Rattle.lent_parts.proofs.Triangles.{taken_out, IsKeptTriangle-refilled, long_row, row_given, rows_kept}
 use Rattle.lent_parts.proofs.tri.Tri.rows_before.Goals as goal
 
 at_most : (k : ℕ) (rows : List (List ℤ)) → length rows ≤ 64 → length (take k rows) ≤ 64
@@ -13,7 +13,7 @@ pub invariant_of-self-lent : goal.invariant_of-self-lent
 invariant_of-self-lent c =
     let out = taken_out c.self.inside.rows.items c.self.inside.at c.self.inside.held c.args.self.now c.exchange.new.rows.items c.args.k c.exchange.new.held
     c.self.invariant c.self.view_is c.requires c.exchange.ensures.held c.exchange.ensures.rows c.exchange.ensures.len in
-    IsKept-refilled out
+    IsKeptTriangle-refilled out
 
 pub returns : goal.returns
 returns c =

@@ -1,6 +1,6 @@
 use Rattle.std.proofs.Common.{length, sym, subst}
 use Rattle.geo_model.specs.declared.plan.Node.{Node}
-use Rattle.bound_log.specs.LogTree.{IsDualAt}
+use Rattle.bound_log.specs.LogTree.{IsDualLineAt}
 use Rattle.log_check.specs.Places.{HasEntries}
 use Rattle.log_check.proofs.PlaceLemmas.{head_tail, next_long}
 use Rattle.log_check.proofs.progress.Progress.close_at_dual.Goals as goal
@@ -16,5 +16,5 @@ pub dual_bound_at-least-requires-clause-dual : goal.dual_bound_at-least-requires
 dual_bound_at-least-requires-clause-dual c =
     let stack = c.args.self.now.stack in
     let top = head_tail stack.nodes c.requires.some in
-    subst (λ (n : Node). IsDualAt c.args.network.now n c.args.divisor c.args.shares.now) (sym (c.top.ensures top.first top.rest top.is))
+    subst (λ (n : Node). IsDualLineAt c.args.network.now n c.args.divisor c.args.shares.now) (sym (c.top.ensures top.first top.rest top.is))
     (c.requires.allowed top.first top.rest top.is)

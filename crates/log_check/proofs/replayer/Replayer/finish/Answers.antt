@@ -1,7 +1,7 @@
 use Rattle.std.proofs.Common.{◌≡◌, List, ℕ, [], false, length, ap, sym, ◌∙◌, subst}
 use Rattle.std.proofs.lemmas.Bool.{eq-eqb, eqb-true, false≢true}
 use Rattle.log_check.specs.declared.judged.Judged.{Judged}
-use Rattle.log_check.specs.Fed.{ReplayerOf, HasRead, Judges, Ends, Finishes, replay_at}
+use Rattle.log_check.specs.Fed.{ReplayerOf, HasRead, Judges, IsAnswerAtEnd, Finishes, replay_at}
 use Rattle.log_check.proofs.FedLemmas.{finish_whole, finish_rest, length-zero}
 use Rattle.log_check.proofs.replayer.Replayer.finish.Goals as goal
 use Rattle.log_check.proofs.replayer.Replayer.finish.Goals.{then-not-is_empty, else-not-is_empty}
@@ -22,10 +22,10 @@ returns c = λ text read few.
           subst (λ (r : ReplayerOf). Finishes r.network text c.end.result) c.self.view_is
           (finish_rest network before now kept text c.end.result c.self.invariant.bounds some was few
           (subst (λ (t : List ℕ). Judges network (record { text = t; ended = false }) before now) c.as_slice-text.ensures.value w.judge.ensures.judged)
-          (subst (λ (j : Judged). Ends j c.end.result) w.judged-is c.end.ensures))
+          (subst (λ (j : Judged). IsAnswerAtEnd j c.end.result) w.judged-is c.end.ensures))
       | else-not-is_empty w ↦
           let none : kept ≡ [] = sym c.as_slice-text.ensures.value ∙ length-zero rest (eqb-true (length rest) 0 (sym c.is_empty.ensures ∙ w.if-not-is_empty.false)) in
           subst (λ (r : ReplayerOf). Finishes r.network text c.end.result) c.self.view_is
           (finish_whole network before text c.end.result c.self.invariant.bounds (subst (λ (k : List ℕ). HasRead text (replay_at network before k)) none was) few
-          (subst (λ (j : Judged). Ends j c.end.result) w.judged-is c.end.ensures))
+          (subst (λ (j : Judged). IsAnswerAtEnd j c.end.result) w.judged-is c.end.ensures))
     ]

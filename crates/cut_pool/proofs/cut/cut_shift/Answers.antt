@@ -2,8 +2,8 @@ use Rattle.std.proofs.Common.{◌≡◌, ℕ, ◌+◌, ◌/◌, ◌^◌, ◌<◌
 use Rattle.std.proofs.Math.Pow.{shr_lt}
 use Rattle.std.proofs.lemmas.Bool.{cases_lt}
 use borrow.Author.Count.{below_more}
-use Rattle.cut_pool.proofs.Shifts.{shift-unique, shift_of-least}
-use Rattle.cut_pool.proofs.cut.shift_of.Goals as goal
+use Rattle.cut_pool.proofs.Shifts.{shift-unique, cut_shift-least}
+use Rattle.cut_pool.proofs.cut.cut_shift.Goals as goal
 
 not_last : (n shift : ℕ) → n < 2 ^ 120 → shift ≤ 96 → 2 ^ 24 ≤ n / 2 ^ shift → shift + 1 ≤ 96
 not_last n shift small size high =
@@ -23,4 +23,4 @@ loop-shift-preserved c = record {
 
 pub returns-clause-value : goal.returns-clause-value
 returns-clause-value c =
-    shift-unique c.args.n c.loop-shift.shift _ (record { reached = c.loop-shift-test.false; least = c.loop-shift.invariant.least }) (shift_of-least c.args.n c.requires)
+    shift-unique c.args.n c.loop-shift.shift _ (record { reached = c.loop-shift-test.false; least = c.loop-shift.invariant.least }) (cut_shift-least c.args.n c.requires)

@@ -1,5 +1,5 @@
 use Rattle.std.proofs.Common.{ℕ, ◌-◌, ◌/◌, ◌^◌, ◌<◌, ◌≤◌}
-use Rattle.cut_pool.proofs.cut.shift_of.Given as goal
+use Rattle.cut_pool.proofs.cut.cut_shift.Given as goal
 
 abbrev pub invariant-loop-shift : goal.invariant-loop-shift
 invariant-loop-shift l = record {

@@ -2,7 +2,7 @@ use Rattle.std.proofs.Common.{◌∙◌, sym}
 use Rattle.table_columns.proofs.Places.{any-at}
 use Rattle.design_rows.specs.Unknowns.{turns_with}
 use Rattle.design_rows.proofs.NumberingFacts.{any-more}
-use Rattle.design_rows.proofs.numbering.is_station.Goals as goal
+use Rattle.design_rows.proofs.numbering.is_oriented.Goals as goal
 
 pub returns-then-turns_with : goal.returns-then-turns_with
 returns-then-turns_with c =
