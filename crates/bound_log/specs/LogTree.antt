@@ -15,6 +15,7 @@ use Rattle.bound_log.specs.CutText.{CutTextOf, displaced_by}
 use Rattle.bound_log.specs.DualText.{weighed_text}
 use Rattle.bound_log.specs.declared.log_leaf.LogLeaf.{LogLeaf}
 use Rattle.bound_log.specs.declared.log_leaf.LogLeaf.TheVariants.{Cost, Pivot, Cut, Dual}
+use Rattle.bound_log.specs.declared.log_line.LogLine.{LogLine}
 use Rattle.bound_log.specs.declared.log_line.LogLine.TheVariants.{Split, Leaf}
 use Rattle.bound_log.specs.Rules.{IsAllowedLine, is_displacement}
 use Rattle.bound_log.specs.Spells.{Spells}
@@ -104,6 +105,11 @@ bound_for prices network node (fork candidate with_it without_it) =
 -- the bounds of a leaf and of a tree under the network's own prices
 abbrev pub leaf_bound : NetworkOf → Node → LogLeaf → Bound
 leaf_bound network node end = leaf_bound_for (prices_of network) network node end
+
+-- the bound of a line: that of a leaf; a split has none
+abbrev pub line_bound : NetworkOf → Node → LogLine → Bound
+line_bound network node (Split candidate) = NoPlan
+line_bound network node (Leaf end) = leaf_bound network node end
 
 abbrev pub bound_at : NetworkOf → Node → Tree → Bound
 bound_at network node tree = bound_for (prices_of network) network node tree

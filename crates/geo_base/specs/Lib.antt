@@ -1,3 +1,4 @@
+pub mod Counter
 pub mod Division
 pub mod Grid
 pub mod Root

@@ -6,7 +6,7 @@ use Rattle.bound_log.specs.declared.bound.Bound.{Bound}
 use Rattle.bound_log.specs.declared.bound.Bound.TheVariants.{NoPlan, AtLeast}
 use Rattle.bound_log.specs.declared.log_line.LogLine.{LogLine}
 use Rattle.bound_log.specs.declared.log_line.LogLine.TheVariants.{Split, Leaf}
-use Rattle.bound_log.specs.LogTree.{root_of, with_chosen, without_chosen, leaf_bound, bound_at}
+use Rattle.bound_log.specs.LogTree.{root_of, with_chosen, without_chosen, bound_at, line_bound}
 use Rattle.bound_log.specs.Placed.{placed}
 use Rattle.bound_log.specs.Tree.{Tree, fork, tip}
 use Rattle.idle_splits.specs.Idle.{IsIdle}
@@ -23,10 +23,9 @@ HasNoIdle network node earlier (fork candidate with_it without_it) =
 
 -- ---- the same over the lines of a log in preorder, each with its node
 
--- the bound of a line: a split has none of its own
+-- the bound of a line at its node
 abbrev pub placed_line_bound : NetworkOf → Node × LogLine → Bound
-placed_line_bound network (node, Split candidate) = NoPlan
-placed_line_bound network (node, Leaf end) = leaf_bound network node end
+placed_line_bound network (node, line) = line_bound network node line
 
 -- an earlier bound is that of one of the lines before, or none
 abbrev pub IsEarlier : NetworkOf → List (Node × LogLine) → Bound → Type 0

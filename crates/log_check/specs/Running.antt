@@ -11,18 +11,14 @@ use Rattle.bound_log.specs.Bound.{lesser}
 use Rattle.bound_log.specs.Counted.{counts_of}
 use Rattle.bound_log.specs.declared.log_line.LogLine.{LogLine}
 use Rattle.bound_log.specs.declared.log_line.LogLine.TheVariants.{Split, Leaf}
-use Rattle.bound_log.specs.LogTree.{root_of, with_chosen, without_chosen, leaf_bound}
+use Rattle.bound_log.specs.LogTree.{root_of, with_chosen, without_chosen}
+pub use Rattle.bound_log.specs.LogTree.{line_bound}
 use Rattle.bound_log.specs.Rules.{IsAllowedLine}
 
 -- the nodes that a line opens in place of its own
 abbrev pub opened : Node → LogLine → List Node
 opened node (Split candidate) = with_chosen node candidate ∷ without_chosen node candidate ∷ []
 opened node (Leaf end) = []
-
--- the bound of a line: that of a leaf; a split has none
-abbrev pub line_bound : NetworkOf → Node → LogLine → Bound
-line_bound network node (Split candidate) = NoPlan
-line_bound network node (Leaf end) = leaf_bound network node end
 
 -- from these open nodes the lines lead to those: each line is allowed at the first open node, and
 -- takes its place

@@ -1,6 +1,7 @@
 -- What a line does to what the replay keeps, and how it can stop it. This project's own; it serves
 -- the proof of the replay, and no public clause cites it.
-use Rattle.std.specs.Prelude.{◌≡◌, ℕ, ◌+◌, ◌-◌, ◌^◌, ◌<◌, min, Bool, true, List, [], ◌∷◌, ◌++◌}
+use Rattle.std.specs.Prelude.{◌≡◌, ℕ, ◌<◌, Bool, true, List, [], ◌∷◌, ◌++◌}
+pub use Rattle.geo_base.specs.Counter.{next_count}
 use Rattle.geo_model.specs.Network.{NetworkOf}
 use Rattle.geo_model.specs.declared.plan.Node.{Node}
 use Rattle.bound_log.specs.declared.bound.Bound.{Bound}
@@ -61,10 +62,6 @@ pub record TakesHead (text : List ℕ) (ended : Bool) (before now : Progress) : 
   pub bound : now.bound ≡ before.bound
   pub counts : now.counts ≡ before.counts
   pub numbered : now.lines ≡ 1
-
--- the number of the line after so many, in a counter that stands still at 2^64 - 1
-abbrev pub next_count : ℕ → ℕ
-next_count count = min (count + 1) (2 ^ 64 - 1)
 
 -- a line was taken: the first one, or one at the next node
 pub data TakesLine (network : NetworkOf) (text : List ℕ) (ended : Bool) (before now : Progress) : Type 0 where

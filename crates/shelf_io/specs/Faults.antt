@@ -1,5 +1,6 @@
 -- Why a call on a shelf or a sink answered as it did. This project's own.
-use Rattle.std.specs.Prelude.{◌≡◌, ℕ, ◌+◌, ◌-◌, ◌^◌, ◌≤◌, min, List, Some, Result, Err, IsOk}
+use Rattle.std.specs.Prelude.{◌≡◌, ℕ, ◌≤◌, List, Some, Result, Err, IsOk}
+pub use Rattle.geo_base.specs.Counter.{next_count}
 use Rattle.shelf_io.specs.declared.access.Access.TheVariants.{Read, Write}
 use Rattle.shelf_io.specs.declared.part_answer.PartAnswer.{PartAnswer}
 use Rattle.shelf_io.specs.declared.part_answer.PartAnswer.TheVariants as part_answer
@@ -16,10 +17,6 @@ read_of name = record { access = Read; name = name }
 -- a write of the name failed
 abbrev pub write_of : List ℕ → LastFault
 write_of name = record { access = Write; name = name }
-
--- the count after one more, in a counter that stands still at 2^64 - 1
-abbrev pub next_count : ℕ → ℕ
-next_count count = min (count + 1) (2 ^ 64 - 1)
 
 -- a count is greater now than before, or stands at 2^64 - 1, where a counter ends
 abbrev pub Rose : ℕ → ℕ → Type 0

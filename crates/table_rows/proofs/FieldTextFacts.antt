@@ -1,10 +1,10 @@
 -- What taking the spaces off a field leaves.
-use Rattle.std.proofs.Common.{◌≡◌, ◌≢◌, ◌<◌, ◌≤◌, ◌+◌, ◌-◌, ◌∙◌, ℕ, zero, suc, Bool, true, false, List, [], ◌∷◌, ◌++◌, drop, take, length, get_or, refl, sym, ap, arith, add-one, append_assoc, drop-cons, subst}
+use Rattle.std.proofs.Common.{◌≡◌, ◌≢◌, ◌==◌, ◌<◌, ◌≤◌, ◌+◌, ◌-◌, ◌∙◌, ℕ, zero, suc, Bool, true, false, List, [], ◌∷◌, ◌++◌, drop, take, length, get_or, refl, sym, ap, arith, add-one, append_assoc, drop-cons, subst}
 use Rattle.std.proofs.Math.Seq.{take-suc}
 use Rattle.std.proofs.lemmas.Bool.{eqb-false, eqb-true, ne_eqb}
 use Rattle.std.proofs.lemmas.List.{drop_all}
 use Rattle.std.specs.Prelude.{replicate}
-use Rattle.table_rows.specs.FieldText.{BeginsPlain, EndsPlain, IsTextOf, before_rest, field_text, is_space, without_back_spaces, without_front_spaces}
+use Rattle.table_rows.specs.FieldText.{BeginsPlain, EndsPlain, IsTextOf, before_rest, field_text, without_back_spaces, without_front_spaces}
 
 -- a space in front goes
 pub front-space : (xs : List ℕ) (i : ℕ) → i < length xs → get_or xs i 0 ≡ 32 → without_front_spaces (drop (i + 1) xs) ≡ without_front_spaces (drop i xs)
@@ -61,9 +61,9 @@ back-end xs (suc n) h = absurd (omega arith)
 front-parts : (xs : List ℕ) → (n : ℕ) × (xs ≡ replicate n 32 ++ without_front_spaces xs)
 unfolding without_front_spaces
 front-parts [] = (0, refl)
-front-parts (x ∷ xs) = by (is_space x) refl (front-parts xs)
+front-parts (x ∷ xs) = by (x == 32) refl (front-parts xs)
   where
-    by : (b : Bool) → is_space x ≡ b → (n : ℕ) × (xs ≡ replicate n 32 ++ without_front_spaces xs)
+    by : (b : Bool) → (x == 32) ≡ b → (n : ℕ) × (xs ≡ replicate n 32 ++ without_front_spaces xs)
         → (n : ℕ) × (x ∷ xs ≡ replicate n 32 ++ without_front_spaces (x ∷ xs))
     by true e (n, h) = (suc n, rw e (ap (λ (y : ℕ). y ∷ xs) (eqb-true x 32 e) ∙ ap (λ (ys : List ℕ). 32 ∷ ys) h))
     by false e h = (0, rw e refl)
@@ -71,9 +71,9 @@ front-parts (x ∷ xs) = by (is_space x) refl (front-parts xs)
 front-begins : (xs : List ℕ) → BeginsPlain (without_front_spaces xs)
 unfolding without_front_spaces
 front-begins [] rest h = cc h
-front-begins (x ∷ xs) rest h = by (is_space x) refl (front-begins xs rest)
+front-begins (x ∷ xs) rest h = by (x == 32) refl (front-begins xs rest)
   where
-    by : (b : Bool) → is_space x ≡ b → (without_front_spaces xs ≢ 32 ∷ rest) → ⊥
+    by : (b : Bool) → (x == 32) ≡ b → (without_front_spaces xs ≢ 32 ∷ rest) → ⊥
     by true e plain = plain (rw e at h)
     by false e plain =
         let same : x ∷ xs ≡ 32 ∷ rest = rw e at h in
@@ -83,9 +83,9 @@ front-begins (x ∷ xs) rest h = by (is_space x) refl (front-begins xs rest)
 back-parts : (xs : List ℕ) → (n : ℕ) × (xs ≡ without_back_spaces xs ++ replicate n 32)
 unfolding without_back_spaces
 back-parts [] = (0, refl)
-back-parts (x ∷ xs) = by (without_back_spaces xs) (is_space x) refl (back-parts xs)
+back-parts (x ∷ xs) = by (without_back_spaces xs) (x == 32) refl (back-parts xs)
   where
-    by : (kept : List ℕ) (b : Bool) → is_space x ≡ b → (n : ℕ) × (xs ≡ kept ++ replicate n 32)
+    by : (kept : List ℕ) (b : Bool) → (x == 32) ≡ b → (n : ℕ) × (xs ≡ kept ++ replicate n 32)
         → (n : ℕ) × (x ∷ xs ≡ before_rest x kept ++ replicate n 32)
     by [] true e (n, h) = (suc n, rw e (ap (λ (y : ℕ). y ∷ xs) (eqb-true x 32 e) ∙ ap (λ (ys : List ℕ). 32 ∷ ys) h))
     by [] false e (n, h) = (n, rw e (ap (λ (ys : List ℕ). x ∷ ys) h))
@@ -98,9 +98,9 @@ back-ends [] rest h = no_end rest h
     no_end : (rest : List ℕ) → [] ≡ rest ++ 32 ∷ [] → ⊥
     no_end [] h = cc h
     no_end (r ∷ rest) h = cc h
-back-ends (x ∷ xs) rest h = by (without_back_spaces xs) (is_space x) refl (back-ends xs) rest h
+back-ends (x ∷ xs) rest h = by (without_back_spaces xs) (x == 32) refl (back-ends xs) rest h
   where
-    by : (kept : List ℕ) (b : Bool) → is_space x ≡ b → EndsPlain kept → EndsPlain (before_rest x kept)
+    by : (kept : List ℕ) (b : Bool) → (x == 32) ≡ b → EndsPlain kept → EndsPlain (before_rest x kept)
     by [] true e plain rest h = plain rest (rw e at h)
     by [] false e plain [] h =
         let same : x ∷ [] ≡ 32 ∷ [] = rw e at h in

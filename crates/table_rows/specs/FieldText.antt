@@ -1,19 +1,15 @@
 -- A field's text: its bytes without the spaces at either end. This project's own.
 use Rattle.std.specs.Prelude.{ℕ, List, [], ◌∷◌, ◌++◌, ◌==◌, ◌≡◌, ◌≢◌, replicate, Bool, if◌then◌else◌}
 
--- whether a byte is the space, 20 hexadecimal
-abbrev pub is_space : ℕ → Bool
-is_space byte = byte == 0x20
-
 -- a byte before others, but a space alone is nothing
 abbrev pub before_rest : ℕ → List ℕ → List ℕ
-before_rest byte [] = if is_space byte then [] else byte ∷ []
+before_rest byte [] = if byte == 0x20 then [] else byte ∷ []
 before_rest byte (next ∷ rest) = byte ∷ next ∷ rest
 
 -- the bytes from the first one on that is no space
 unfoldable pub without_front_spaces : List ℕ → List ℕ
 without_front_spaces [] = []
-without_front_spaces (byte ∷ rest) = if is_space byte then without_front_spaces rest else byte ∷ rest
+without_front_spaces (byte ∷ rest) = if byte == 0x20 then without_front_spaces rest else byte ∷ rest
 
 -- the bytes up to the last one that is no space
 unfoldable pub without_back_spaces : List ℕ → List ℕ
