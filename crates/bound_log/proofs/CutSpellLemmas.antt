@@ -4,11 +4,14 @@ use Rattle.std.specs.Prelude.{ℤ, flat_map}
 use Rattle.std.specs.Fmt.{decimal, signed_decimal}
 use Rattle.std.specs.List.{join_with_byte}
 use Rattle.std.proofs.lemmas.Grind.{flat_map-append}
-use Rattle.bound_log.specs.CutSpelling.{cut_text, numbers_text, pairs_text, shares_text, spaced}
+use Rattle.bound_log.specs.CutSpelling.{cut_line_text, cut_text, numbers_text, pairs_text, shares_text, spaced, uses_text}
 use Rattle.bound_log.specs.CutText.{CutTextOf, cut_words, pairs_words}
 use Rattle.bound_log.specs.DualText.{dual_words, share_words}
 use Rattle.bound_log.specs.LogText.{line_text}
-use Rattle.bound_log.specs.declared.log_leaf.LogLeaf.TheVariants.{Cut, Dual}
+use Rattle.bound_log.specs.NamedText.{named_text}
+use Rattle.bound_log.specs.UseText.{use_dual_words, use_words}
+use Rattle.bound_log.specs.declared.named_line.NamedLine.TheVariants.{UseDual}
+use Rattle.bound_log.specs.declared.log_leaf.LogLeaf.TheVariants.{Dual}
 use Rattle.bound_log.specs.declared.log_line.LogLine.TheVariants.{Leaf}
 
 -- words with a space between two are the first word, and each other one behind its space
@@ -47,10 +50,10 @@ line_put old begun now ended kind words begin put end =
     ∙ ap (λ (t : List ℕ). old ++ t) (sym (joined (kind ∷ []) words)) in
     end ∙ ap (λ (t : List ℕ). t ++ 10 ∷ []) body ∙ append_assoc old (join_with_byte 32 ((kind ∷ []) ∷ words)) (10 ∷ [])
 
--- the line of a cut
-pub cut_put : (old begun now ended : List ℕ) (cut : CutTextOf) → begun ≡ old ++ 120 ∷ [] → now ≡ begun ++ cut_text cut → ended ≡ now ++ 10 ∷ [] → ended ≡ old ++ line_text (Leaf (Cut cut))
-cut_put old begun now ended cut begin put end =
-    line_put old begun now ended 120 (cut_words cut) begin (put ∙ ap (λ (t : List ℕ). begun ++ t) (sym (spaced_cut cut))) end
+-- the line of a kind with the words of a cut
+pub cut_put : (old begun now ended : List ℕ) (kind : ℕ) (cut : CutTextOf) → begun ≡ old ++ kind ∷ [] → now ≡ begun ++ cut_text cut → ended ≡ now ++ 10 ∷ [] → ended ≡ old ++ cut_line_text kind cut
+cut_put old begun now ended kind cut begin put end =
+    line_put old begun now ended kind (cut_words cut) begin (put ∙ ap (λ (t : List ℕ). begun ++ t) (sym (spaced_cut cut))) end
 
 -- the line of a dual bound
 pub dual_put : (old begun headed now ended : List ℕ) (divisor count : ℕ) (shares : List (ℕ × CutTextOf)) → count ≡ length shares → begun ≡ old ++ 100 ∷ [] → headed ≡ begun ++ numbers_text divisor count →
@@ -60,6 +63,27 @@ dual_put old begun headed now ended divisor count shares count_is begin head put
     (put ∙ ap (λ (t : List ℕ). t ++ shares_text shares) (head ∙ ap (λ (n : ℕ). begun ++ numbers_text divisor n) count_is)
     ∙ append_assoc begun (numbers_text divisor (length shares)) (shares_text shares)
     ∙ ap (λ (t : List ℕ). begun ++ t) (sym (spaced_dual divisor shares)))
+    end
+
+spaced_uses : (uses : List (ℕ × ℕ)) → flat_map spaced (flat_map use_words uses) ≡ uses_text uses
+spaced_uses [] = refl
+spaced_uses (one ∷ uses) =
+    ap (λ (t : List ℕ). spaced (decimal one.0) ++ (spaced (decimal one.1) ++ t)) (spaced_uses uses)
+    ∙ sym (append_assoc (spaced (decimal one.0)) (spaced (decimal one.1)) (uses_text uses))
+
+spaced_use_dual : (divisor : ℕ) (uses : List (ℕ × ℕ)) → flat_map spaced (use_dual_words divisor uses) ≡ numbers_text divisor (length uses) ++ uses_text uses
+spaced_use_dual divisor uses =
+    ap (λ (t : List ℕ). spaced (decimal divisor) ++ (spaced (decimal (length uses)) ++ t)) (spaced_uses uses)
+    ∙ sym (append_assoc (spaced (decimal divisor)) (spaced (decimal (length uses))) (uses_text uses))
+
+-- .. of a dual bound of format 2
+pub use_dual_put : (old begun headed now ended : List ℕ) (divisor count : ℕ) (uses : List (ℕ × ℕ)) → count ≡ length uses → begun ≡ old ++ 100 ∷ [] → headed ≡ begun ++ numbers_text divisor count →
+    now ≡ headed ++ uses_text uses → ended ≡ now ++ 10 ∷ [] → ended ≡ old ++ named_text (UseDual divisor uses)
+use_dual_put old begun headed now ended divisor count uses count_is begin head put end =
+    line_put old begun now ended 100 (use_dual_words divisor uses) begin
+    (put ∙ ap (λ (t : List ℕ). t ++ uses_text uses) (head ∙ ap (λ (n : ℕ). begun ++ numbers_text divisor n) count_is)
+    ∙ append_assoc begun (numbers_text divisor (length uses)) (uses_text uses)
+    ∙ ap (λ (t : List ℕ). begun ++ t) (sym (spaced_use_dual divisor uses)))
     end
 
 -- ---- what stood before stays at the front

@@ -7,8 +7,14 @@ use Rattle.bound_log.specs.Lines.{numbers_of}
 use Rattle.bound_log.specs.LogLines.{words_of}
 use Rattle.bound_log.specs.LogText.{line_words}
 use Rattle.bound_log.specs.Numbers.{AreShort}
+use Rattle.bound_log.specs.declared.log_format.LogFormat.{LogFormat}
+use Rattle.bound_log.specs.declared.log_format.LogFormat.TheVariants.{First, Second}
 use Rattle.bound_log.specs.declared.log_line.LogLine.{LogLine}
+use Rattle.bound_log.specs.declared.named_line.NamedLine.{NamedLine}
+use Rattle.bound_log.specs.Formats.{IsLineIn, LineIn}
+use Rattle.bound_log.specs.NamedText.{named_numbers, named_words}
 use Rattle.bound_log.proofs.GrammarLemmas.{line_in, line_of_words, reads_line, words_of_line}
+use Rattle.bound_log.proofs.NamedLemmas.{named_line_in, named_of_words, reads_named, words_of_named}
 
 -- something holds, or it doesn't
 abbrev pub Decided : Type 0 → Type 0
@@ -110,4 +116,45 @@ line_or_none text = elim (spelled (words_of (tokens_of text))) [
     is = line_of_words text found.line [] (record { spelled = found.spelled ∙ sym (append-nil (line_words found.line)); numbers = found.numbers }) refl;
   })
   | inr other ↦ inr (λ read. other (record { line = read.line; numbers = read.is.numbers; spelled = words_of_line text read.line read.is }))
+]
+
+-- ---- a line of format 2
+
+named_line_in-words : (line : NamedLine) → AreShort (named_numbers line) → line ≡ named_line_in (named_words line)
+named_line_in-words line short = (reads_named line [] short).line_is ∙ ap named_line_in (append-nil (named_words line))
+
+record HasNamed (words : List (List ℕ)) : Type 0 where
+  line : NamedLine
+  numbers : AreShort (named_numbers line)
+  spelled : words ≡ named_words line
+
+only_named : (words : List (List ℕ)) → HasNamed words → (words ≡ named_words (named_line_in words)) × AreShort (named_numbers (named_line_in words))
+only_named words has =
+    let read : has.line ≡ named_line_in words = named_line_in-words has.line has.numbers ∙ ap named_line_in (sym has.spelled) in
+    (has.spelled ∙ ap named_words read, subst (λ (l : NamedLine). AreShort (named_numbers l)) read has.numbers)
+
+spelled_named : (words : List (List ℕ)) → Decided (HasNamed words)
+spelled_named words = elim (both (words ≡ named_words (named_line_in words)) (AreShort (named_numbers (named_line_in words))) (same_words words (named_words (named_line_in words))) (are_short (named_numbers (named_line_in words)))) [
+  | inl is ↦ inl (record { line = named_line_in words; numbers = is.1; spelled = is.0 })
+  | inr other ↦ inr (λ has. other (only_named words has))
+]
+
+-- ---- a line of either format
+
+-- a line of a format that a text, without its LF, is
+pub record ReadsIn (format : LogFormat) (text : List ℕ) : Type 0 where
+  pub line : LineIn format
+  pub is : IsLineIn format text line
+
+pub line_or_none_in : (format : LogFormat) (text : List ℕ) → Decided (ReadsIn format text)
+line_or_none_in First text = elim (line_or_none text) [
+  | inl found ↦ inl (record { line = found.line; is = found.is })
+  | inr other ↦ inr (λ read. other (record { line = read.line; is = read.is }))
+]
+line_or_none_in Second text = elim (spelled_named (words_of (tokens_of text))) [
+  | inl found ↦ inl (record {
+    line = found.line;
+    is = named_of_words text found.line [] (record { spelled = found.spelled ∙ sym (append-nil (named_words found.line)); numbers = found.numbers }) refl;
+  })
+  | inr other ↦ inr (λ read. other (record { line = read.line; numbers = read.is.numbers; spelled = words_of_named text read.line read.is }))
 ]

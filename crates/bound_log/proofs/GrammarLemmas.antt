@@ -26,10 +26,10 @@ use Rattle.bound_log.proofs.NumberLemmas.{decimal-bytes, decimal-value}
 
 -- ---- bytes that no word has
 
-abbrev NoSpace : ℕ → Type 0
+abbrev pub NoSpace : ℕ → Type 0
 NoSpace c = is_space c ≡ false
 
-abbrev NoFeed : ℕ → Type 0
+abbrev pub NoFeed : ℕ → Type 0
 NoFeed c = is_line_feed c ≡ false
 
 number_no_space : (n : ℕ) → n < number_bound → All NoSpace (decimal n)
@@ -39,31 +39,31 @@ number_no_feed : (n : ℕ) → n < number_bound → All NoFeed (decimal n)
 number_no_feed n small = All-weaker (IsInRange 48 57) NoFeed (λ c digit. ne_eqb c 10 (λ same. omega (arith, digit.0))) (decimal n) (decimal-bytes n small)
 
 -- a word of one byte
-one_byte : (P : ℕ → Type 0) (c : ℕ) → P c → All P (c ∷ [])
+pub one_byte : (P : ℕ → Type 0) (c : ℕ) → P c → All P (c ∷ [])
 one_byte P c holds = All-cons P c [] holds (All-nil P)
 
 -- a kind and one number
-pair_no_space : (kind n : ℕ) → NoSpace kind → n < number_bound → All (All NoSpace) ((kind ∷ []) ∷ decimal n ∷ [])
+pub pair_no_space : (kind n : ℕ) → NoSpace kind → n < number_bound → All (All NoSpace) ((kind ∷ []) ∷ decimal n ∷ [])
 pair_no_space kind n alone small =
     All-cons (All NoSpace) (kind ∷ []) (decimal n ∷ []) (one_byte NoSpace kind alone)
     (All-cons (All NoSpace) (decimal n) [] (number_no_space n small) (All-nil (All NoSpace)))
 
-pair_no_feed : (kind n : ℕ) → NoFeed kind → n < number_bound → All NoFeed (kind ∷ 32 ∷ decimal n)
+pub pair_no_feed : (kind n : ℕ) → NoFeed kind → n < number_bound → All NoFeed (kind ∷ 32 ∷ decimal n)
 pair_no_feed kind n alone small =
     All-cons NoFeed kind (32 ∷ decimal n) alone (All-cons NoFeed 32 (decimal n) refl (number_no_feed n small))
 
 -- words of which none has a byte are joined without it
-joined_words : (P : ℕ → Type 0) (c : ℕ) (words : List (List ℕ)) → P c → All (All P) words → All P (join_with_byte c words)
+pub joined_words : (P : ℕ → Type 0) (c : ℕ) (words : List (List ℕ)) → P c → All (All P) words → All P (join_with_byte c words)
 joined_words P c [] between each = All-nil P
 joined_words P c (word ∷ []) between each = All-head (All P) word [] each
 joined_words P c (word ∷ next ∷ words) between each =
     All-append P word (c ∷ join_with_byte c (next ∷ words)) (All-head (All P) word (next ∷ words) each)
     (All-cons P c (join_with_byte c (next ∷ words)) between (joined_words P c (next ∷ words) between (All-tail (All P) word (next ∷ words) each)))
 
-cut_no_space : (cut : CutTextOf) → AreShort (cut_numbers cut) → All (All NoSpace) (cut_words cut)
+pub cut_no_space : (cut : CutTextOf) → AreShort (cut_numbers cut) → All (All NoSpace) (cut_words cut)
 cut_no_space cut short = cut_bytes NoSpace (λ c digit. ne_eqb c 32 (λ same. omega (arith, digit.0))) refl cut short
 
-cut_no_feed : (cut : CutTextOf) → AreShort (cut_numbers cut) → All (All NoFeed) (cut_words cut)
+pub cut_no_feed : (cut : CutTextOf) → AreShort (cut_numbers cut) → All (All NoFeed) (cut_words cut)
 cut_no_feed cut short = cut_bytes NoFeed (λ c digit. ne_eqb c 10 (λ same. omega (arith, digit.0))) refl cut short
 
 dual_no_space : (divisor : ℕ) (shares : List (ℕ × CutTextOf)) → AreShort (dual_numbers divisor shares) → All (All NoSpace) (dual_words divisor shares)
@@ -122,11 +122,11 @@ line_of_words text line after begins none =
 
 -- ---- lines are told by their words
 
-abbrev first_word : List (List ℕ) → List ℕ
+abbrev pub first_word : List (List ℕ) → List ℕ
 first_word [] = []
 first_word (word ∷ words) = word
 
-abbrev later_words : List (List ℕ) → List (List ℕ)
+abbrev pub later_words : List (List ℕ) → List (List ℕ)
 later_words [] = []
 later_words (word ∷ words) = words
 

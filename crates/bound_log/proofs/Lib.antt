@@ -5,12 +5,17 @@ pub mod CutLemmas
 pub mod CutSpellLemmas
 pub mod Decisions
 pub mod DualLemmas
+pub mod FormatLemmas
 pub mod GrammarLemmas
 pub mod ItemLemmas
+pub mod MeaningLemmas
 pub mod MoveLemmas
+pub mod NamedLemmas
 pub mod NumberLemmas
 pub mod OpenLemmas
 pub mod PoolLemmas
 pub mod SoundLemmas
 pub mod SpellLemmas
 pub mod TreeLemmas
+pub mod UseLemmas
+pub mod UseRuleLemmas

@@ -56,11 +56,11 @@ lines_text-apart (x ∷ xs) (y ∷ ys) small also same =
 
 -- ---- lines have one tree
 
-record SameTree (a b : Tree) (x y : List LogLine) : Type 0 where
-  tree : a ≡ b
-  rest : x ≡ y
+pub record SameTree (a b : Tree) (x y : List LogLine) : Type 0 where
+  pub tree : a ≡ b
+  pub rest : x ≡ y
 
-same_tree : (a b : Tree) (x y : List LogLine) → tree_lines a ++ x ≡ tree_lines b ++ y → SameTree a b x y
+pub same_tree : (a b : Tree) (x y : List LogLine) → tree_lines a ++ x ≡ tree_lines b ++ y → SameTree a b x y
 same_tree (tip e) (tip f) x y same =
     let ends : e ≡ f = cc in
     record { tree = ap tip ends; rest = cc }

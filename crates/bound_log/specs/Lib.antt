@@ -5,11 +5,14 @@ pub mod CutSpelling
 pub mod CutText
 pub mod DualReading
 pub mod DualText
+pub mod Formats
 pub mod Grammar
 pub mod Lines
 pub mod LogLines
 pub mod LogText
 pub mod LogTree
+pub mod Meanings
+pub mod NamedText
 pub mod Numbers
 pub mod OpenCount
 pub mod Placed
@@ -18,4 +21,7 @@ pub mod Reading
 pub mod Rules
 pub mod Sound
 pub mod Spells
+pub mod SpellsIn
 pub mod Tree
+pub mod UseReading
+pub mod UseText

@@ -1,7 +1,7 @@
 //! The line of a cut, as the search writes it.
 ghost use Rattle.std.specs.Prelude.{◌≡◌, ◌++◌, length, take, OnOk, OnErr};
 ghost use Rattle.std.specs.Fmt.{decimal};
-ghost use Rattle.bound_log.specs.CutSpelling.{cut_text, numbers_text, pair_text, pairs_text, spaced};
+ghost use Rattle.bound_log.specs.CutSpelling.{cut_line_text, cut_text, numbers_text, pair_text, pairs_text, spaced};
 ghost use Rattle.bound_log.specs.CutText.{moves_from, text_of_cut};
 ghost use Rattle.bound_log.specs.LogText.{line_text};
 ghost use Rattle.bound_log.specs.declared.log_leaf.LogLeaf.TheVariants as log_leaf;
@@ -20,7 +20,7 @@ pub fn put_cut(out: &mut Vec<u8>, cut: &Cut) -> Result<(), NoMemory>
     ensures refused { OnErr result (out.new.items ≡ out.old.items) }
 {
     let start = out.len();
-    let done = put_cut_parts(out, cut);
+    let done = put_cut_parts(out, b'x', cut);
     if done.is_err() {
         out.truncate(start);
     }
@@ -33,30 +33,32 @@ pub fn put_cut_text(out: &mut Vec<u8>, cut: &CutText<'_>) -> Result<(), NoMemory
     ensures refused { OnErr result (out.new.items ≡ out.old.items) }
 {
     let start = out.len();
-    let done = put_text_parts(out, cut);
+    let done = put_text_parts(out, b'x', cut);
     if done.is_err() {
         out.truncate(start);
     }
     done
 }
 
-// The line of a cut of a pool. On an error a part of it may stand in `out`.
-fn put_cut_parts(out: &mut Vec<u8>, cut: &Cut) -> Result<(), NoMemory>
-    ensures put { OnOk result (out.new.items ≡ out.old.items ++ line_text (log_line.Leaf (log_leaf.Cut (text_of_cut cut.now)))) }
+// The line of a kind whose other words are those of a cut of a pool. On an error a part of it may
+// stand in `out`.
+pub fn put_cut_parts(out: &mut Vec<u8>, kind: u8, cut: &Cut) -> Result<(), NoMemory>
+    ensures put { OnOk result (out.new.items ≡ out.old.items ++ cut_line_text kind (text_of_cut cut.now)) }
     ensures part { OnErr result (take (length out.old.items) out.new.items ≡ out.old.items) }
 {
-    out.push(b'x')?;
+    out.push(kind)?;
     put_pool_cut(out, cut)?;
     out.push(b'\n')?;
     Ok(())
 }
 
-// The line of a cut that a line spells. On an error a part of it may stand in `out`.
-fn put_text_parts(out: &mut Vec<u8>, cut: &CutText<'_>) -> Result<(), NoMemory>
-    ensures put { OnOk result (out.new.items ≡ out.old.items ++ line_text (log_line.Leaf (log_leaf.Cut cut.now))) }
+// The line of a kind whose other words are those of a cut that a line spells. On an error a part of
+// it may stand in `out`.
+pub fn put_text_parts(out: &mut Vec<u8>, kind: u8, cut: &CutText<'_>) -> Result<(), NoMemory>
+    ensures put { OnOk result (out.new.items ≡ out.old.items ++ cut_line_text kind cut.now) }
     ensures part { OnErr result (take (length out.old.items) out.new.items ≡ out.old.items) }
 {
-    out.push(b'x')?;
+    out.push(kind)?;
     put_lent_cut(out, cut)?;
     out.push(b'\n')?;
     Ok(())

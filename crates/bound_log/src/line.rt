@@ -22,7 +22,7 @@ pub fn is_head(line: &[u8]) -> bool
 }
 
 /// Appends a word, digits and the end of a line. Refused, `out` is as before.
-fn put_words(out: &mut Vec<u8>, word: &[u8], digits: &[u8]) -> Result<(), NoMemory>
+pub fn put_words(out: &mut Vec<u8>, word: &[u8], digits: &[u8]) -> Result<(), NoMemory>
     requires { length word.now + length digits.now ≤ 64 }
     ensures put { OnOk result (out.new.items ≡ out.old.items ++ (word.now ++ (digits.now ++ line_end))) }
     ensures refused { OnErr result (out.new.items ≡ out.old.items) }

@@ -4,4 +4,4 @@ use Rattle.bound_log.proofs.cut_line.put_cut_parts.Goals as goal
 
 pub returns-clause-put : goal.returns-clause-put
 returns-clause-put c =
-    cut_put c.args.out.now.items c.push.new.self.items c.put_pool_cut.new.out.items c.push-2.new.self.items (text_of_cut c.args.cut.now) c.in_ok-push.ensures.items c.in_ok-put_pool_cut.ensures.put c.in_ok-push-2.ensures.items
+    cut_put c.args.out.now.items c.push.new.self.items c.put_pool_cut.new.out.items c.push-2.new.self.items c.args.kind (text_of_cut c.args.cut.now) c.in_ok-push.ensures.items c.in_ok-put_pool_cut.ensures.put c.in_ok-push-2.ensures.items

@@ -1,0 +1,103 @@
+-- What lines of a log stand for, line by line; and that a text spells one tree.
+use Rattle.std.proofs.Common.{◌≡◌, ℕ, List, [], ◌∷◌, ◌++◌, All, Option, Some, None, refl, ap, sym, ◌∙◌, subst, append-nil, append_assoc}
+use Rattle.std.specs.Prelude.{false}
+use Rattle.std.proofs.lemmas.Grind.{flat_map-append}
+use Rattle.bound_log.specs.declared.log_format.LogFormat.{LogFormat}
+use Rattle.bound_log.specs.declared.log_format.LogFormat.TheVariants.{First, Second}
+use Rattle.bound_log.specs.declared.log_line.LogLine.{LogLine}
+use Rattle.bound_log.specs.declared.named_line.NamedLine.{NamedLine}
+use Rattle.bound_log.specs.declared.named_line.NamedLine.TheVariants.{Named}
+use Rattle.bound_log.specs.CutText.{CutTextOf}
+use Rattle.bound_log.specs.Formats.{HasShortNumbers, LineIn, texts_in}
+use Rattle.bound_log.specs.LogText.{head_text, lines_text, log_text}
+use Rattle.bound_log.specs.Meanings.{cuts_named, joined_nodes, meaning_in, named_in, names_last, nodes_in, nodes_of}
+use Rattle.bound_log.specs.SpellsIn.{SpellsIn}
+use Rattle.bound_log.specs.Tree.{Tree, tree_lines}
+use Rattle.bound_log.proofs.FormatLemmas.{after_head_in, same_format, texts_in-apart}
+use Rattle.bound_log.proofs.TreeLemmas.{same_tree}
+
+-- ---- lines, one after another
+
+joined_assoc : (a b c : Option (List LogLine)) → joined_nodes (joined_nodes a b) c ≡ joined_nodes a (joined_nodes b c)
+joined_assoc None b c = refl
+joined_assoc (Some xs) None c = refl
+joined_assoc (Some xs) (Some ys) None = refl
+joined_assoc (Some xs) (Some ys) (Some zs) = ap Some (append_assoc xs ys zs)
+
+joined_none : (a : Option (List LogLine)) → joined_nodes (Some []) a ≡ a
+joined_none None = refl
+joined_none (Some xs) = refl
+
+pub cuts_named-append : (format : LogFormat) (xs ys : List (LineIn format)) → cuts_named format (xs ++ ys) ≡ cuts_named format xs ++ cuts_named format ys
+cuts_named-append format xs ys = flat_map-append (named_in format) xs ys
+
+-- more lines stand for the lines after those of the ones before them
+pub nodes_in-append : (format : LogFormat) (cuts : List CutTextOf) (xs ys : List (LineIn format)) → nodes_in format cuts (xs ++ ys) ≡ joined_nodes (nodes_in format cuts xs) (nodes_in format (cuts ++ cuts_named format xs) ys)
+nodes_in-append format cuts [] ys =
+    sym (joined_none (nodes_in format (cuts ++ []) ys) ∙ ap (λ (c : List CutTextOf). nodes_in format c ys) (append-nil cuts))
+nodes_in-append format cuts (x ∷ xs) ys =
+    let here = nodes_of (meaning_in format cuts x) in
+    let named : (cuts ++ named_in format x) ++ cuts_named format xs ≡ cuts ++ (named_in format x ++ cuts_named format xs) = append_assoc cuts (named_in format x) (cuts_named format xs) in
+    ap (joined_nodes here) (nodes_in-append format (cuts ++ named_in format x) xs ys)
+    ∙ sym (joined_assoc here (nodes_in format (cuts ++ named_in format x) xs) (nodes_in format ((cuts ++ named_in format x) ++ cuts_named format xs) ys))
+    ∙ ap (λ (c : List CutTextOf). joined_nodes (joined_nodes here (nodes_in format (cuts ++ named_in format x) xs)) (nodes_in format c ys)) named
+
+-- after a name the lines stand for what they do where its cut is named
+pub named_first : (cuts : List CutTextOf) (cut : CutTextOf) (lines : List NamedLine) → nodes_in Second cuts (Named cut ∷ lines) ≡ nodes_in Second (cuts ++ cut ∷ []) lines
+named_first cuts cut lines = joined_none (nodes_in Second (cuts ++ cut ∷ []) lines)
+
+-- in format 1 lines stand for themselves, and name no cut
+pub nodes_in-first : (cuts : List CutTextOf) (lines : List LogLine) → nodes_in First cuts lines ≡ Some lines
+nodes_in-first cuts [] = refl
+nodes_in-first cuts (line ∷ lines) = ap (joined_nodes (Some (line ∷ []))) (nodes_in-first (cuts ++ []) lines)
+
+pub cuts_named-first : (lines : List LogLine) → cuts_named First lines ≡ []
+cuts_named-first [] = refl
+cuts_named-first (line ∷ lines) = cuts_named-first lines
+
+pub names_last-first : (lines : List LogLine) → names_last First lines ≡ false
+names_last-first [] = refl
+names_last-first (line ∷ []) = refl
+names_last-first (line ∷ next ∷ lines) = names_last-first (next ∷ lines)
+
+-- ---- a text spells one tree
+
+pub record SpellSame (a b : LogFormat) (names others : List CutTextOf) (tree other : Tree) : Type 0 where
+  pub format : a ≡ b
+  pub cuts : names ≡ others
+  pub trees : tree ≡ other
+
+some_same : (xs ys : List LogLine) → Some xs ≡ Some ys → xs ≡ ys
+some_same xs ys same = cc
+
+pub spell_same_in : (format : LogFormat) (text : List ℕ) (names others : List CutTextOf) (a b : Tree) → SpellsIn format text names a → SpellsIn format text others b → (names ≡ others) × (a ≡ b)
+spell_same_in format text names others a b first second =
+    let after : texts_in format first.lines ≡ texts_in format second.lines =
+    sym (append-nil (texts_in format first.lines)) ∙ after_head_in format text first.lines second.lines [] [] first.begins second.begins ∙ append-nil (texts_in format second.lines) in
+    let lines : first.lines ≡ second.lines = texts_in-apart format first.lines second.lines first.begins.numbers second.begins.numbers after in
+    let nodes : tree_lines a ≡ tree_lines b = some_same (tree_lines a) (tree_lines b) (sym first.stand ∙ ap (nodes_in format []) lines ∙ second.stand) in
+    (sym first.named ∙ ap (cuts_named format) lines ∙ second.named, (same_tree a b [] [] (ap (λ l. l ++ []) nodes)).tree)
+
+pub spell_same : (a b : LogFormat) (text : List ℕ) (names others : List CutTextOf) (tree other : Tree) → SpellsIn a text names tree → SpellsIn b text others other → SpellSame a b names others tree other
+spell_same a b text names others tree other first second =
+    let format : a ≡ b = same_format a b text first.lines second.lines [] [] first.begins second.begins in
+    let both = spell_same_in b text names others tree other (subst (λ (f : LogFormat). SpellsIn f text names tree) format first) second in
+    record { format = format; cuts = both.0; trees = both.1 }
+
+-- ---- the text of format 1
+
+pub first_spelled : (text : List ℕ) (cuts : List CutTextOf) (tree : Tree) → SpellsIn First text cuts tree → (text ≡ log_text tree) × (cuts ≡ [])
+first_spelled text cuts tree spells =
+    let lines : spells.lines ≡ tree_lines tree = some_same spells.lines (tree_lines tree) (sym (nodes_in-first [] spells.lines) ∙ spells.stand) in (
+      spells.begins.spelled ∙ ap (λ (l : List LogLine). head_text ++ (lines_text l ++ [])) lines ∙ ap (λ (t : List ℕ). head_text ++ t) (append-nil (lines_text (tree_lines tree))),
+      sym spells.named ∙ cuts_named-first spells.lines,
+    )
+
+pub spells_first : (text : List ℕ) (tree : Tree) → All (HasShortNumbers First) (tree_lines tree) → text ≡ log_text tree → SpellsIn First text [] tree
+spells_first text tree small is = record {
+  lines = tree_lines tree;
+  begins = record { spelled = is ∙ ap (λ (t : List ℕ). head_text ++ t) (sym (append-nil (lines_text (tree_lines tree)))); numbers = small };
+  stand = nodes_in-first [] (tree_lines tree);
+  named = cuts_named-first (tree_lines tree);
+  last = names_last-first (tree_lines tree);
+}
