@@ -17,6 +17,8 @@ mod log_lines;
 #[cfg(test)]
 mod moves;
 #[cfg(test)]
+mod named_lines;
+#[cfg(test)]
 mod networks;
 #[cfg(test)]
 mod pieces;
