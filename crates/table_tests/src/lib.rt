@@ -10,3 +10,5 @@ mod networks;
 mod points;
 #[cfg(test)]
 mod rows;
+#[cfg(test)]
+mod stations;
