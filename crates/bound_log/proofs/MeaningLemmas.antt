@@ -10,7 +10,7 @@ use Rattle.bound_log.specs.declared.named_line.NamedLine.TheVariants.{Named}
 use Rattle.bound_log.specs.CutText.{CutTextOf}
 use Rattle.bound_log.specs.Formats.{HasShortNumbers, LineIn, texts_in}
 use Rattle.bound_log.specs.LogText.{head_text, lines_text, log_text}
-use Rattle.bound_log.specs.Meanings.{cuts_named, joined_nodes, meaning_in, named_in, names_last, nodes_in, nodes_of}
+use Rattle.bound_log.specs.Meanings.{Meaning, cuts_named, joined_nodes, lacking, meaning_in, named_in, names_last, nodes_in, nodes_of, standing}
 use Rattle.bound_log.specs.SpellsIn.{SpellsIn}
 use Rattle.bound_log.specs.Tree.{Tree, tree_lines}
 use Rattle.bound_log.proofs.FormatLemmas.{after_head_in, same_format, texts_in-apart}
@@ -41,6 +41,13 @@ nodes_in-append format cuts (x ∷ xs) ys =
     ap (joined_nodes here) (nodes_in-append format (cuts ++ named_in format x) xs ys)
     ∙ sym (joined_assoc here (nodes_in format (cuts ++ named_in format x) xs) (nodes_in format ((cuts ++ named_in format x) ++ cuts_named format xs) ys))
     ∙ ap (λ (c : List CutTextOf). joined_nodes (joined_nodes here (nodes_in format (cuts ++ named_in format x) xs)) (nodes_in format c ys)) named
+
+-- one line
+pub standing_alone : (format : LogFormat) (cuts : List CutTextOf) (line : LineIn format) (node : LogLine) → meaning_in format cuts line ≡ standing node → nodes_in format cuts (line ∷ []) ≡ Some (node ∷ [])
+standing_alone format cuts line node is = ap (λ (m : Meaning). joined_nodes (nodes_of m) (Some [])) is
+
+pub lacking_alone : (format : LogFormat) (cuts : List CutTextOf) (line : LineIn format) → meaning_in format cuts line ≡ lacking → nodes_in format cuts (line ∷ []) ≡ None
+lacking_alone format cuts line is = ap (λ (m : Meaning). joined_nodes (nodes_of m) (Some [])) is
 
 -- after a name the lines stand for what they do where its cut is named
 pub named_first : (cuts : List CutTextOf) (cut : CutTextOf) (lines : List NamedLine) → nodes_in Second cuts (Named cut ∷ lines) ≡ nodes_in Second (cuts ++ cut ∷ []) lines

@@ -11,7 +11,7 @@ ghost use Rattle.bound_log.specs.CutText.{CutTextOf, text_of_cut};
 ghost use Rattle.bound_log.specs.Formats.{HasShortNumbers, LineIn, text_line_in, texts_in};
 ghost use Rattle.bound_log.specs.LogText.{line_end, log_text};
 ghost use Rattle.bound_log.specs.LogTree.{IsBrokenBy, IsDualLineAt};
-ghost use Rattle.bound_log.specs.Meanings.{cut_at, cuts_named, found_share, found_use, is_cut_in_range, joined_nodes, lacking, named_meaning, nodes_in, rules_of, share_used, standing};
+ghost use Rattle.bound_log.specs.Meanings.{cut_at, cuts_named, found_share, found_use, is_cut_in_range, joined_nodes, lacking, meaning_in, named_meaning, nodes_in, rules_of, share_used, standing};
 ghost use Rattle.bound_log.specs.NamedText.{IsNamedLine, named_body, named_numbers, named_text};
 ghost use Rattle.bound_log.specs.Numbers.{AreShort};
 ghost use Rattle.bound_log.specs.Rules.{first_unkept};
@@ -48,7 +48,8 @@ pub fn put_names_are_read()
         → IsNamedLine (named_body (named_line.UseDual d (uses_of shares))) (named_line.UseDual d (uses_of shares)) }
 {}
 
-/// The number of a cut stands for the cut that was named by it, and for none where none was.
+/// The number of a cut stands for the cut that was named by it, and for none where none was. All
+/// else of a line means what it does in format 1.
 pub fn uses_mean_their_cuts()
     ensures cut { (cuts : List CutTextOf) (number : ℕ) (cut : CutTextOf) → slice_get cuts number ≡ Some cut
         → named_meaning cuts (named_line.UseCut number) ≡ standing (log_line.Leaf (log_leaf.Cut cut)) }
@@ -58,12 +59,19 @@ pub fn uses_mean_their_cuts()
     ensures no_cut { (cuts : List CutTextOf) (number : ℕ) → length cuts ≤ number → named_meaning cuts (named_line.UseCut number) ≡ lacking }
     ensures no_dual { (cuts : List CutTextOf) (divisor : ℕ) (uses : List (ℕ × ℕ)) → (All (λ one. one.1 < length cuts) uses → ⊥)
         → named_meaning cuts (named_line.UseDual divisor uses) ≡ lacking }
+    ensures split { (cuts : List CutTextOf) (candidate : ℕ) → named_meaning cuts (named_line.Split candidate) ≡ standing (log_line.Split candidate) }
+    ensures cost { (cuts : List CutTextOf) → named_meaning cuts named_line.Cost ≡ standing (log_line.Leaf log_leaf.Cost) }
+    ensures pivot { (cuts : List CutTextOf) (limit : ℕ) → named_meaning cuts (named_line.Pivot limit) ≡ standing (log_line.Leaf (log_leaf.Pivot limit)) }
 {}
 
-/// What lines stand for, from the front: more lines stand for the lines of a tree that follow those
-/// before them, and see the cuts that these name. In format 1 lines stand for themselves and name
-/// no cut.
+/// What lines stand for, one by one: a line of the tree for itself, a name for none, and a use of a
+/// cut that isn't named leaves nothing that they could stand for. More lines stand for the lines of
+/// a tree that follow those before them, and see the cuts that these name. In format 1 lines stand
+/// for themselves and name no cut.
 pub fn lines_stand_one_after_another()
+    ensures none { (format : FormatOf) (cuts : List CutTextOf) → nodes_in format cuts [] ≡ Some [] }
+    ensures one { (format : FormatOf) (cuts : List CutTextOf) (line : LineIn format) (node : LineOf) → meaning_in format cuts line ≡ standing node → nodes_in format cuts (line ∷ []) ≡ Some (node ∷ []) }
+    ensures lacks { (format : FormatOf) (cuts : List CutTextOf) (line : LineIn format) → meaning_in format cuts line ≡ lacking → nodes_in format cuts (line ∷ []) ≡ None }
     ensures more { (format : FormatOf) (cuts : List CutTextOf) (xs ys : List (LineIn format))
         → nodes_in format cuts (xs ++ ys) ≡ joined_nodes (nodes_in format cuts xs) (nodes_in format (cuts ++ cuts_named format xs) ys) }
     ensures names { (cuts : List CutTextOf) (cut : CutTextOf) (lines : List NamedOf)
