@@ -7,7 +7,7 @@ use Rattle.whole_algebra.specs.Matrices.{at}
 use Rattle.whole_algebra.specs.Chains.{beside}
 use Rattle.whole_algebra.proofs.Ring.{add_zero, zero_add, add_assoc}
 use Rattle.whole_algebra.proofs.Rounding.{gap_range}
-use Rattle.chain_step.specs.Step.{gap_at, sum_from, slack_of}
+use Rattle.chain_step.specs.Step.{gap_at, sum_from, left_of, right_of, slack_of}
 
 -- ---- sums of numbers from a place on
 pub one_more : (f : ℕ → ℤ) (first count : ℕ) → sum_from f first (count + 1) ≡ sum_from f first count +ℤ f (first + count)
@@ -71,17 +71,22 @@ counted f p (suc n) h =
     high : (s t : ℤ) (n : ℕ) → s ≤ℤ pos n → t ≤ℤ pos 1 → (s +ℤ t) ≤ℤ pos (suc n)
     high s t n h g = omega (arith, ints)
 
--- ---- the slack of a row
-pub slack_range : (pivot : List ℤ) (k : ℕ) → k < length pivot → (pos 0 ≤ℤ slack_of pivot k) × (slack_of pivot k ≤ℤ pos (length pivot))
-slack_range pivot k lt =
-    let f = gap_at pivot k in
-    let range = λ (j : ℕ). gap_range (at pivot 0) (neg_ℤ (at pivot k *ℤ at pivot j)) in
-    let left = counted f 1 (k - 1) range in
-    let right = counted f (k + 1) (length pivot - (k + 1)) range in
-    both (sum_from f 1 (k - 1)) (sum_from f (k + 1) (length pivot - (k + 1))) (k - 1) (length pivot - (k + 1)) (length pivot) (omega arith) left.0 left.1 right.0 right.1
+-- ---- the slack of a row, right of its diagonal and left of it
+pub right_range : (pivot : List ℤ) (k : ℕ) → k < length pivot → (pos 0 ≤ℤ right_of pivot k) × (right_of pivot k ≤ℤ pos (length pivot))
+right_range pivot k lt =
+    let right = counted (gap_at pivot k) (k + 1) (length pivot - (k + 1)) (λ (j : ℕ). gap_range (at pivot 0) (neg_ℤ (at pivot k *ℤ at pivot j))) in
+    (right.0, most (right_of pivot k) (length pivot - (k + 1)) (length pivot) (omega arith) right.1)
   where
-    both : (s t : ℤ) (x y n : ℕ) → x + y ≤ n → pos 0 ≤ℤ s → s ≤ℤ pos x → pos 0 ≤ℤ t → t ≤ℤ pos y → (pos 0 ≤ℤ (s +ℤ t)) × ((s +ℤ t) ≤ℤ pos n)
-    both s t x y n le a b c d = (omega (arith, ints), omega (arith, ints))
+    most : (t : ℤ) (y n : ℕ) → y ≤ n → t ≤ℤ pos y → t ≤ℤ pos n
+    most t y n le h = omega (arith, ints)
+
+pub left_range : (pivot : List ℤ) (k : ℕ) → k ≤ 64 → (pos 0 ≤ℤ left_of pivot k) × (left_of pivot k ≤ℤ pos 64)
+left_range pivot k few =
+    let left = counted (gap_at pivot k) 1 (k - 1) (λ (j : ℕ). gap_range (at pivot 0) (neg_ℤ (at pivot k *ℤ at pivot j))) in
+    (left.0, most (left_of pivot k) (k - 1) (omega arith) left.1)
+  where
+    most : (t : ℤ) (y : ℕ) → y ≤ 64 → t ≤ℤ pos y → t ≤ℤ pos 64
+    most t y le h = omega (arith, ints)
 
 -- with the gap of the diagonal it is the sum over all columns but the pivot's
 pub slack_and_own : (pivot : List ℤ) (k : ℕ) → 1 ≤ k → k < length pivot

@@ -10,3 +10,4 @@ pub mod Matrices
 pub mod StepsSoFar
 pub mod WrittenRows
 pub mod SameRows
+pub mod Counts

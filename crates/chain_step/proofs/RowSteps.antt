@@ -1,5 +1,5 @@
 -- A step on one row is the step of the recursion, read at that row.
-use Rattle.std.proofs.Common.{◌≡◌, ℕ, zero, suc, ◌+◌, ◌-◌, ◌^◌, ◌<◌, ◌≤◌, false, List, [], ◌∷◌, length, refl, sym, ◌∙◌, ap, ap₂, subst, arith, inl, inr, ℤ, pos, ◌+ℤ◌, ◌*ℤ◌, neg_ℤ, ◌≤ℤ◌, ◌<ℤ◌, unsigned_abs}
+use Rattle.std.proofs.Common.{set, ◌≡◌, ℕ, zero, suc, ◌+◌, ◌-◌, ◌^◌, ◌<◌, ◌≤◌, false, List, [], ◌∷◌, length, refl, sym, ◌∙◌, ap, ap₂, subst, arith, inl, inr, ℤ, pos, ◌+ℤ◌, ◌*ℤ◌, neg_ℤ, ◌≤ℤ◌, ◌<ℤ◌, unsigned_abs}
 use Rattle.std.specs.List.{list_all}
 use Rattle.std.proofs.lemmas.Int.{ints}
 use Rattle.std.proofs.lemmas.Bool.{cases_lt}
@@ -15,10 +15,10 @@ use Rattle.whole_algebra.proofs.ChainLaws.{step_cases, positive, is_zero-true, a
 use Rattle.whole_algebra.proofs.Refutation.{false_is_not_true}
 use Rattle.lent_parts.proofs.Triangles.{length-tri_row}
 use Rattle.chain_step.proofs.RowLaws.{nothing_past}
-use Rattle.chain_step.specs.Step.{over_of, IsPivotRow, IsDividing, taken, gap_at, slack_of, with_slack}
+use Rattle.chain_step.specs.Step.{over_of, IsPivotRow, IsDividing, taken, gap_at, left_of, right_of, slack_of, with_slack, with_left}
 use Rattle.chain_step.specs.declared.side.Side.{Side}
 use Rattle.chain_step.specs.declared.side.Side.TheVariants.{Lower, Upper}
-use Rattle.chain_step.proofs.Gaps.{slack_and_own, slack_range, zeros}
+use Rattle.chain_step.proofs.Gaps.{slack_and_own, right_range, zeros}
 use Rattle.chain_step.proofs.Dividing.{pivot_of, dividing, floor_falls, ceil_falls}
 
 -- what code writes in a row whose diagonal is in column k
@@ -169,13 +169,118 @@ skipped_law side (a ∷ b) old (suc i) go one lt none (row ∷ rest) t first is 
     subst (λ r. old ≡ row_at (next (over_of side) r rest) i) (sym first) (skipped_next side a b rest old i go t.1 (omega arith) is none)
     ∙ ap (row_at (next (over_of side) row rest)) (sym (less_one i))
 
--- ---- how large a row becomes
-pub stepped_size : (side : Side) (pivot old new : List ℤ) (k : ℕ) → IsDividing pivot → 1 ≤ k → k < length pivot → IsStepped side pivot old new k
-    → (m : ℕ) → unsigned_abs (at new m) ≤ unsigned_abs (at old m) + 2 ^ 62
-stepped_size side pivot old new k d one lt stepped m =
+-- ---- a step but for the slack left of the diagonal
+pub record IsPart (side : Side) (pivot old new : List ℤ) (k : ℕ) : Type 0 where
+  pub long : length new ≡ length old
+  pub right : (m : ℕ) → 1 ≤ m → m < length old → at new m ≡ at old m +ℤ taken pivot k (k + m)
+  pub diagonal : at new 0 ≡ with_slack side (at old 0 +ℤ taken pivot k k) (gap_at pivot k k) (right_of pivot k)
+
+pub length-with_left : (side : Side) (slack : ℤ) (row : List ℤ) → length (with_left side slack row) ≡ length row
+length-with_left side slack [] = refl
+length-with_left side slack (head ∷ row) = refl
+
+beside_left : (side : Side) (slack : ℤ) (row : List ℤ) (m : ℕ) → 1 ≤ m → at (with_left side slack row) m ≡ at row m
+beside_left side slack [] m one = refl
+beside_left side slack (head ∷ row) zero one = absurd (omega arith)
+beside_left side slack (head ∷ row) (suc m) one = refl
+
+head_left : (side : Side) (slack : ℤ) (row : List ℤ) → 0 < length row → at (with_left side slack row) 0 ≡ with_slack side (at row 0) (pos 0) slack
+head_left side slack [] some = absurd (omega arith)
+head_left side slack (head ∷ row) some = refl
+
+-- where nothing is lacking
+pub none_lacking : (side : Side) (row : List ℤ) → with_left side (pos 0) row ≡ row
+none_lacking side [] = refl
+none_lacking side (head ∷ row) = ap (λ h. h ∷ row) (same side head)
+  where
+    same : (side : Side) (h : ℤ) → with_slack side h (pos 0) (pos 0) ≡ h
+    same Lower h = omega (arith, ints)
+    same Upper h = omega (arith, ints)
+
+-- with all that is lacking it is the whole step
+whole_step : (side : Side) (pivot old new : List ℤ) (k : ℕ) (slack : ℤ) → 0 < length old → IsPart side pivot old new k
+    → IsStepped side pivot (with_left side slack old) (with_left side (slack +ℤ left_of pivot k) new) k
+whole_step side pivot old new k slack some part = record {
+  long = length-with_left side (slack +ℤ left_of pivot k) new ∙ (part.long ∙ sym (length-with_left side slack old));
+  right = λ m one lt. beside_left side (slack +ℤ left_of pivot k) new m one
+      ∙ (part.right m one (let l = length-with_left side slack old in omega arith)
+      ∙ ap (λ z. z +ℤ taken pivot k (k + m)) (sym (beside_left side slack old m one)));
+  diagonal = head_left side (slack +ℤ left_of pivot k) new (let l = part.long in omega arith)
+      ∙ gathered side (at old 0) (at (with_left side slack old) 0) (at new 0) slack (left_of pivot k) (right_of pivot k) (taken pivot k k) (gap_at pivot k k)
+      part.diagonal (head_left side slack old some);
+}
+  where
+    gathered : (side : Side) (h p n d l r f g : ℤ) → n ≡ with_slack side (h +ℤ f) g r → p ≡ with_slack side h (pos 0) d
+        → with_slack side n (pos 0) (d +ℤ l) ≡ with_slack side (p +ℤ f) g (l +ℤ r)
+    gathered Lower h p n d l r f g e1 e2 = omega (arith, ints)
+    gathered Upper h p n d l r f g e1 e2 = omega (arith, ints)
+
+pub part_law : (side : Side) (pivot old new : List ℤ) (k : ℕ) → 0 < length old → is_stop (step_of pivot) ≡ false → 1 ≤ k → k < length pivot → pos 0 <ℤ at pivot 0
+    → IsPart side pivot old new k
+    → (slack : ℤ) (matrix : List (List ℤ)) → IsTriangle (length pivot) matrix → row_at matrix 0 ≡ pivot → row_at matrix k ≡ with_left side slack old
+    → with_left side (slack +ℤ left_of pivot k) new ≡ row_at (matrix_after (over_of side) 1 matrix) (k - 1)
+part_law side pivot old new k some go one lt above part slack matrix t first is =
+    stepped_law side pivot (with_left side slack old) (with_left side (slack +ℤ left_of pivot k) new) k go one lt above
+    (whole_step side pivot old new k slack some part) matrix t first is
+
+-- beside a 0 nothing is counted
+pub nothing_counted : (pivot : List ℤ) (k j : ℕ) → is_stop (step_of pivot) ≡ false → at pivot k ≡ pos 0 → gap_at pivot k j ≡ pos 0
+nothing_counted [] k j go e = refl
+nothing_counted (a ∷ b) k j go e =
+    step_cases (λ s. is_stop s ≡ false → gap_at (a ∷ b) k j ≡ pos 0) a b
+    (λ zeros _. ap₂ gap_over (is_zero-true a (and_left (is_zero a) (list_all is_zero b) zeros)) none)
+    (λ _ _ f. absurd (false_is_not_true (sym f)))
+    (λ _ _ f. absurd (false_is_not_true (sym f)))
+    (λ above _ _. (nothing_taken (a ∷ b) k j (positive a above) e).1)
+    go
+  where
+    none : neg_ℤ (at (a ∷ b) k *ℤ at (a ∷ b) j) ≡ pos 0
+    none = ap (λ z. neg_ℤ (z *ℤ at (a ∷ b) j)) e ∙ ap neg_ℤ (mul_comm (pos 0) (at (a ∷ b) j) ∙ mul_zero (at (a ∷ b) j))
+
+pub skipped_part_law : (side : Side) (pivot old : List ℤ) (k : ℕ) → is_stop (step_of pivot) ≡ false → 1 ≤ k → k < length pivot → at pivot k ≡ pos 0
+    → (slack : ℤ) (matrix : List (List ℤ)) → IsTriangle (length pivot) matrix → row_at matrix 0 ≡ pivot → row_at matrix k ≡ with_left side slack old
+    → with_left side (slack +ℤ left_of pivot k) old ≡ row_at (matrix_after (over_of side) 1 matrix) (k - 1)
+skipped_part_law side pivot old k go one lt none slack matrix t first is =
+    ap (λ s. with_left side s old) (nothing_more slack (left_of pivot k) (zeros (gap_at pivot k) 1 (k - 1) (λ j. nothing_counted pivot k j go none)))
+    ∙ skipped_law side pivot (with_left side slack old) k go one lt none matrix t first is
+  where
+    nothing_more : (s t : ℤ) → t ≡ pos 0 → s +ℤ t ≡ s
+    nothing_more s t e = omega (arith, ints)
+
+-- the slack that was lacking is added
+pub made_whole : (side : Side) (row : List ℤ) (slack number : ℤ) → 0 < length row → number ≡ with_slack side (at row 0) (pos 0) slack → set row 0 number ≡ with_left side slack row
+made_whole side [] slack number some e = absurd (omega arith)
+made_whole side (head ∷ row) slack number some e = ap (λ h. h ∷ row) e
+
+-- ---- numbers that are counted
+pub counted_more : (old new : List ℤ) (pivot : List ℤ) (k : ℕ) → length new ≡ length old → at new 0 ≡ at old 0
+    → ((m : ℕ) → 1 ≤ m → m < length old → at new m ≡ at old m +ℤ gap_at pivot k (k + m))
+    → (m : ℕ) → unsigned_abs (at new m) ≤ unsigned_abs (at old m) + 1
+counted_more old new pivot k long first others m =
     elim (cases_lt m (length old)) [
       | inl inside ↦ within m inside
-      | inr past ↦ (let e = nothing_past new m (let l = stepped.long in omega arith) in subst (λ z. unsigned_abs z ≤ unsigned_abs (at old m) + 2 ^ 62) (sym e) (omega arith))
+      | inr past ↦ (let e = nothing_past new m (omega arith) in subst (λ z. unsigned_abs z ≤ unsigned_abs (at old m) + 1) (sym e) (omega arith))
+    ]
+  where
+    one_more : (c n g : ℤ) → n ≡ c +ℤ g → pos 0 ≤ℤ g → g ≤ℤ pos 1 → unsigned_abs n ≤ unsigned_abs c + 1
+    one_more c n g e low high = omega (arith, ints)
+
+    same : (c n : ℤ) → n ≡ c → unsigned_abs n ≤ unsigned_abs c + 1
+    same c n e = omega (arith, ints)
+
+    within : (m : ℕ) → m < length old → unsigned_abs (at new m) ≤ unsigned_abs (at old m) + 1
+    within zero inside = same (at old 0) (at new 0) first
+    within (suc m) inside =
+        let gap = gap_range (at pivot 0) (neg_ℤ (at pivot k *ℤ at pivot (k + suc m))) in
+        one_more (at old (suc m)) (at new (suc m)) (gap_at pivot k (k + suc m)) (others (suc m) (omega arith) inside) gap.0 gap.1
+
+-- ---- how large a row becomes
+pub part_size : (side : Side) (pivot old new : List ℤ) (k : ℕ) → IsDividing pivot → 1 ≤ k → k < length pivot → IsPart side pivot old new k
+    → (m : ℕ) → unsigned_abs (at new m) ≤ unsigned_abs (at old m) + 2 ^ 62
+part_size side pivot old new k d one lt part m =
+    elim (cases_lt m (length old)) [
+      | inl inside ↦ within m inside
+      | inr past ↦ (let e = nothing_past new m (let l = part.long in omega arith) in subst (λ z. unsigned_abs z ≤ unsigned_abs (at old m) + 2 ^ 62) (sym e) (omega arith))
     ]
   where
     entry : (c f : ℤ) → unsigned_abs f ≤ 2 ^ 61 → unsigned_abs (c +ℤ f) ≤ unsigned_abs c + 2 ^ 62
@@ -191,19 +296,19 @@ stepped_size side pivot old new k d one lt stepped m =
     within : (m : ℕ) → m < length old → unsigned_abs (at new m) ≤ unsigned_abs (at old m) + 2 ^ 62
     within zero inside =
         let gap = gap_range (at pivot 0) (neg_ℤ (at pivot k *ℤ at pivot k)) in
-        let slack = slack_range pivot k lt in
-        subst (λ z. unsigned_abs z ≤ unsigned_abs (at old 0) + 2 ^ 62) (sym stepped.diagonal)
-        (head side (at old 0) (taken pivot k k) (gap_at pivot k k) (slack_of pivot k) (d.taken_size k k one one) gap.0 gap.1 slack.0 (most (slack_of pivot k) (length pivot) slack.1 d.few))
+        let slack = right_range pivot k lt in
+        subst (λ z. unsigned_abs z ≤ unsigned_abs (at old 0) + 2 ^ 62) (sym part.diagonal)
+        (head side (at old 0) (taken pivot k k) (gap_at pivot k k) (right_of pivot k) (d.taken_size k k one one) gap.0 gap.1 slack.0 (most (right_of pivot k) (length pivot) slack.1 d.few))
     within (suc m) inside =
-        subst (λ z. unsigned_abs z ≤ unsigned_abs (at old (suc m)) + 2 ^ 62) (sym (stepped.right (suc m) (omega arith) inside))
+        subst (λ z. unsigned_abs z ≤ unsigned_abs (at old (suc m)) + 2 ^ 62) (sym (part.right (suc m) (omega arith) inside))
         (entry (at old (suc m)) (taken pivot k (k + suc m)) (d.taken_size k (k + suc m) one (omega arith)))
 
-pub stepped_head : (side : Side) (pivot old new : List ℤ) (k : ℕ) → IsDividing pivot → k < length pivot → IsStepped side pivot old new k → at new 0 ≤ℤ (at old 0 +ℤ pos 64)
-stepped_head side pivot old new k d lt stepped =
+pub part_head : (side : Side) (pivot old new : List ℤ) (k : ℕ) → IsDividing pivot → k < length pivot → IsPart side pivot old new k → at new 0 ≤ℤ (at old 0 +ℤ pos 64)
+part_head side pivot old new k d lt part =
     let gap = gap_range (at pivot 0) (neg_ℤ (at pivot k *ℤ at pivot k)) in
-    let slack = slack_range pivot k lt in
-    subst (λ z. z ≤ℤ (at old 0 +ℤ pos 64)) (sym stepped.diagonal)
-    (head side (at old 0) (taken pivot k k) (gap_at pivot k k) (slack_of pivot k) (length pivot) (floor_falls (at pivot 0) (at pivot k) d.above) (ceil_falls (at pivot 0) (at pivot k) d.above) slack.0 slack.1 d.few)
+    let slack = right_range pivot k lt in
+    subst (λ z. z ≤ℤ (at old 0 +ℤ pos 64)) (sym part.diagonal)
+    (head side (at old 0) (taken pivot k k) (gap_at pivot k k) (right_of pivot k) (length pivot) (floor_falls (at pivot 0) (at pivot k) d.above) (ceil_falls (at pivot 0) (at pivot k) d.above) slack.0 slack.1 d.few)
   where
     head : (side : Side) (c f g s : ℤ) (n : ℕ) → f ≤ℤ pos 0 → (f +ℤ g) ≤ℤ pos 0 → pos 0 ≤ℤ s → s ≤ℤ pos n → n ≤ 64 → with_slack side (c +ℤ f) g s ≤ℤ (c +ℤ pos 64)
     head Lower c f g s n h k s0 s1 le = omega (arith, ints)

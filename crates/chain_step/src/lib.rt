@@ -11,6 +11,7 @@
 mod arithmetic;
 mod first_row;
 mod laws;
+mod left_side;
 mod side;
 mod step;
 mod steps;
@@ -19,6 +20,7 @@ mod stop;
 pub use arithmetic::{PIVOT_SIZE, product};
 pub use first_row::is_zero_row;
 pub use laws::equal_first_rows_give_equal_chains;
+pub use left_side::left_gaps;
 pub use side::Side;
 pub use step::take_step;
 pub use steps::take_steps;

@@ -50,3 +50,4 @@ pub record KeepsFirst (count : ℕ) (before after : Factors) : Type 0 where
 pub record IsRoom (n : ℕ) (room : GridRows) : Type 0 where
   pub lower : length room.lower ≡ n
   pub upper : length room.upper ≡ n
+  pub gaps : length room.gaps ≡ n

@@ -12,7 +12,7 @@ use crate::rows::{put_rows, save_rows};
 use chain_step::Side;
 use geo_base::NoMemory;
 use lent_parts::Tri;
-use pivot_chain::{Stop, step_row};
+use pivot_chain::{Stop, divided_slack, step_row};
 use std::alloc::Global;
 
 /// The rows of a chain, and where it stops. The rows after the stop are of no use.
@@ -45,23 +45,27 @@ impl Chain {
         }
     }
 
-    // Takes on row `k` of a matrix the steps of the rows before it, unless the chain has stopped.
-    pub(crate) fn take_row(&mut self, side: Side, matrix: &mut Tri, k: u32)
+    // Takes on row `k` of a matrix the steps of the rows before it, unless the chain has stopped. The
+    // counts of quotients that aren't whole are of no use: a chain keeps none.
+    pub(crate) fn take_row(&mut self, side: Side, matrix: &mut Tri, gaps: &mut Tri, k: u32)
         requires within { k < length self.old.rows }
         requires same { length matrix.old ≡ length self.old.rows }
         requires few { length self.old.rows ≤ 64 }
         requires pivots { IsNone self.old.stop → (j : ℕ) → j < k → IsPivotRow (tri_row self.old.rows j) }
         requires size { (m : ℕ) → unsigned_abs (at (tri_row matrix.old k) m) < 2 ^ 109 }
         requires head { at (tri_row matrix.old k) 0 ≤ℤ pos (2 ^ 60 + 64) }
+        requires counted { length gaps.old ≡ length self.old.rows }
         ensures run { (first : List (List ℤ)) → IsSmall first → HasRun side first k self.old → tri_row matrix.old k ≡ row_at first k → HasRun side first (k + 1) self.new }
         ensures others { (j : ℕ) → j < k → tri_row self.new.rows j ≡ tri_row self.old.rows j }
         ensures places { length self.new.rows ≡ length self.old.rows }
         ensures left { length matrix.new ≡ length matrix.old }
+        ensures gaps { length gaps.new ≡ length gaps.old }
     {
         if self.stop.is_some() {
             return;
         }
-        if let Some(value) = step_row(side, matrix, &mut self.rows, k) {
+        let slack = divided_slack(&self.rows, k);
+        if let Some(value) = step_row(side, matrix, &mut self.rows, gaps, slack, k) {
             self.stop = Some(Stop { step: k + 1, value });
         }
     }

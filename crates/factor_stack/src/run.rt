@@ -12,11 +12,12 @@ use pivot_chain::{Grids, write_rows};
 use std::alloc::Global;
 use std::sync::ledger::Ledger;
 
-/// Room for the rows of the two grid matrices.
+/// Room for the rows of the two grid matrices, and for counts of quotients that aren't whole.
 #[derive(Debug, Drop)]
 pub struct GridRows {
     pub lower: Tri,
     pub upper: Tri,
+    pub gaps: Tri,
 }
 
 impl GridRows {
@@ -27,7 +28,8 @@ impl GridRows {
     {
         let lower = Tri::new(alloc, n)?;
         let upper = Tri::new(alloc, n)?;
-        Ok(GridRows { lower, upper })
+        let gaps = Tri::new(alloc, n)?;
+        Ok(GridRows { lower, upper, gaps })
     }
 }
 
@@ -78,7 +80,11 @@ fn step_place<L: Ledger>(
     // The network's bounds, for the proof.
     let _bounds = grids.network.candidates();
     write_rows(grids, k, &mut room.lower, &mut room.upper);
-    factors.lower.take_row(Side::Lower, &mut room.lower, k);
-    factors.upper.take_row(Side::Upper, &mut room.upper, k);
+    factors
+        .lower
+        .take_row(Side::Lower, &mut room.lower, &mut room.gaps, k);
+    factors
+        .upper
+        .take_row(Side::Upper, &mut room.upper, &mut room.gaps, k);
     steps.tick();
 }

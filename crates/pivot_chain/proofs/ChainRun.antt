@@ -1,15 +1,17 @@
 -- A chain as a loop runs it: what each row adds.
-use Rattle.std.proofs.Common.{◌≡◌, ℕ, zero, suc, ◌+◌, ◌<◌, ◌≤◌, false, List, [], ◌∷◌, length, take, refl, sym, ◌∙◌, ap, subst, arith, inl, inr, ℤ}
+use Rattle.std.proofs.Common.{◌≡◌, ℕ, zero, suc, ◌+◌, ◌<◌, ◌≤◌, false, List, [], ◌∷◌, length, take, refl, sym, ◌∙◌, ap, subst, arith, inl, inr, ℤ, pos, ◌≤ℤ◌, unsigned_abs, ◌-◌}
 use Rattle.std.proofs.lemmas.Grind.{common_steps}
 use Rattle.std.proofs.lemmas.Bool.{cases_lt}
-use Rattle.whole_algebra.specs.Matrices.{IsTriangle}
+use Rattle.std.proofs.lemmas.Int.{ints}
+use Rattle.whole_algebra.specs.Matrices.{at, IsTriangle}
 use Rattle.whole_algebra.specs.Chains.{step_of, is_stop, stop, matrix_after, stops}
 use Rattle.whole_algebra.specs.Grid.{row_at}
-use Rattle.lent_parts.specs.Triangle.{tri_row}
-use Rattle.chain_step.specs.Step.{over_of, IsPivotRow}
-use Rattle.pivot_chain.specs.Chain.{chain_of, StopsAt}
+use Rattle.lent_parts.specs.Triangle.{IsTri, tri_row}
+use Rattle.chain_step.specs.Step.{over_of, IsPivotRow, sum_from, left_slack, gap_count}
+use Rattle.pivot_chain.specs.Chain.{chain_of, StopsAt, HasGaps}
 use Rattle.chain_step.specs.declared.side.Side.{Side}
 use Rattle.chain_step.proofs.Matrices.{GoesOn}
+use Rattle.chain_step.proofs.Counts.{slack_counted, gap_count_same, gap_count_range}
 use Rattle.pivot_chain.proofs.ChainSteps.{no_stop, stops_at}
 
 -- the rows before row k, as they are lent
@@ -32,7 +34,39 @@ pub record IsSoFar (side : Side) (first : List (List ℤ)) (k : ℕ) (rows : Lis
 pub begun : (side : Side) (first rows : List (List ℤ)) → length rows ≡ length first → IsSoFar side first 0 rows
 begun side first rows places = record { places = places; done = λ j lt. absurd (omega arith); pivots = λ j lt. absurd (omega arith) }
 
--- row k is done, and no other row changed
+-- ---- what the rows before row k counted
+pub none_counted : (rows gaps : List (List ℤ)) → HasGaps rows gaps 0
+none_counted rows gaps i m lt one inside = absurd (omega arith)
+
+-- row k counted, and no other row changed
+pub gaps_more : (rows new gaps counts : List (List ℤ)) (k : ℕ) → HasGaps rows gaps k → length new ≡ length rows
+    → ((j : ℕ) → (j ≡ k → ⊥) → tri_row new j ≡ tri_row rows j) → ((j : ℕ) → (j ≡ k → ⊥) → tri_row counts j ≡ tri_row gaps j)
+    → ((m : ℕ) → 1 ≤ m → k + m < length rows → at (tri_row counts k) m ≡ gap_count rows (length rows - k) m k)
+    → HasGaps new counts (k + 1)
+gaps_more rows new gaps counts k before places others counted here i m lt one inside =
+    elim (cases_lt i k) [
+      | inl l ↦ ap (λ row. at row m) (counted i (λ e. absurd (omega arith))) ∙ (before i m l one (omega arith) ∙ same i (omega arith))
+      | inr g ↦ (let at_k : i ≡ k = omega arith in
+          subst (λ j. at (tri_row counts j) m ≡ gap_count new (length new - j) m j) (sym at_k) (here m one (omega arith) ∙ same k (omega arith)))
+    ]
+  where
+    same : (j : ℕ) → j ≤ k → gap_count rows (length rows - j) m j ≡ gap_count new (length new - j) m j
+    same j le = ap (λ n. gap_count rows (n - j) m j) (sym places) ∙ gap_count_same rows new (length new - j) m j (λ t less. sym (others t (λ e. absurd (omega arith))))
+
+pub slack_here : (rows gaps : List (List ℤ)) (k : ℕ) → IsTri (length rows) rows → k < length rows → HasGaps rows gaps k
+    → sum_from (λ j. at (tri_row gaps j) (k - j)) 0 k ≡ left_slack rows (length rows - k) k
+slack_here rows gaps k shape lt before = slack_counted (length rows) k rows gaps shape lt before
+
+pub few_here : (rows gaps : List (List ℤ)) (k : ℕ) → length rows ≤ 64 → k < length rows → HasGaps rows gaps k
+    → (j : ℕ) → j < k → unsigned_abs (at (tri_row gaps j) (k - j)) ≤ 64
+few_here rows gaps k few lt before j less =
+    let range = gap_count_range rows (length rows - j) (k - j) j in
+    within (at (tri_row gaps j) (k - j)) (gap_count rows (length rows - j) (k - j) j) j (before j (k - j) less (omega arith) (omega arith)) (omega arith) range.0 range.1
+  where
+    within : (s t : ℤ) (n : ℕ) → s ≡ t → n ≤ 64 → pos 0 ≤ℤ t → t ≤ℤ pos n → unsigned_abs s ≤ 64
+    within s t n e le low high = omega (arith, ints)
+
+-- ---- row k is done, and no other row changed
 pub done_more : (side : Side) (first rows new : List (List ℤ)) (k : ℕ) → IsSoFar side first k rows
     → ((j : ℕ) → (j ≡ k → ⊥) → tri_row new j ≡ tri_row rows j) → tri_row new k ≡ row_at (matrix_after (over_of side) k first) 0
     → (j : ℕ) → j < k + 1 → tri_row new j ≡ row_at (matrix_after (over_of side) j first) 0

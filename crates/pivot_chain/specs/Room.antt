@@ -6,25 +6,29 @@ use Rattle.normal_matrix.specs.Normal.{NormalOf, IsNormalOf}
 use Rattle.limit_forms.specs.Form.{IsFullDiagonal}
 use Rattle.limit_forms.specs.Grid.{GridOf}
 
--- a normal matrix, a grid, the diagonal of the normal matrix of all candidates, rows of the two grid matrices of a
--- limit, and the rows of a chain
+-- two normal matrices, a grid, the diagonal of the normal matrix of all candidates, rows of the two grid matrices of a
+-- limit, the rows of a chain, and their counts of quotients that aren't whole
 pub record ChainsOf : Type 0 where
   pub normal : NormalOf
+  pub other : NormalOf
   pub grid : GridOf
   pub diagonal : List ℤ
   pub lower : List (List ℤ)
   pub upper : List (List ℤ)
   pub rows : List (List ℤ)
+  pub gaps : List (List ℤ)
 
--- The chains of this network can be run in it, whatever plan and limit it was used for before: its normal matrix is the
--- one of some plan, and it has a place for each unknown.
+-- The chains of this network can be run in it, whatever plan and limit it was used for before: its normal matrices are
+-- each the one of some plan, and it has a place for each unknown.
 pub record IsChainsOf (network : NetworkOf) (chains : ChainsOf) : Type 0 where
   pub normal : IsNormalOf network chains.normal
+  pub other : IsNormalOf network chains.other
   pub grid : length chains.grid.order ≡ length network.unknowns
   pub diagonal : IsFullDiagonal network chains.diagonal
   pub lower : length chains.lower ≡ length network.unknowns
   pub upper : length chains.upper ≡ length network.unknowns
   pub rows : length chains.rows ≡ length network.unknowns
+  pub gaps : length chains.gaps ≡ length network.unknowns
 
 -- what chains are run in, and squares of rows
 pub record RoomOf : Type 0 where

@@ -12,7 +12,7 @@ ghost use Rattle.pivot_chain.specs.Room.{IsRoomOf, IsChainsOf};
 ghost use Rattle.pivot_chain.specs.Verdict.{verdict_from, verdict_of, verdict_on};
 
 use crate::grids::Grids;
-use crate::plan::bring_to;
+use crate::plan::{bring_to, take_nearer};
 use crate::room::{ChainRoom, Chains};
 use crate::row_squares::write_row;
 use crate::run::{run_lower, run_upper};
@@ -147,6 +147,7 @@ fn verdict_on(
     ensures exact { result ≡ verdict_on network.now plan.now factor squares.now }
     ensures kept { IsChainsOf network.now chains.new }
 {
+    take_nearer(&mut chains.normal, &mut chains.other, network, plan);
     bring_to(&mut chains.normal, network, plan);
     let diagonal = chains.diagonal.as_slice();
     chains.grid.retake_known(network, diagonal, factor, squares);
@@ -162,24 +163,33 @@ fn verdict_on(
         &mut chains.lower,
         &mut chains.upper,
         &mut chains.rows,
+        &mut chains.gaps,
     )
 }
 
 // The verdict that the chains of the two grid matrices give.
-fn judge(grids: &Grids<'_>, lower: &mut Tri, upper: &mut Tri, rows: &mut Tri) -> Verdict
+fn judge(
+    grids: &Grids<'_>,
+    lower: &mut Tri,
+    upper: &mut Tri,
+    rows: &mut Tri,
+    gaps: &mut Tri,
+) -> Verdict
     requires made { IsMade grids.now }
     requires lower_room { length lower.old ≡ length grids.now.network.now.unknowns }
     requires upper_room { length upper.old ≡ length grids.now.network.now.unknowns }
     requires rows_room { length rows.old ≡ length grids.now.network.now.unknowns }
+    requires gaps_room { length gaps.old ≡ length grids.now.network.now.unknowns }
     ensures exact { result ≡ verdict_from (outcome_on (lower_of grids.now) (upper_of grids.now)) }
     ensures lower_size { length lower.new ≡ length lower.old }
     ensures upper_size { length upper.new ≡ length upper.old }
     ensures rows_size { length rows.new ≡ length rows.old }
+    ensures gaps_size { length gaps.new ≡ length gaps.old }
 {
-    let Some(low) = run_lower(grids, lower, upper, rows) else {
+    let Some(low) = run_lower(grids, lower, upper, rows, gaps) else {
         return Verdict::Met;
     };
-    match run_upper(grids, low.step, lower, upper, rows) {
+    match run_upper(grids, low.step, lower, upper, rows, gaps) {
         Some(_high) => Verdict::Refuted,
         None => Verdict::Open {
             step: low.step,

@@ -13,6 +13,7 @@
 #![tactic(auto)]
 
 mod chain;
+mod gaps;
 mod grids;
 mod judging;
 mod laws;
@@ -23,6 +24,7 @@ mod row_squares;
 mod run;
 
 pub use chain::{Stop, step_row};
+pub use gaps::divided_slack;
 pub use grids::{Grids, write_rows};
 pub use judging::{redundancy_at, verdict, verdict_at};
 pub use laws::{

@@ -14,11 +14,14 @@ use std::marker::Model;
 #[derive(Debug, Drop)]
 pub(crate) struct Chains {
     pub(crate) normal: Normal,
+    // Who asks for the verdicts of two plans in turn finds the other one's matrix here.
+    pub(crate) other: Normal,
     pub(crate) grid: LimitGrid,
     pub(crate) diagonal: Vec<i128>,
     pub(crate) lower: Tri,
     pub(crate) upper: Tri,
     pub(crate) rows: Tri,
+    pub(crate) gaps: Tri,
 }
 
 impl Model for Chains {
@@ -26,7 +29,7 @@ impl Model for Chains {
 
     ghost Value = { ChainsOf };
 
-    ghost view = { λ chains. record { normal = chains.normal; grid = chains.grid; diagonal = chains.diagonal.items; lower = chains.lower; upper = chains.upper; rows = chains.rows } };
+    ghost view = { λ chains. record { normal = chains.normal; other = chains.other; grid = chains.grid; diagonal = chains.diagonal.items; lower = chains.lower; upper = chains.upper; rows = chains.rows; gaps = chains.gaps } };
 }
 
 /// All the memory that verdicts on the limits of a network need. A verdict depends on nothing that
@@ -52,18 +55,22 @@ fn chains_for(alloc: Global, network: &Network) -> Result<Chains, NoMemory>
 {
     let size = network.unknowns().len() as u32;
     let normal = Normal::new(alloc, network)?;
+    let other = Normal::new(alloc, network)?;
     let grid = LimitGrid::new(alloc, network, 1, &[])?;
     let diagonal = full_diagonals(alloc, network)?;
     let lower = Tri::new(alloc, size)?;
     let upper = Tri::new(alloc, size)?;
     let rows = Tri::new(alloc, size)?;
+    let gaps = Tri::new(alloc, size)?;
     Ok(Chains {
         normal,
+        other,
         grid,
         diagonal,
         lower,
         upper,
         rows,
+        gaps,
     })
 }
 

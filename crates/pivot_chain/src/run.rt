@@ -9,6 +9,7 @@ ghost use Rattle.pivot_chain.specs.Chain.{chain_of, StopsAt};
 ghost use Rattle.pivot_chain.specs.Judging.{lower_of, upper_of, IsMade};
 
 use crate::chain::{Stop, step_row};
+use crate::gaps::counted_slack;
 use crate::grids::{Grids, write_rows, write_upper};
 use chain_step::Side;
 use lent_parts::Tri;
@@ -20,22 +21,26 @@ pub(crate) fn run_lower(
     lower: &mut Tri,
     upper: &mut Tri,
     rows: &mut Tri,
+    gaps: &mut Tri,
 ) -> Option<Stop>
     requires made { IsMade grids.now }
     requires lower_room { length lower.old ≡ length grids.now.network.now.unknowns }
     requires upper_room { length upper.old ≡ length grids.now.network.now.unknowns }
     requires rows_room { length rows.old ≡ length grids.now.network.now.unknowns }
+    requires gaps_room { length gaps.old ≡ length grids.now.network.now.unknowns }
     ensures stop { MatchOption result (IsFalse (stops (chain_of Lower (lower_of grids.now)))) (λ stop. StopsAt (chain_of Lower (lower_of grids.now)) stop) }
     ensures upper { IfSome result (λ stop. (k : ℕ) → k < stop.step → tri_row upper.new k ≡ row_at (upper_of grids.now) k) }
     ensures lower_size { length lower.new ≡ length lower.old }
     ensures upper_size { length upper.new ≡ length upper.old }
     ensures rows_size { length rows.new ≡ length rows.old }
+    ensures gaps_size { length gaps.new ≡ length gaps.old }
 {
     // The network's bounds, for the proof.
     let _bounds = grids.network.candidates();
     for k in 0..rows.size() {
         write_rows(grids, k, lower, upper);
-        if let Some(value) = step_row(Side::Lower, lower, rows, k) {
+        let slack = counted_slack(gaps, k);
+        if let Some(value) = step_row(Side::Lower, lower, rows, gaps, slack, k) {
             return Some(Stop { step: k + 1, value });
         }
     }
@@ -50,23 +55,27 @@ pub(crate) fn run_upper(
     spare: &mut Tri,
     upper: &mut Tri,
     rows: &mut Tri,
+    gaps: &mut Tri,
 ) -> Option<Stop>
     requires made { IsMade grids.now }
     requires spare_room { length spare.old ≡ length grids.now.network.now.unknowns }
     requires upper_room { length upper.old ≡ length grids.now.network.now.unknowns }
     requires rows_room { length rows.old ≡ length grids.now.network.now.unknowns }
+    requires gaps_room { length gaps.old ≡ length grids.now.network.now.unknowns }
     requires written { (k : ℕ) → k < written → tri_row upper.old k ≡ row_at (upper_of grids.now) k }
     ensures stop { MatchOption result (IsFalse (stops (chain_of Upper (upper_of grids.now)))) (λ stop. StopsAt (chain_of Upper (upper_of grids.now)) stop) }
     ensures rows { IsNone result → (k : ℕ) → k < length rows.old → tri_row rows.new k ≡ row_at (matrix_after upper_over k (upper_of grids.now)) 0 }
     ensures spare_size { length spare.new ≡ length spare.old }
     ensures upper_size { length upper.new ≡ length upper.old }
     ensures rows_size { length rows.new ≡ length rows.old }
+    ensures gaps_size { length gaps.new ≡ length gaps.old }
 {
     // The network's bounds, for the proof.
     let _bounds = grids.network.candidates();
     for k in 0..rows.size() {
         write_upper(grids, k, written, spare, upper);
-        if let Some(value) = step_row(Side::Upper, upper, rows, k) {
+        let slack = counted_slack(gaps, k);
+        if let Some(value) = step_row(Side::Upper, upper, rows, gaps, slack, k) {
             return Some(Stop { step: k + 1, value });
         }
     }

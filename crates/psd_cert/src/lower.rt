@@ -7,7 +7,7 @@ ghost use Rattle.chain_step.specs.Step.{IsPivotRow};
 ghost use Rattle.psd_cert.specs.Sizes.{RowFits, Fits};
 ghost use Rattle.psd_cert.specs.Lower.{StopsHere, Leaves};
 
-use chain_step::{Side, stop_of, take_step};
+use chain_step::{Side, left_gaps, stop_of, take_step};
 use geo_base::NoMemory;
 use lent_parts::Tri;
 use std::alloc::Global;
@@ -36,23 +36,33 @@ fn left_below(alloc: Global, current: &Tri) -> Result<Tri, NoMemory>
 {
     let size = current.size() - 1;
     let mut left = Tri::new(alloc, size)?;
+    let mut counts = Tri::new(alloc, size)?;
     for i in 0..size {
-        write_left(left.row_mut(i), current.row(i + 1), current.row(0));
+        write_left(
+            left.row_mut(i),
+            counts.row_mut(i),
+            current.row(i + 1),
+            current.row(0),
+        );
     }
     Ok(left)
 }
 
-// Writes what the lower step of a pivot leaves of a row below it.
-fn write_left(target: &mut [i128], row: &[i128], pivot: &[i128])
+// Writes what the lower step of a pivot leaves of a row below it. `counts` is room for the counts of
+// its quotients that aren't whole.
+fn write_left(target: &mut [i128], counts: &mut [i128], row: &[i128], pivot: &[i128])
     requires pivot { IsPivotRow pivot.now }
     requires some { 0 < length row.now }
     requires shorter { length row.now < length pivot.now }
     requires fits { RowFits row.now }
     requires room { length target.old ≡ length row.now }
+    requires counted { length counts.old ≡ length row.now }
     ensures { (matrix : List (List ℤ)) → IsTriangle (length pivot.now) matrix → row_at matrix 0 ≡ pivot.now
         → row_at matrix (length pivot.now - length row.now) ≡ row.now
         → target.new ≡ row_at (matrix_after lower_over 1 matrix) (length pivot.now - length row.now - 1) }
 {
     target.copy_from_slice(row);
-    take_step(Side::Lower, target, pivot);
+    counts.fill(0);
+    counts[0] = left_gaps(pivot, pivot.len() - row.len());
+    take_step(Side::Lower, target, counts, pivot);
 }

@@ -11,4 +11,7 @@ invariant-loop-m l = record {
   diagonal : at l.row 0 ≡ at l.initial.row 0;
   right : (i : ℕ) → 1 ≤ i → i < l.m → at l.row i ≡ at l.initial.row i +ℤ taken l.pivot l.column (l.column + i);
   ahead : (i : ℕ) → l.m ≤ i → at l.row i ≡ at l.initial.row i;
+  gaps : (i : ℕ) → 1 ≤ i → i < l.m → at l.gaps i ≡ at l.initial.gaps i +ℤ gap_at l.pivot l.column (l.column + i);
+  gaps_ahead : (i : ℕ) → l.m ≤ i → at l.gaps i ≡ at l.initial.gaps i;
+  apart : at l.gaps 0 ≡ at l.initial.gaps 0;
 }

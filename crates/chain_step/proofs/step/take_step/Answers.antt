@@ -1,49 +1,22 @@
-use Rattle.std.proofs.Common.{rules, ◌-◌, get_or, length, pos, ap, arith, to_z, of_z, FitsSigned}
+use Rattle.std.proofs.Common.{rules, ◌≡◌, ◌-◌, ◌<◌, get_or, length, pos, sym, ◌∙◌, ap, arith, FitsSigned}
 use Rattle.std.specs.Int.{w128}
 use Rattle.std.proofs.lemmas.Int.{to_z-of_z}
-use Rattle.chain_step.proofs.RowSteps.{IsStepped, stepped_law, skipped_law, stepped_size, stepped_head, dividing_at}
+use Rattle.whole_algebra.proofs.Ring.{zero_add}
+use Rattle.chain_step.specs.Step.{left_of, with_left}
+use Rattle.chain_step.proofs.RowSteps.{made_whole, none_lacking}
 use Rattle.chain_step.proofs.step.take_step.Goals as goal
 
-pub divide-requires-clause-pivot : goal.divide-requires-clause-pivot
-divide-requires-clause-pivot c =
-    let shorter = c.requires.shorter in
-    dividing_at c.args.pivot.now (length c.args.pivot.now - length c.args.row.now) c.requires.pivot (omega arith) (λ e. c.if-pivot-column-ne0.true (ap (of_z w128) e))
-
-pub returns-then-pivot-column-ne0-clause-exact : goal.returns-then-pivot-column-ne0-clause-exact
-returns-then-pivot-column-ne0-clause-exact c =
-    let shorter = c.requires.shorter in
+pub returns-clause-exact : goal.returns-clause-exact
+returns-clause-exact c = λ matrix t first is.
+    let kept = c.take_part.auto.row in
     let some = c.requires.some in
-    let k = length c.args.pivot.now - length c.args.row.now in
-    let d = dividing_at c.args.pivot.now k c.requires.pivot (omega arith) (λ e. c.if-pivot-column-ne0.true (ap (of_z w128) e)) in
-    let stepped : IsStepped c.args.side c.args.pivot.now c.args.row.now c.divide.new.row k =
-    record { long = c.divide.auto.row; right = c.divide.ensures.right; diagonal = c.divide.ensures.diagonal } in
-    stepped_law c.args.side c.args.pivot.now c.args.row.now c.divide.new.row k c.requires.pivot.goes_on (omega arith) (omega arith) d.above stepped
-
-pub returns-then-pivot-column-ne0-clause-size : goal.returns-then-pivot-column-ne0-clause-size
-returns-then-pivot-column-ne0-clause-size c =
-    let shorter = c.requires.shorter in
-    let some = c.requires.some in
-    let k = length c.args.pivot.now - length c.args.row.now in
-    let d = dividing_at c.args.pivot.now k c.requires.pivot (omega arith) (λ e. c.if-pivot-column-ne0.true (ap (of_z w128) e)) in
-    let stepped : IsStepped c.args.side c.args.pivot.now c.args.row.now c.divide.new.row k =
-    record { long = c.divide.auto.row; right = c.divide.ensures.right; diagonal = c.divide.ensures.diagonal } in
-    stepped_size c.args.side c.args.pivot.now c.args.row.now c.divide.new.row k d (omega arith) (omega arith) stepped
-
-pub returns-then-pivot-column-ne0-clause-head : goal.returns-then-pivot-column-ne0-clause-head
-returns-then-pivot-column-ne0-clause-head c =
-    let shorter = c.requires.shorter in
-    let some = c.requires.some in
-    let k = length c.args.pivot.now - length c.args.row.now in
-    let d = dividing_at c.args.pivot.now k c.requires.pivot (omega arith) (λ e. c.if-pivot-column-ne0.true (ap (of_z w128) e)) in
-    let stepped : IsStepped c.args.side c.args.pivot.now c.args.row.now c.divide.new.row k =
-    record { long = c.divide.auto.row; right = c.divide.ensures.right; diagonal = c.divide.ensures.diagonal } in
-    stepped_head c.args.side c.args.pivot.now c.args.row.now c.divide.new.row k d (omega arith) stepped
-
-pub returns-else-pivot-column-ne0-clause-exact : goal.returns-else-pivot-column-ne0-clause-exact
-returns-else-pivot-column-ne0-clause-exact c =
-    let shorter = c.requires.shorter in
-    let some = c.requires.some in
-    let k = length c.args.pivot.now - length c.args.row.now in
-    let f : FitsSigned w128 (get_or c.args.pivot.now k (pos 0)) = search rules in
-    let none = simp (to_z-of_z, f) at (ap (to_z w128) c.if-pivot-column-ne0.false) in
-    skipped_law c.args.side c.args.pivot.now c.args.row.now k c.requires.pivot.goes_on (omega arith) (omega arith) none
+    let row = c.take_part.new.row in
+    let slack = get_or c.args.gaps.now 0 (pos 0) in
+    let f : FitsSigned w128 (get_or row 0 (pos 0)) = search rules in
+    let g : FitsSigned w128 slack = search rules in
+    let h : FitsSigned w128 c.add_slack.result = record { sfits = c.add_slack.type_inv } in
+    let sum = simp (to_z-of_z, f, g) at c.add_slack.ensures in
+    simp (to_z-of_z, h)
+    (made_whole c.args.side row slack c.add_slack.result (omega arith) sum
+    ∙ ap (λ s. with_left c.args.side s row) (c.requires.left ∙ sym (zero_add (left_of c.args.pivot.now (length c.args.pivot.now - length c.args.row.now))))
+    ∙ c.take_part.ensures.exact (pos 0) matrix t first (is ∙ sym (none_lacking c.args.side c.args.row.now)))

@@ -5,7 +5,9 @@ use Rattle.whole_algebra.specs.Chains.{step_of, stop, is_stop, matrix_after}
 use Rattle.whole_algebra.specs.Grid.{row_at}
 use Rattle.lent_parts.proofs.Triangles.{length-tri_row}
 use Rattle.lent_parts.specs.Triangle.{IsTri, refilled, tri_row}
-use Rattle.chain_step.specs.Step.{over_of, IsPivotRow}
+use Rattle.std.proofs.lemmas.Int.{to_z-of_z}
+use Rattle.chain_step.specs.Step.{over_of, IsPivotRow, left_slack, gap_count}
+use Rattle.chain_step.proofs.Counts.{left_slack_same, gap_count_same}
 use Rattle.chain_step.proofs.WrittenRows.{row_written}
 use Rattle.pivot_chain.proofs.ChainRun.{count_before, row_before}
 use Rattle.pivot_chain.proofs.chain.step_row.Goals as goal
@@ -34,6 +36,29 @@ take_steps-requires-clause-pivots c = λ t lt.
     let count = ap length c.rows_before-before.ensures.before ∙ count_before c.args.rows.now c.args.k (omega arith) in
     let inside : t < c.args.k = omega arith in
     subst IsPivotRow (sym (ap (λ (rows : List (List ℤ)). tri_row rows t) c.rows_before-before.ensures.before ∙ row_before c.args.rows.now c.args.k t inside)) (c.requires.pivots t inside)
+
+pub take_steps-requires-clause-same : goal.take_steps-requires-clause-same
+take_steps-requires-clause-same c =
+    let same = c.requires.same in
+    let counted = c.requires.counted in
+    let places = c.row_mut.ensures.places in
+    let counts = c.row_mut-2.ensures.places in
+    omega arith
+
+pub take_steps-requires-clause-slack : goal.take_steps-requires-clause-slack
+take_steps-requires-clause-slack c =
+    let rows = c.args.rows.now in
+    let k = c.args.k in
+    let within = c.requires.within in
+    let same = c.requires.same in
+    let before = c.rows_before-before.ensures.before in
+    let places = c.row_mut.ensures.places in
+    let count : length c.rows_before-before.result.0 ≡ k = ap length before ∙ count_before rows k (omega arith) in
+    let long : length rows - k ≡ length c.row_mut.result.now = omega arith in
+    simp (to_z-of_z, c.ranges.slack)
+    (c.requires.slack
+    ∙ (left_slack_same rows c.rows_before-before.result.0 (length rows - k) k (λ t lt. sym (ap (λ (r : List (List ℤ)). tri_row r t) before ∙ row_before rows k t lt))
+    ∙ ap₂ (left_slack c.rows_before-before.result.0) long (sym count)))
 
 -- the row that was put in its place, whatever was left there before
 row_now : (old : List (List ℤ)) (v w from : List ℤ) (k : ℕ) → k < length old → IsTri (length (slice_set old k v)) (slice_set old k v) → length w ≡ length (slice_set old k v) - k → w ≡ from
@@ -66,7 +91,7 @@ returns-clause-exact c = λ first shape known start.
     let none : k - length c.rows_before-before.result.0 ≡ 0 = omega arith in
     let row : c.row.result.now ≡ c.take_steps.new.row = c.row.ensures.value
     ∙ row_stepped c.args.matrix.now c.take_steps.new.row c.row_mut.result.now k (omega arith) c.row_mut.ensures.shape c.take_steps.auto.row places in
-    row_now rows _ c.copy_row.new.to c.take_steps.new.row k within c.row_mut-2.ensures.shape (c.copy_row.auto.to ∙ c.row_mut-2.ensures.places) (c.copy_row.ensures ∙ row)
+    row_now rows _ c.copy_row.new.to c.take_steps.new.row k within c.row_mut-3.ensures.shape (c.copy_row.auto.to ∙ c.row_mut-3.ensures.places) (c.copy_row.ensures ∙ row)
     ∙ (c.take_steps.ensures.exact n k first shape fill few
     (λ t lt. sym (ap (λ (r : List (List ℤ)). tri_row r t) before ∙ (row_before rows k t (omega arith) ∙ known t (omega arith))))
     (sym (c.row_mut.ensures.value ∙ start))
@@ -84,6 +109,27 @@ returns-clause-answer c =
     let row : c.row.result.now ≡ c.take_steps.new.row = c.row.ensures.value
     ∙ row_stepped c.args.matrix.now c.take_steps.new.row c.row_mut.result.now k (omega arith) c.row_mut.ensures.shape kept places in
     let last : c.row-2.result.now ≡ c.take_steps.new.row = c.row-2.ensures.value
-    ∙ row_now rows _ c.copy_row.new.to c.take_steps.new.row k within c.row_mut-2.ensures.shape (c.copy_row.auto.to ∙ c.row_mut-2.ensures.places) (c.copy_row.ensures ∙ row) in
+    ∙ row_now rows _ c.copy_row.new.to c.take_steps.new.row k within c.row_mut-3.ensures.shape (c.copy_row.auto.to ∙ c.row_mut-3.ensures.places) (c.copy_row.ensures ∙ row) in
     let long = ap length last in
     answer_of c.stop_of.result c.row-2.result.now _ c.row-2.ensures.value (omega arith) (subst (λ (r : List ℤ). at r 0 ≤ℤ pos (2 ^ 61)) (sym last) c.take_steps.ensures.head) c.stop_of.ensures
+
+pub returns-clause-gaps : goal.returns-clause-gaps
+returns-clause-gaps c = λ m one lt.
+    let rows = c.args.rows.now in
+    let k = c.args.k in
+    let within = c.requires.within in
+    let same = c.requires.same in
+    let counted = c.requires.counted in
+    let before = c.rows_before-before.ensures.before in
+    let places = c.row_mut.ensures.places in
+    let counts = c.row_mut-2.ensures.places in
+    let count : length c.rows_before-before.result.0 ≡ k = ap length before ∙ count_before rows k (omega arith) in
+    let long : length c.row_mut.result.now ≡ length rows - k = omega arith in
+    ap (λ row. at row m) (row_stepped c.args.gaps.now c.take_steps.new.gaps c.row_mut-2.result.now k (omega arith) c.row_mut-2.ensures.shape c.take_steps.auto.gaps counts)
+    ∙ (c.take_steps.ensures.gaps m one (omega arith)
+    ∙ (gap_count_same c.rows_before-before.result.0 rows (length c.row_mut.result.now) m (length c.rows_before-before.result.0)
+    (λ t less. ap (λ (r : List (List ℤ)). tri_row r t) before ∙ row_before rows k t (omega arith))
+    ∙ ap₂ (λ n j. gap_count rows n m j) long count))
+
+pub returns-clause-shape : goal.returns-clause-shape
+returns-clause-shape c = c.row-2.ensures.shape

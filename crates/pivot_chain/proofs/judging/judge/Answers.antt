@@ -18,6 +18,9 @@ run_upper-requires-clause-upper_room c = c.in-Some.ensures.upper_size ∙ c.requ
 pub run_upper-requires-clause-rows_room : goal.run_upper-requires-clause-rows_room
 run_upper-requires-clause-rows_room c = c.in-Some.ensures.rows_size ∙ c.requires.rows_room
 
+pub run_upper-requires-clause-gaps_room : goal.run_upper-requires-clause-gaps_room
+run_upper-requires-clause-gaps_room c = c.in-Some.ensures.gaps_size ∙ c.requires.gaps_room
+
 pub row-requires : goal.row-requires
 row-requires c =
     let range = step_range Lower (lower_of c.args.grids.now) c.in-Some.low c.in-Some.ensures.stop in

@@ -23,9 +23,11 @@ returns-clause-exact c =
 pub returns-clause-kept : goal.returns-clause-kept
 returns-clause-kept c = record {
   normal = c.bring_to.ensures.sum;
+  other = c.take_nearer.ensures.other_made;
   grid = length-grid_of _ _ _ c.retake_known.new.self c.retake_known.ensures;
   diagonal = subst (IsFullDiagonal c.args.network.now) (sym (ap (λ (v : ChainsOf). v.diagonal) c.chains.view_is)) c.requires.chains.diagonal;
   lower = c.judge.ensures.lower_size ∙ (ap (λ (v : ChainsOf). length v.lower) c.chains.view_is ∙ c.requires.chains.lower);
   rows = c.judge.ensures.rows_size ∙ (ap (λ (v : ChainsOf). length v.rows) c.chains.view_is ∙ c.requires.chains.rows);
+  gaps = c.judge.ensures.gaps_size ∙ (ap (λ (v : ChainsOf). length v.gaps) c.chains.view_is ∙ c.requires.chains.gaps);
   upper = c.judge.ensures.upper_size ∙ (ap (λ (v : ChainsOf). length v.upper) c.chains.view_is ∙ c.requires.chains.upper);
 }

@@ -6,7 +6,7 @@ use Rattle.whole_algebra.specs.Grid.{row_at}
 use Rattle.lent_parts.specs.Triangle.{tri_row}
 use Rattle.chain_step.specs.declared.side.Side.TheVariants.{Upper}
 use Rattle.pivot_chain.specs.Judging.{lower_of, upper_of}
-use Rattle.pivot_chain.proofs.ChainRun.{begun, one_more, stops_here, never_stops}
+use Rattle.pivot_chain.proofs.ChainRun.{begun, one_more, none_counted, gaps_more, slack_here, few_here, stops_here, never_stops}
 use Rattle.pivot_chain.proofs.Judged.{small_lower_of, small_upper_of, tall_lower_of, tall_upper_of}
 use Rattle.pivot_chain.proofs.run.run_upper.Goals as goal
 
@@ -16,7 +16,49 @@ loop-k-init c = record {
   upper_size = refl;
   ahead = λ j _ lt. c.requires.written j lt;
   spare_size = refl;
+  shape = c.size-k-end.ensures.shape;
+  counted = none_counted c.args.rows.now c.args.gaps.now;
+  gaps_size = refl;
 }
+
+pub counted_slack-slack-requires-clause-within : goal.counted_slack-slack-requires-clause-within
+counted_slack-slack-requires-clause-within c =
+    let lt = c.loop-k-test.true in
+    let count = c.size-k-end.ensures.rows in
+    let room = c.requires.rows_room in
+    let size = c.loop-k.invariant.gaps_size in
+    let gaps = c.requires.gaps_room in
+    omega arith
+
+pub counted_slack-slack-requires-clause-few : goal.counted_slack-slack-requires-clause-few
+counted_slack-slack-requires-clause-few c =
+    let lt = c.loop-k-test.true in
+    let count = c.size-k-end.ensures.rows in
+    let most = c.size-k-end.ensures.most in
+    let places = c.loop-k.invariant.so_far.places in
+    let room = c.requires.rows_room in
+    let tall = tall_upper_of c.args.grids.now in
+    few_here c.loop-k.rows c.loop-k.gaps c.loop-k.k (omega arith) (omega arith) c.loop-k.invariant.counted
+
+pub step_row-requires-clause-counted : goal.step_row-requires-clause-counted
+step_row-requires-clause-counted c =
+    let size = c.loop-k.invariant.gaps_size in
+    let gaps = c.requires.gaps_room in
+    let places = c.loop-k.invariant.so_far.places in
+    let tall = tall_upper_of c.args.grids.now in
+    omega arith
+
+pub step_row-requires-clause-slack : goal.step_row-requires-clause-slack
+step_row-requires-clause-slack c =
+    let lt = c.loop-k-test.true in
+    let count = c.size-k-end.ensures.rows in
+    let most = c.size-k-end.ensures.most in
+    let places = c.loop-k.invariant.so_far.places in
+    let room = c.requires.rows_room in
+    let tall = tall_upper_of c.args.grids.now in
+    let f : FitsSigned w128 c.counted_slack-slack.result = search rules in
+    simp (to_z-of_z, f)
+    (c.counted_slack-slack.ensures ∙ slack_here c.loop-k.rows c.loop-k.gaps c.loop-k.k c.loop-k.invariant.shape (omega arith) c.loop-k.invariant.counted)
 
 pub write_upper-requires-clause-known : goal.write_upper-requires-clause-known
 write_upper-requires-clause-known c = λ lt. c.loop-k.invariant.ahead c.loop-k.k (omega arith) lt
@@ -118,4 +160,11 @@ loop-k-preserved c =
       upper_size = c.step_row.ensures.left_places ∙ (c.write_upper.ensures.upper_size ∙ c.loop-k.invariant.upper_size);
       ahead = λ j le lt. c.step_row.ensures.left j (λ e. absurd (omega arith)) ∙ (c.write_upper.ensures.others j (λ e. absurd (omega arith)) ∙ c.loop-k.invariant.ahead j (omega arith) lt);
       spare_size = c.write_upper.ensures.spare_size ∙ c.loop-k.invariant.spare_size;
+      shape = c.step_row.ensures.shape;
+      counted = gaps_more c.loop-k.rows c.step_row.new.rows c.loop-k.gaps c.step_row.new.gaps c.loop-k.k c.loop-k.invariant.counted c.step_row.ensures.places
+          c.step_row.ensures.others c.step_row.ensures.gap_others c.step_row.ensures.gaps;
+      gaps_size = c.step_row.ensures.gap_places ∙ c.loop-k.invariant.gaps_size;
     }
+
+pub returns-in-Some-clause-gaps_size : goal.returns-in-Some-clause-gaps_size
+returns-in-Some-clause-gaps_size c = c.step_row.ensures.gap_places ∙ c.loop-k.invariant.gaps_size

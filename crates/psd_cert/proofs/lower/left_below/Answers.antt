@@ -1,4 +1,4 @@
-use Rattle.std.proofs.Common.{◌≡◌, ◌+◌, ◌-◌, ◌<◌, length, sym, ◌∙◌, ap, subst, arith}
+use Rattle.std.proofs.Common.{◌≡◌, ◌+◌, ◌-◌, ◌<◌, length, length-set, sym, ◌∙◌, ap, subst, arith}
 use Rattle.whole_algebra.specs.Matrices.{lower_over}
 use Rattle.whole_algebra.specs.Chains.{matrix_after}
 use Rattle.whole_algebra.specs.Grid.{row_at}
@@ -10,6 +10,15 @@ use Rattle.psd_cert.specs.Sizes.{RowFits}
 use Rattle.psd_cert.proofs.Entries.{fits_at}
 use Rattle.psd_cert.proofs.LowerSteps.{left_triangle}
 use Rattle.psd_cert.proofs.lower.left_below.Goals as goal
+
+pub loop-i-init : goal.loop-i-init
+loop-i-init c =
+    let size = c.size-size.ensures.rows in
+    record {
+      shape = subst (λ n. IsTri (n - 1) c.in_ok-left.left) size c.in_ok-left.ensures.shape;
+      counts = length-IsTri (c.size-size.result - 1) c.in_ok-counts.counts c.in_ok-counts.ensures.shape ∙ ap (λ n. n - 1) size;
+      rows = λ j lt. absurd (omega arith);
+    }
 
 pub row_mut-requires : goal.row_mut-requires
 row_mut-requires c =
@@ -38,6 +47,22 @@ write_left-requires-clause-shorter c =
 
 pub write_left-requires-clause-fits : goal.write_left-requires-clause-fits
 write_left-requires-clause-fits c = subst RowFits (sym c.row.ensures.value) (fits_at c.args.current.now (c.loop-i.i + 1) c.requires.fits)
+
+pub write_left-requires-clause-counted : goal.write_left-requires-clause-counted
+write_left-requires-clause-counted c =
+    let places = c.row.ensures.places in
+    let counts = c.row_mut-in-loop-i.ensures.places in
+    let kept = c.loop-i.invariant.counts in
+    let lt = c.loop-i-test.true in
+    let size = c.size-size.ensures.rows in
+    omega arith
+
+pub row_mut-requires-in-loop-i : goal.row_mut-requires-in-loop-i
+row_mut-requires-in-loop-i c =
+    let kept = c.loop-i.invariant.counts in
+    let lt = c.loop-i-test.true in
+    let size = c.size-size.ensures.rows in
+    omega arith
 
 pub write_left-requires-clause-room : goal.write_left-requires-clause-room
 write_left-requires-clause-room c =
@@ -69,6 +94,7 @@ loop-i-preserved c =
     record {
       shape = row_shape n c.loop-i.left c.write_left.new.target c.loop-i.i c.loop-i.invariant.shape inside long;
       rows = row_put n c.loop-i.left (row_at (matrix_after lower_over 1 current)) c.write_left.new.target c.loop-i.i c.loop-i.invariant.shape inside long c.loop-i.invariant.rows written;
+      counts = length-set c.loop-i.counts c.loop-i.i _ ∙ c.loop-i.invariant.counts;
     }
 
 pub returns : goal.returns

@@ -5,7 +5,7 @@ use Rattle.chain_step.proofs.Products.{in_range}
 use Rattle.chain_step.specs.Step.{gap_at}
 use Rattle.chain_step.proofs.Quotients.{gap_size}
 use Rattle.chain_step.proofs.Gaps.{one_more, added_low, added_high, added_size}
-use Rattle.chain_step.proofs.step.gaps_in_columns.Goals as goal
+use Rattle.chain_step.proofs.left_side.gaps_in_columns.Goals as goal
 
 pub loop-i-preserved : goal.loop-i-preserved
 loop-i-preserved c =

@@ -1,6 +1,6 @@
 use Rattle.std.proofs.Common.{◌≡◌, pos, ◌≤ℤ◌}
 use Rattle.chain_step.specs.Step.{gap_at, sum_from}
-use Rattle.chain_step.proofs.step.gaps_in_columns.Given as goal
+use Rattle.chain_step.proofs.left_side.gaps_in_columns.Given as goal
 
 abbrev pub invariant-loop-i : goal.invariant-loop-i
 invariant-loop-i l = record {
