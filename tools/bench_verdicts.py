@@ -1,11 +1,15 @@
 """Measures what a verdict costs, with the built program verdict_cli.
 
-    python3 tools/bench_verdicts.py PROGRAM [TIMES]    prints a row of a table for each network
-    python3 tools/bench_verdicts.py --inputs FOLDER    writes the inputs alone, each verdict once
+    python3 tools/bench_verdicts.py PROGRAM [TIMES]           prints a row of a table for each network
+    python3 tools/bench_verdicts.py --instructions PROGRAM    the same in instructions, for some of the networks
+    python3 tools/bench_verdicts.py --stacks PROGRAM          what a change of one candidate costs a stack
+    python3 tools/bench_verdicts.py --floor                   the least that full chains can cost
+    python3 tools/bench_verdicts.py --inputs FOLDER           writes the inputs alone, each verdict once
 
 PROGRAM is crates/verdict_cli/out/verdict_cli after `rt run` there. Each verdict is reckoned TIMES times (200
 if it isn't told) and once, three times each, and the least processor times are subtracted. The networks are
-made from a seed, so each run has the same.
+made from a seed, so each run has the same. Instructions are counted by valgrind's callgrind, and don't depend
+on what else the machine does.
 """
 import itertools
 import os
@@ -13,6 +17,7 @@ import random
 import resource
 import subprocess
 import sys
+import tempfile
 
 POINTS_HEADER = "name,x,y,z,plane,height"
 CANDIDATES_HEADER = "name,kind,from,to,to2,sd,sdh,price"
@@ -109,11 +114,11 @@ def candidates_text(network):
     return "\n".join(lines) + "\n"
 
 
-def input_text(network, limit, times):
-    """What verdict_cli reads: the sizes of both tables, no redundancy, how often; the tables; the full plan."""
+def input_text(network, limit, times, plans=None):
+    """What verdict_cli reads: the sizes of both tables, no redundancy, how often; the tables; plans, or the full one."""
     points, candidates = points_text(network, limit), candidates_text(network)
     first = "%d %d 0 %d\n" % (len(points), len(candidates), times)
-    return first + points + candidates + "1" * len(network.candidates) + "\n"
+    return first + points + candidates + "\n".join(plans or ["1" * len(network.candidates)]) + "\n"
 
 
 def filled_count(network):
@@ -155,6 +160,76 @@ def print_table(program, times):
         print("| %s | %d | %d | %d of %d | %s |" % row, flush=True)
 
 
+def instructions(program, text):
+    """The instructions of a run, in millions, and the number of verdicts."""
+    command = ["valgrind", "--tool=callgrind", "--callgrind-out-file=/dev/null", program]
+    done = subprocess.run(command, input=text.encode(), capture_output=True, check=True)
+    collected = [line for line in done.stderr.decode().splitlines() if "Collected :" in line]
+    return int(collected[0].split()[-1]) / 1e6, len(done.stdout.split())
+
+
+def print_instructions(program):
+    print("| network | unknowns | 100.0 mm | 0.1 mm |\n|---|---|---|---|")
+    for network in (levelling_line(64), random_levels(64), random_distances(32), dense_angles(16), dense_angles(32)):
+        cells = []
+        for limit in LIMITS:
+            many, told = instructions(program, input_text(network, limit, 6))
+            once, _told = instructions(program, input_text(network, limit, 1))
+            cells.append("%.4f" % ((many - once) / 5 / told))
+        print("| %s | %d | %s |" % (network.title, filled_count(network)[0], " | ".join(cells)), flush=True)
+
+
+def print_stacks(program):
+    """Each eighth candidate of a full matrix of 64 unknowns is left out and taken back, under all limits of points."""
+    network = dense_angles(32)
+    count = len(network.candidates)
+    full = "1" * count
+    without = [full[:i] + "0" + full[i + 1:] for i in range(0, count, 8)]
+    for limit in LIMITS:
+        walk = [full] + [plan for other in without for plan in (other, full)]
+        walked, _told = instructions(program, input_text(network, limit, 0, walk))
+        begun, told = instructions(program, input_text(network, limit, 0, [full]))
+        anew, _told = instructions(program, input_text(network, limit, 1, [full] + without))
+        once, _told = instructions(program, input_text(network, limit, 1, [full]))
+        change, verdict = [(spent) / len(without) / told for spent in (walked - begun, anew - once)]
+        row = (limit, change, verdict, change / verdict)
+        print("%s mm: a change and its undo %.4f, a verdict anew %.4f million instructions: %.2f" % row, flush=True)
+
+
+# A step takes a product and a quotient in 128 bits for each pair of the rows below it.
+FLOOR = """
+#include <stdio.h>
+#include <time.h>
+int main(void) {
+  volatile long long seed = 0x1234567890abcdefLL;
+  long long a = seed, p = seed ^ 0x5555, q = seed ^ 0x3333;
+  __int128 sum = 0;
+  struct timespec from, to;
+  clock_gettime(CLOCK_PROCESS_CPUTIME_ID, &from);
+  for (long i = 0; i < 20000000; i++) {
+    sum += -(__int128)(p - i) * (q + 3 * i) / (a + i);
+  }
+  clock_gettime(CLOCK_PROCESS_CPUTIME_ID, &to);
+  double spent = (to.tv_sec - from.tv_sec) * 1e9 + (to.tv_nsec - from.tv_nsec);
+  printf("%.3f %d\\n", spent / 20000000, (int)(sum & 1));
+  return 0;
+}
+"""
+
+
+def print_floor():
+    with tempfile.TemporaryDirectory() as folder:
+        source, program = os.path.join(folder, "floor.c"), os.path.join(folder, "floor")
+        with open(source, "w", encoding="utf-8") as file:
+            file.write(FLOOR)
+        subprocess.run(["cc", "-O2", source, "-o", program], check=True)
+        spent = min(float(subprocess.run([program], capture_output=True, check=True).stdout.split()[0]) for _ in range(5))
+    print("a product and its quotient: %.2f nanoseconds" % spent)
+    for size in (8, 16, 32, 64):
+        pairs = (size ** 3 - size) // 6
+        print("%d unknowns: %d of them, %.1f microseconds a chain" % (size, pairs, pairs * spent / 1000))
+
+
 def write_inputs(folder):
     os.makedirs(folder, exist_ok=True)
     for network, limit in itertools.product(all_networks(), LIMITS):
@@ -166,6 +241,12 @@ def write_inputs(folder):
 def main(words):
     if len(words) == 2 and words[0] == "--inputs":
         write_inputs(words[1])
+    elif len(words) == 2 and words[0] == "--instructions":
+        print_instructions(words[1])
+    elif len(words) == 2 and words[0] == "--stacks":
+        print_stacks(words[1])
+    elif words == ["--floor"]:
+        print_floor()
     elif words and len(words) <= 2:
         print_table(words[0], int(words[1]) if len(words) == 2 else 200)
     else:

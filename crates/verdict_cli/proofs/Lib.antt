@@ -2,3 +2,4 @@ mod Texts
 mod Digits
 mod Requests
 mod Refusals
+mod Follows

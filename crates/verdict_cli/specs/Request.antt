@@ -24,10 +24,10 @@ header_from (Some points) (Some candidates) (Some redundancy) (Some times) =
 header_from _ _ _ _ = None
 
 -- the words of a first line: the bytes of the points table and of the candidates table, the redundancy limit in thousandths,
--- and how often each verdict is reckoned
+-- and how often each verdict is reckoned, 0 where stacks of factors that follow the plans are to give it
 abbrev pub header_of_words : List (List ℕ) → Option Header
 header_of_words (points ∷ candidates ∷ redundancy ∷ times ∷ []) =
-    header_from (number_in 0 1048576 points) (number_in 0 1048576 candidates) (number_in 0 999 redundancy) (number_in 1 1000000 times)
+    header_from (number_in 0 1048576 points) (number_in 0 1048576 candidates) (number_in 0 999 redundancy) (number_in 0 1000000 times)
 header_of_words _ = None
 
 abbrev pub header_of : List ℕ → Option Header

@@ -4,6 +4,7 @@ ghost use Rattle.pivot_chain.specs.Room.{IsRoomOf};
 ghost use Rattle.verdict_cli.specs.Request.{request_seen};
 ghost use Rattle.verdict_cli.specs.Answer.{IsAnswered, RefusesInput, RefusesPlans, RefusesTables, network_for, plans_lines};
 
+use crate::followers::{followers_of, put_followed};
 use crate::plan::read_plan;
 use crate::refusal::{InputRefusal, refusal_of};
 use crate::request::{Request, read_request};
@@ -26,6 +27,9 @@ pub fn put_answer(alloc: Global, input: &[u8], out: &mut Vec<u8>) -> Result<(), 
         return Err(InputRefusal::Request);
     };
     let network = network_of(alloc, &request)?;
+    if request.times == 0 {
+        return put_followed_plans(alloc, &network, request.plans, out);
+    }
     put_plans(alloc, &network, request.plans, request.times, out)
 }
 
@@ -67,6 +71,29 @@ fn put_plans(
     for line in lines(plans) {
         let plan = read_plan(alloc, line.text, m)?;
         let Ok(()) = put_verdicts(out, &mut room, network, &plan, times) else {
+            return Err(InputRefusal::NoMemory);
+        };
+    }
+    Ok(())
+}
+
+// Appends the verdicts of each plan of a text, as stacks give them that follow the plans.
+fn put_followed_plans(
+    alloc: Global,
+    network: &Network,
+    plans: &[u8],
+    out: &mut Vec<u8>,
+) -> Result<(), InputRefusal>
+    ensures lines { OnOk result (out.new.items ≡ out.old.items ++ plans_lines network.now plans.now) }
+    ensures refused { IfErr result (RefusesPlans (length network.now.candidates) plans.now) }
+{
+    let m = network.candidates().len() as u32;
+    let Ok(mut followers) = followers_of(alloc, network) else {
+        return Err(InputRefusal::NoMemory);
+    };
+    for line in lines(plans) {
+        let plan = read_plan(alloc, line.text, m)?;
+        let Ok(()) = put_followed(out, followers.as_mut_slice(), network, &plan) else {
             return Err(InputRefusal::NoMemory);
         };
     }

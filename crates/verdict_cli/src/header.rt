@@ -17,7 +17,8 @@ const MOST_REDUNDANCY: u32 = 999;
 const MOST_TIMES: u32 = 1000000;
 
 /// What the first line says: the bytes of the points table and of the candidates table, the redundancy
-/// limit in thousandths, and how often each verdict is reckoned.
+/// limit in thousandths, and how often each verdict is reckoned: 0 where stacks of factors that follow
+/// the plans are to give it.
 #[derive(Clone, Copy, Debug, PartialEq, Eq)]
 pub struct Header {
     pub points: u32,
@@ -36,7 +37,7 @@ pub fn read_header(line: &[u8]) -> Option<Header>
     let points = read_number(words.points, 0, MOST_BYTES)?;
     let candidates = read_number(words.candidates, 0, MOST_BYTES)?;
     let redundancy = read_number(words.redundancy, 0, MOST_REDUNDANCY)?;
-    let times = read_number(words.times, 1, MOST_TIMES)?;
+    let times = read_number(words.times, 0, MOST_TIMES)?;
     Some(Header {
         points,
         candidates,

@@ -1,13 +1,17 @@
 //! A program beside the product: from two tables and plans on standard input it prints the verdict
-//! of each plan on each limit, for comparison and measurement.
+//! of each plan on each limit, for comparison and measurement. It reckons each verdict anew, or has
+//! stacks of factors follow the plans.
 //!
 //! Proved: no part of the product: from two tables and plans on standard input it prints each
-//! plan's verdict on each limit, exactly those of the definition.
+//! plan's verdict on each limit, exactly those of the definition, whether each is reckoned anew or by
+//! a stack that follows the plans.
 //!
 //! Said by: `put_answer`, clauses `answer`, `refused`.
 #![tactic(auto)]
 
 mod answer;
+mod follower;
+mod followers;
 mod header;
 mod plan;
 mod refusal;
