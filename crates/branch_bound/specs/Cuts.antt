@@ -10,18 +10,17 @@ use Rattle.bound_log.specs.LogTree.{IsBrokenBy}
 use Rattle.bound_log.specs.declared.log_leaf.LogLeaf.TheVariants as leaf
 use Rattle.bound_log.specs.declared.log_line.LogLine.{LogLine}
 use Rattle.bound_log.specs.declared.log_line.LogLine.TheVariants as line
-use Rattle.idle_splits.specs.UnitCuts.{AreUnitCuts}
-use Rattle.idle_splits.specs.declared.unit_cuts.UnitCuts.{UnitCuts}
+use Rattle.idle_splits.specs.Tests.{IdleTestOf, IsTestOf}
 use Rattle.idle_splits.specs.declared.unit_share.UnitShare.{UnitShare}
 use Rattle.branch_bound.specs.declared.node_line.NodeLine.{NodeLine}
 use Rattle.branch_bound.specs.declared.node_line.NodeLine.TheVariants.{Split, Cost, Pivot, Cut, UnitDual, Dual}
 
 -- The cuts of a search, and the lines that it writes. This project's own.
 
--- the cuts that a search tries, and those by which it looks for idle splits
+-- the cuts that a search tries, and the test by which it looks for idle splits
 pub record SearchCuts : Type 0 where
   pub pool : List CutOf
-  pub units : UnitCuts
+  pub idle : IdleTestOf
 
 -- a cut is the one of its limit and of its displacement, which has an entry for each unknown of the network
 pub record IsCutFor (network : NetworkOf) (cut : CutOf) : Type 0 where
@@ -37,7 +36,7 @@ ArePoolFor network pool = All (IsCutFor network) pool
 -- the cuts of a search are those of a network
 pub record AreCutsFor (network : NetworkOf) (cuts : SearchCuts) : Type 0 where
   pub pool : ArePoolFor network cuts.pool
-  pub units : AreUnitCuts network cuts.units
+  pub idle : IsTestOf network cuts.idle
 
 -- a share of a unit cut as a line spells it
 abbrev pub unit_text : UnitShare → ℕ × CutTextOf

@@ -24,7 +24,7 @@ use dual_ascent::{Dual, ascend};
 use dual_bound::leaf_bound;
 use geo_base::NoMemory;
 use geo_model::{Displacement, Network, Node, breaks, cost};
-use idle_splits::{UnitCuts, UnitShare, dear_share};
+use idle_splits::{IdleTest, UnitShare};
 use pivot_chain::is_in_force;
 use std::alloc::Global;
 use std::marker::Model;
@@ -33,12 +33,12 @@ use std::marker::Model;
 const MOST_CUTS: u32 = 4096;
 
 /// The cuts that a search tries, with what they reach under the upper plan that was tried last, and
-/// those by which it looks for idle splits. Contracts don't see the sums.
+/// the test by which it looks for idle splits. Contracts don't see the sums.
 #[derive(Drop)]
 pub struct Cuts {
     pool: CutPool,
     sums: CutSums,
-    units: UnitCuts,
+    idle: IdleTest,
 }
 
 impl Model for Cuts {
@@ -46,7 +46,7 @@ impl Model for Cuts {
 
     ghost Value = { SearchCuts };
 
-    ghost view = { λ cuts. record { pool = cuts.pool; units = cuts.units } };
+    ghost view = { λ cuts. record { pool = cuts.pool; idle = cuts.idle } };
 }
 
 impl Cuts {
@@ -57,8 +57,8 @@ impl Cuts {
     {
         let pool = unit_cuts(alloc, network)?;
         let sums = CutSums::new(alloc, network, &pool)?;
-        let units = UnitCuts::new(alloc, network)?;
-        Ok(Cuts { pool, sums, units })
+        let idle = IdleTest::new(alloc, network)?;
+        Ok(Cuts { pool, sums, idle })
     }
 
     /// The cut of a number.
@@ -107,30 +107,25 @@ impl Cuts {
 
     /// A share of a unit cut that shows that a node costs more than the best plan, if one does. It takes
     /// no memory.
-    pub fn dear_share(&self, network: &Network, node: &Node, best: &Best) -> Option<UnitShare>
-        requires cuts { AreCutsFor network.now self.now }
+    pub fn dear_share(&mut self, network: &Network, node: &Node, best: &Best) -> Option<UnitShare>
+        requires cuts { AreCutsFor network.now self.old }
         requires node { IsNode network.now node.now }
         requires kept { IsTrueBest network.now best.now }
         ensures found { IfSome result (ShowsDear network.now node.now (best_bound network.now best.now)) }
         ensures none { IfNone result ((number unknown candidate : ℕ) → IsDearByUnit network.now node.now (best_bound network.now best.now) number unknown candidate → ⊥) }
+        ensures same { self.new ≡ self.old }
         ensures bounds { IsNetwork network.now }
     {
         // The network's bounds, for the proof.
         let _bounds = network.candidates();
         match best {
             Best::NoPlan => None,
-            Best::Certified(plan) => dear_share(
-                network,
-                node,
-                &self.units,
-                cost(network, plan) as u128,
-            ),
-            Best::Unsettled(plan) => dear_share(
-                network,
-                node,
-                &self.units,
-                cost(network, plan) as u128,
-            ),
+            Best::Certified(plan) => self
+                .idle
+                .dear_share(network, node, cost(network, plan) as u128),
+            Best::Unsettled(plan) => self
+                .idle
+                .dear_share(network, node, cost(network, plan) as u128),
         }
     }
 
