@@ -45,10 +45,10 @@ returns-in-Some-dear_share-clause-line c =
 pub returns-in-Some-2-clause-line : goal.returns-in-Some-2-clause-line
 returns-in-Some-2-clause-line c =
     let off = rw c.in-Some-2.is at c.in_ok-dual.ensures.found in
-    let past : CutsOff c.args.network.now c.args.node.now c.args.best.now c.first_broken.new.self.pool c.in-Some-2.dual.d c.in-Some-2.dual.shares.items = off in
+    let past : CutsOff c.args.network.now c.args.node.now c.args.best.now c.dear_share.new.self.pool c.in-Some-2.dual.d c.in-Some-2.dual.shares.items = off in
     record {
       allowed = past.allowed;
-      done = IsDone-past c.args.network.now c.args.node.now (Dual c.in-Some-2.dual.d (texts_of_shares c.first_broken.new.self.pool c.in-Some-2.dual.shares.items)) past.price c.args.best.now c.first_broken.ensures.bounds c.requires.kept past.allowed past.bound past.past;
+      done = IsDone-past c.args.network.now c.args.node.now (Dual c.in-Some-2.dual.d (texts_of_shares c.dear_share.new.self.pool c.in-Some-2.dual.shares.items)) past.price c.args.best.now c.first_broken.ensures.bounds c.requires.kept past.allowed past.bound past.past;
     }
 
 pub returns-in-Some-branch_candidate-clause-line : goal.returns-in-Some-branch_candidate-clause-line
