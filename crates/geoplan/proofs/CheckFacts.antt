@@ -6,13 +6,13 @@ use Rattle.log_check.proofs.VerdictLemmas.{logs_have_no_fault}
 use Rattle.geoplan.specs.declared.file_kind.FileKind.{FileKind}
 use Rattle.geoplan.specs.declared.file_kind.FileKind.TheVariants as kind
 use Rattle.geoplan.specs.declared.verb.Verb.TheVariants as verb
-use Rattle.geoplan.specs.CommandOf.{SourcesOf, reads, names_written}
-use Rattle.geoplan.specs.Ends.{OnBytes, ends_of}
+use Rattle.geoplan.specs.CommandOf.{SourcesOf, reads}
+use Rattle.geoplan.specs.Ends.{OnBytes, check_ends}
 use Rattle.geoplan.specs.Input.{judged_input}
-use Rattle.geoplan.specs.Loading.{tables_input}
+use Rattle.geoplan.specs.Loading.{ReadsTables, tables_input}
 use Rattle.geoplan.specs.Outcomes.{AcceptsLog, RefusesLog, IsRightLog, IsWrongLog, IsCheckStatus}
 use Rattle.geoplan.specs.Tables.{TablesOf}
-use Rattle.geoplan.proofs.OwedFacts.{EndsKeep, EndsAnswer, OwedFacts, reading_keeps, reading_answers}
+use Rattle.geoplan.proofs.OwedFacts.{EndsKeep, TablesAnswer, OwedFacts, reading_keeps, reading_answers, tables_keep, tables_answer}
 
 -- a text that is accepted has no first fault
 right_log : (tables : TablesOf) (log : List ℕ) (before now : ShelfState) (text : List ℕ) → AcceptsLog tables log before now text → IsRightLog tables log
@@ -53,15 +53,21 @@ module _ (sources : SourcesOf) (tables : TablesOf) where
   refused_answers files before now text told (log, is, refused) =
       inr (inl (refl, subst (λ bytes. IsWrongLog tables bytes) (sym (is files told)) (wrong_log tables log before now text refused)))
 
-  keeps : EndsKeep (ends_of verb.Check sources tables) (names_written (record { verb = verb.Check; sources = sources }))
+  keeps : EndsKeep (check_ends sources tables) []
   keeps = reading_keeps Accepts Refuses Answers [] accepted_held refused_held
 
-  answers : EndsAnswer (ends_of verb.Check sources tables)
+  answers : TablesAnswer (check_ends sources tables)
   answers = reading_answers Accepts Refuses Answers (λ files. inr (inr refl)) accepted_answers refused_answers
 
 judged : (redundancy : ℕ) (bytes : FileKind → List ℕ) → judged_input redundancy bytes (reads verb.Check) ≡ tables_input redundancy (bytes kind.Points) (bytes kind.Candidates)
 unfolding judged_input tables_input
 judged redundancy bytes = refl
 
+pub reads_tables : ReadsTables verb.Check
+reads_tables = record { first = refl; judged = judged }
+
 pub facts : OwedFacts verb.Check
-facts = record { reads_tables = record { first = refl; judged = judged }; keeps = keeps; answers = answers }
+facts = record {
+  keeps = λ sources. tables_keep (record { verb = verb.Check; sources = sources }) (check_ends sources) [] (keeps sources);
+  answers = λ sources. tables_answer (record { verb = verb.Check; sources = sources }) (check_ends sources) (answers sources);
+}

@@ -21,13 +21,14 @@ use Rattle.geoplan.specs.declared.verb.Verb.{Verb}
 use Rattle.geoplan.specs.declared.verb.Verb.TheVariants as verb
 use Rattle.geoplan.specs.Checked.{planning, checking, ChecksWith}
 use Rattle.geoplan.specs.CommandOf.{SourcesOf, CommandOf, roles_of, most_of, is_plain, are_distinct, no_sources, with_name, with_redundancy, given_by, sources_from, command_by, command_from, command_of, verb_of}
-use Rattle.geoplan.specs.Ends.{AreHeldTables}
+use Rattle.geoplan.specs.Ends.{AreHeldTables, IsStatusFor, check_ends}
 use Rattle.geoplan.specs.Input.{built_input, input_of}
 use Rattle.geoplan.specs.Loading.{tables_input}
 use Rattle.geoplan.specs.Outcomes.{LeavesLog, IsCheckStatus}
-use Rattle.geoplan.specs.Promises.{IsStatusOf}
 use Rattle.geoplan.specs.Tables.{TablesOf}
+use Rattle.geoplan.proofs.CheckFacts as check
 use Rattle.geoplan.proofs.InputLemmas.{accepted, input_of-short}
+use Rattle.geoplan.proofs.PlanFacts as plan
 
 -- ---- the names of a plan differ
 
@@ -144,7 +145,7 @@ module _ (words : List (List ℕ)) (sources : SourcesOf) (tables : TablesOf) (do
   still_there =
       let names = names-of words sources planned in
       let was = before_told before.held now.held sources.log leaves.log after leaves.written told in
-      let is = accepted (planning sources) was.0 tables (are was.0 was.1) in
+      let is = accepted (planning sources) was.0 plan.reads_tables tables (are was.0 was.1) in
       let points = stays was.0 was.1 sources.points names.points in
       let candidates = stays was.0 was.1 sources.candidates names.candidates in
       record { points = rw points is.short.0; candidates = rw candidates is.short.1.0; judged = rw (points, candidates) is.judged }
@@ -165,12 +166,12 @@ module _ (words : List (List ℕ)) (sources : SourcesOf) (tables : TablesOf) (do
 
   -- with a log that isn't too long the same tables are found
   found : length (bytes_of after sources.log) ≤ most_of kind.Log → input_of (checking sources) after ≡ built_input tables
-  found short = input_of-short (checking sources) after (still_there.points, (still_there.candidates, (short, tt))) ∙ still_there.judged
+  found short = input_of-short (checking sources) after check.reads_tables (still_there.points, (still_there.candidates, (short, tt))) ∙ still_there.judged
 
   -- .. and no others are
   found_tables : (other : TablesOf) → input_of (checking sources) after ≡ built_input other → other ≡ tables
   found_tables other is =
-      let e : built_input other ≡ built_input tables = sym (accepted (checking sources) after other is).judged ∙ still_there.judged in
+      let e : built_input other ≡ built_input tables = sym (accepted (checking sources) after check.reads_tables other is).judged ∙ still_there.judged in
       cc
 
   same_done : (accepts_done : Replayed) → IsReplayed tables.network (bytes_of after sources.log) accepts_done → accepts_done ≡ done
@@ -181,7 +182,7 @@ module _ (words : List (List ℕ)) (sources : SourcesOf) (tables : TablesOf) (do
     replayed = replays;
     checked = found;
     status = λ short s complete.
-        right s (subst (λ given. IsStatusOf (checking sources) given after s) (found short) complete);
+        right s (subst (λ given. IsStatusFor (λ built. (check_ends sources built).answers after) given s) (found short) complete);
     same = λ other is at at_now text accepts.
         same_done accepts.done (subst (λ (t : TablesOf). IsReplayed t.network (bytes_of after sources.log) accepts.done) (found_tables other is) accepts.replayed);
   }

@@ -28,7 +28,7 @@ use Rattle.geoplan.specs.declared.load.LoadFault.TheVariants as load
 use Rattle.geoplan.specs.declared.refused_table.RefusedTable.{RefusedTable}
 use Rattle.geoplan.specs.CommandOf.{CommandOf, FileOf, file_of, files_read}
 use Rattle.geoplan.specs.Input.{InputOf, too_long_input, refused_input, built_input, refused_table, IsFileWithin, input_of}
-use Rattle.geoplan.specs.Loading.{IsGoodNetwork, refused_view, ReadsFile, HasReadFault, FailsRead, ReadsAll, tables_read, more_read, FailsMore, TablesGive, LoadsTables, Loads, HasLoadFault, FailsLoad, tables_input, IsRefusal}
+use Rattle.geoplan.specs.Loading.{IsGoodNetwork, ReadsTables, refused_view, ReadsFile, HasReadFault, FailsRead, ReadsAll, tables_read, more_read, FailsMore, TablesGive, LoadsTables, Loads, HasLoadFault, FailsLoad, tables_input, IsRefusal}
 use Rattle.geoplan.specs.Tables.{TablesOf}
 use Rattle.geoplan.proofs.InputLemmas.{files_read-tables, input_of-long, input_of-short}
 
@@ -89,44 +89,44 @@ module _ (command : CommandOf) (earlier : List FileOf) (file : FileOf) (later : 
   }
 
 -- the points were not read
-pub FailsLoad-points : (command : CommandOf) (why : LoadFault) (before now : ShelfState) → FailsRead (file_of command.sources kind.Points) why before now → FailsLoad command why before now
-FailsLoad-points command why before now fails =
-    FailsLoad-at command [] (file_of command.sources kind.Points) (file_of command.sources kind.Candidates ∷ more_read command) (files_read-tables command) before before now (ReadsAll-none before) why fails
+pub FailsLoad-points : (command : CommandOf) → ReadsTables command.verb → (why : LoadFault) (before now : ShelfState) → FailsRead (file_of command.sources kind.Points) why before now → FailsLoad command why before now
+FailsLoad-points command tables why before now fails =
+    FailsLoad-at command [] (file_of command.sources kind.Points) (file_of command.sources kind.Candidates ∷ more_read command) (files_read-tables command tables) before before now (ReadsAll-none before) why fails
 
 -- the file after the two tables was not
-pub FailsLoad-after : (command : CommandOf) (before middle now : ShelfState) → ReadsAll (tables_read command) before middle → (why : LoadFault) → FailsMore command why middle now → FailsLoad command why before now
-FailsLoad-after command before middle now read why more =
+pub FailsLoad-after : (command : CommandOf) → ReadsTables command.verb → (before middle now : ShelfState) → ReadsAll (tables_read command) before middle → (why : LoadFault) → FailsMore command why middle now → FailsLoad command why before now
+FailsLoad-after command tables before middle now read why more =
     FailsLoad-at command (tables_read command) more.file []
-    (files_read-tables command ∙ ap (λ files. file_of command.sources kind.Points ∷ file_of command.sources kind.Candidates ∷ files) more.one) before middle now read why more.fails
+    (files_read-tables command tables ∙ ap (λ files. file_of command.sources kind.Points ∷ file_of command.sources kind.Candidates ∷ files) more.one) before middle now read why more.fails
 
 -- all files were read
-pub reads_every : (command : CommandOf) (before middle now : ShelfState) → ReadsAll (tables_read command) before middle → ReadsAll (more_read command) middle now → ReadsAll (files_read command) before now
-reads_every command before middle now read more =
-    subst (λ files. ReadsAll files before now) (sym (files_read-tables command)) (ReadsAll-more (tables_read command) (more_read command) before middle now read more)
+pub reads_every : (command : CommandOf) → ReadsTables command.verb → (before middle now : ShelfState) → ReadsAll (tables_read command) before middle → ReadsAll (more_read command) middle now → ReadsAll (files_read command) before now
+reads_every command tables before middle now read more =
+    subst (λ files. ReadsAll files before now) (sym (files_read-tables command tables)) (ReadsAll-more (tables_read command) (more_read command) before middle now read more)
 
 -- then the files give what their tables do
-pub input_is : (command : CommandOf) (before now : ShelfState) → ReadsAll (files_read command) before now → (given : InputOf) → TablesGive command before.held given → (files : Files) → before.held ≡ Some files → input_of command files ≡ given
-input_is command before now all given is files told = input_of-short command files (all.within files told) ∙ is files told
+pub input_is : (command : CommandOf) → ReadsTables command.verb → (before now : ShelfState) → ReadsAll (files_read command) before now → (given : InputOf) → TablesGive command before.held given → (files : Files) → before.held ≡ Some files → input_of command files ≡ given
+input_is command tables before now all given is files told = input_of-short command files tables (all.within files told) ∙ is files told
 
 -- accepted tables are those of the command once all its files were read
-pub Loads-all : (command : CommandOf) (tables : TablesOf) (before middle now : ShelfState) → LoadsTables command tables before middle → ReadsAll (more_read command) middle now → Loads command tables before now
-Loads-all command tables before middle now has more =
-    let all = reads_every command before middle now has.read more in
+pub Loads-all : (command : CommandOf) → ReadsTables command.verb → (tables : TablesOf) (before middle now : ShelfState) → LoadsTables command tables before middle → ReadsAll (more_read command) middle now → Loads command tables before now
+Loads-all command two tables before middle now has more =
+    let all = reads_every command two before middle now has.read more in
     record {
-      input = λ files told. input_is command before now all (built_input tables) has.gives files told;
+      input = λ files told. input_is command two before now all (built_input tables) has.gives files told;
       good = has.good;
       held = all.held;
       quiet = all.quiet;
     }
 
-module _ (command : CommandOf) (points : List ℕ) (before first : ShelfState) (one : ReadsFile (file_of command.sources kind.Points) points before first) where
+module _ (command : CommandOf) (two_tables : ReadsTables command.verb) (points : List ℕ) (before first : ShelfState) (one : ReadsFile (file_of command.sources kind.Points) points before first) where
   one_read : ReadsAll (file_of command.sources kind.Points ∷ []) before first
   one_read = ReadsAll-one [] (file_of command.sources kind.Points) points before before first (ReadsAll-none before) one
 
   -- the candidates were not
   pub FailsLoad-candidates : (why : LoadFault) (now : ShelfState) → FailsRead (file_of command.sources kind.Candidates) why first now → FailsLoad command why before now
   FailsLoad-candidates why now fails =
-      FailsLoad-at command (file_of command.sources kind.Points ∷ []) (file_of command.sources kind.Candidates) (more_read command) (files_read-tables command) before first now one_read why fails
+      FailsLoad-at command (file_of command.sources kind.Points ∷ []) (file_of command.sources kind.Candidates) (more_read command) (files_read-tables command two_tables) before first now one_read why fails
 
   module _ (candidates : List ℕ) (second : ShelfState) (two : ReadsFile (file_of command.sources kind.Candidates) candidates first second) where
     two_read : ReadsAll (file_of command.sources kind.Points ∷ file_of command.sources kind.Candidates ∷ []) before second
@@ -146,16 +146,16 @@ module _ (command : CommandOf) (points : List ℕ) (before first : ShelfState) (
 
     -- the tables are refused, and the file after them was not read
     pub FailsLoad-more : (why : LoadFault) (now : ShelfState) → FailsMore command why second now → FailsLoad command why before now
-    FailsLoad-more why now more = FailsLoad-after command before second now two_read why more
+    FailsLoad-more why now more = FailsLoad-after command two_tables before second now two_read why more
 
     -- .. or was
     pub FailsLoad-refused : (refused : RefusedTable) (now : ShelfState) → tables_input command.sources.redundancy points candidates ≡ refused_input (refused_view refused) → ReadsAll (more_read command) second now → FailsLoad command (load.Refused refused) before now
     FailsLoad-refused refused now is more =
-        let all = reads_every command before second now two_read more in
+        let all = reads_every command two_tables before second now two_read more in
         record {
           held = all.held;
           later = omega (arith, all.quiet.same_count);
-          cause = (λ files told. input_is command before now all (refused_input (refused_view refused)) (give (refused_input (refused_view refused)) is) files told, all.quiet);
+          cause = (λ files told. input_is command two_tables before now all (refused_input (refused_view refused)) (give (refused_input (refused_view refused)) is) files told, all.quiet);
         }
 
 -- what is refused is shown

@@ -9,18 +9,22 @@ use Rattle.geoplan.specs.declared.verb.Verb.TheVariants as verb
 
 -- The words of a command line, the program's name first, and what each command reads and writes. This project's own.
 
--- what a further word of a command stands for: the name of a file, or the redundancy in thousandths, of 1 to 3 digits
+-- what a further word of a command stands for: the name of a file, the redundancy in thousandths, of 1 to 3 digits, or the
+-- seed of a generated network, of 1 to 6 digits
 pub data RoleOf : Type 0 where
   file_role : FileKind → RoleOf
   redundancy_role : RoleOf
+  seed_role : RoleOf
 
--- what the further words of a command give: names of files, and the redundancy. What none of them stands for is empty, or 0
+-- what the further words of a command give: names of files, the redundancy, and the seed. What none of them stands for is
+-- empty, or 0
 pub record SourcesOf : Type 0 where
   pub points : List ℕ
   pub candidates : List ℕ
   pub redundancy : ℕ
   pub log : List ℕ
   pub script : List ℕ
+  pub seed : ℕ
 
 -- a command: which one, and what its words give
 pub record CommandOf : Type 0 where
@@ -41,7 +45,8 @@ verb_of word =
     else (if bytes_eq word (codes "rows") then Some verb.Rows
     else (if bytes_eq word (codes "check") then Some verb.Check
     else (if bytes_eq word (codes "trial") then Some verb.Trial
-    else None)))
+    else (if bytes_eq word (codes "gen") then Some verb.Gen
+    else None))))
 
 -- what its further words stand for
 abbrev pub roles_of : Verb → List RoleOf
@@ -49,6 +54,7 @@ roles_of verb.Plan = file_role kind.Points ∷ file_role kind.Candidates ∷ red
 roles_of verb.Rows = file_role kind.Points ∷ file_role kind.Candidates ∷ []
 roles_of verb.Check = file_role kind.Points ∷ file_role kind.Candidates ∷ redundancy_role ∷ file_role kind.Log ∷ []
 roles_of verb.Trial = file_role kind.Points ∷ file_role kind.Candidates ∷ redundancy_role ∷ file_role kind.Script ∷ []
+roles_of verb.Gen = seed_role ∷ file_role kind.Points ∷ file_role kind.Candidates ∷ []
 
 -- the files that it reads, in this order
 abbrev pub reads : Verb → List FileKind
@@ -56,6 +62,7 @@ reads verb.Plan = kind.Points ∷ kind.Candidates ∷ []
 reads verb.Rows = kind.Points ∷ kind.Candidates ∷ []
 reads verb.Check = kind.Points ∷ kind.Candidates ∷ kind.Log ∷ []
 reads verb.Trial = kind.Points ∷ kind.Candidates ∷ kind.Script ∷ []
+reads verb.Gen = []
 
 -- the files that it may write
 abbrev pub writes : Verb → List FileKind
@@ -63,6 +70,7 @@ writes verb.Plan = kind.Log ∷ []
 writes verb.Rows = []
 writes verb.Check = []
 writes verb.Trial = []
+writes verb.Gen = kind.Points ∷ kind.Candidates ∷ []
 
 -- the most bytes of a file that is read
 abbrev pub most_of : FileKind → ℕ
@@ -87,25 +95,30 @@ are_distinct (name ∷ names) = not (list_any (bytes_eq name) names) && are_dist
 abbrev pub names_among : List RoleOf → List (List ℕ) → List (List ℕ)
 names_among (file_role kind ∷ roles) (word ∷ words) = word ∷ names_among roles words
 names_among (redundancy_role ∷ roles) (word ∷ words) = names_among roles words
+names_among (seed_role ∷ roles) (word ∷ words) = names_among roles words
 names_among roles words = []
 
 -- no word gives anything
 abbrev pub no_sources : SourcesOf
-no_sources = record { points = []; candidates = []; redundancy = 0; log = []; script = [] }
+no_sources = record { points = []; candidates = []; redundancy = 0; log = []; script = []; seed = 0 }
 
 -- .. and what one word gives besides
 abbrev pub with_name : FileKind → List ℕ → SourcesOf → SourcesOf
-with_name kind.Points name given = record { points = name; candidates = given.candidates; redundancy = given.redundancy; log = given.log; script = given.script }
-with_name kind.Candidates name given = record { points = given.points; candidates = name; redundancy = given.redundancy; log = given.log; script = given.script }
-with_name kind.Log name given = record { points = given.points; candidates = given.candidates; redundancy = given.redundancy; log = name; script = given.script }
-with_name kind.Script name given = record { points = given.points; candidates = given.candidates; redundancy = given.redundancy; log = given.log; script = name }
+with_name kind.Points name given = record { points = name; candidates = given.candidates; redundancy = given.redundancy; log = given.log; script = given.script; seed = given.seed }
+with_name kind.Candidates name given = record { points = given.points; candidates = name; redundancy = given.redundancy; log = given.log; script = given.script; seed = given.seed }
+with_name kind.Log name given = record { points = given.points; candidates = given.candidates; redundancy = given.redundancy; log = name; script = given.script; seed = given.seed }
+with_name kind.Script name given = record { points = given.points; candidates = given.candidates; redundancy = given.redundancy; log = given.log; script = name; seed = given.seed }
 
 abbrev pub with_redundancy : ℕ → SourcesOf → SourcesOf
-with_redundancy redundancy given = record { points = given.points; candidates = given.candidates; redundancy = redundancy; log = given.log; script = given.script }
+with_redundancy redundancy given = record { points = given.points; candidates = given.candidates; redundancy = redundancy; log = given.log; script = given.script; seed = given.seed }
+
+abbrev pub with_seed : ℕ → SourcesOf → SourcesOf
+with_seed seed given = record { points = given.points; candidates = given.candidates; redundancy = given.redundancy; log = given.log; script = given.script; seed = seed }
 
 abbrev pub with_word : RoleOf → List ℕ → SourcesOf → Option SourcesOf
 with_word (file_role kind) word given = Some (with_name kind word given)
 with_word redundancy_role word given = option_map (λ redundancy. with_redundancy redundancy given) (digits_of 3 word)
+with_word seed_role word given = option_map (λ seed. with_seed seed given) (digits_of 6 word)
 
 -- what words give that are as many as the roles, besides what was given before
 abbrev pub given_by : List RoleOf → List (List ℕ) → SourcesOf → Option SourcesOf

@@ -16,9 +16,10 @@ use Rattle.geoplan.specs.Texts.{table_word, kind_word}
 
 -- What the files of a command give. This project's own.
 
--- the name of the first file that is too long; or the first fault of a table, or of the network of both; or both tables
--- with their network
+-- nothing, where no file is read; or the name of the first file that is too long; or the first fault of a table, or of the
+-- network of both; or both tables with their network
 pub data InputOf : Type 0 where
+  no_input : InputOf
   too_long_input : List ℕ → InputOf
   refused_input : RefusedOf → InputOf
   built_input : TablesOf → InputOf
@@ -63,8 +64,9 @@ accepted_input redundancy points candidates =
 -- what files give of which none is too long, by the bytes of each: the first fault of a table in the order of reading, else
 -- what the two tables give
 unfoldable pub judged_input : ℕ → (FileKind → List ℕ) → List FileKind → InputOf
-judged_input redundancy bytes kinds =
-    faulty_or bytes kinds
+judged_input redundancy bytes [] = no_input
+judged_input redundancy bytes (first ∷ later) =
+    faulty_or bytes (first ∷ later)
     (accepted_input redundancy (points_of (bytes kind.Points)) (candidates_of (points_of (bytes kind.Points)) (bytes kind.Candidates)))
 
 -- the bytes of each file of a command, as they are held

@@ -21,7 +21,7 @@ use Rattle.geoplan.specs.declared.refused_table.RefusedTable.{RefusedTable}
 use Rattle.geoplan.specs.declared.verb.Verb.{Verb}
 use Rattle.geoplan.specs.CommandOf.{CommandOf, FileOf, reads, file_of, files_read}
 use Rattle.geoplan.specs.Ends.{AreHeldTables}
-use Rattle.geoplan.specs.Input.{InputOf, too_long_input, refused_input, built_input, refused_table, refused_or, IsFileWithin, accepted_input, input_of}
+use Rattle.geoplan.specs.Input.{InputOf, too_long_input, refused_input, built_input, refused_table, refused_or, IsFileWithin, accepted_input, judged_input, input_of}
 use Rattle.geoplan.specs.Tables.{TablesOf, RefusedOf}
 
 -- What reading the files of a command does. Only private clauses and proofs cite it. This project's own.
@@ -102,6 +102,11 @@ more_kinds verb = drop 2 (reads verb)
 abbrev pub listed : Option FileKind → List FileKind
 listed None = []
 listed (Some kind) = kind ∷ []
+
+-- a command reads the two tables first, and they are what is judged
+pub record ReadsTables (verb : Verb) : Type 0 where
+  pub first : reads verb ≡ kind.Points ∷ kind.Candidates ∷ more_kinds verb
+  pub judged : (redundancy : ℕ) (bytes : FileKind → List ℕ) → judged_input redundancy bytes (reads verb) ≡ tables_input redundancy (bytes kind.Points) (bytes kind.Candidates)
 
 -- the files that are read after the two tables
 abbrev pub more_read : CommandOf → List FileOf

@@ -8,6 +8,7 @@ mod answer;
 mod check;
 mod command;
 mod file_kind;
+mod generate;
 mod laws;
 mod load;
 mod log_parts;

@@ -5,7 +5,7 @@ ghost use Rattle.candidate_tables.specs.Accepted.{AreCandidates};
 ghost use Rattle.geoplan.specs.CommandOf.{file_of};
 ghost use Rattle.geoplan.specs.CommandView.{sources_view, command_view};
 ghost use Rattle.geoplan.specs.Input.{accepted_input, built_input};
-ghost use Rattle.geoplan.specs.Loading.{tables_input, IsRefusal, ReadsFile, FailsRead, ReadsAll, more_read, FailsMore, IsGoodNetwork, LoadsTables, FailsLoad};
+ghost use Rattle.geoplan.specs.Loading.{tables_input, IsRefusal, ReadsFile, FailsRead, ReadsAll, more_read, FailsMore, IsGoodNetwork, ReadsTables, LoadsTables, FailsLoad};
 ghost use Rattle.geoplan.specs.Parts.{log_file};
 
 use crate::command::Command;
@@ -131,13 +131,15 @@ fn judge(
 }
 
 /// Reads the tables of a command in their order, and judges what they give. Where they are refused, the
-/// files after them were read too, since one of them may be what is refused. The redundancy is at most 999.
+/// files after them were read too, since one of them may be what is refused. The command reads tables,
+/// and its redundancy is at most 999.
 pub fn load<'a, H: Shelf>(
     alloc: Global,
     command: &Command<'a>,
     shelf: &mut H,
 ) -> Result<Tables, LoadFault<'a>>
-    requires { command.now.sources.redundancy ≤ 999 }
+    requires redundancy { command.now.sources.redundancy ≤ 999 }
+    requires tables { ReadsTables command.now.verb }
     ensures loaded { IfOk result (λ tables. LoadsTables (command_view command.now) tables
         (H.state shelf.old) (H.state shelf.new)) }
     ensures fault { IfErr result (λ why. FailsLoad (command_view command.now) why

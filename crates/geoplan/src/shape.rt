@@ -7,4 +7,6 @@ pub enum WordShape {
     Tables,
     /// Two tables, a redundancy, and a file of this kind.
     Job(FileKind),
+    /// A seed, and the two tables that are generated from it.
+    SeedAndTables,
 }

@@ -18,6 +18,8 @@ pub enum Verb {
     Check,
     /// Answers a script of trials.
     Trial,
+    /// Writes the two tables of a seed.
+    Gen,
 }
 
 impl Verb {
@@ -33,10 +35,13 @@ impl Verb {
             Some(Verb::Check)
         } else if is_same(word, "trial") {
             Some(Verb::Trial)
+        } else if is_same(word, "gen") {
+            Some(Verb::Gen)
         } else {
             None
         }
     }
+
     /// What its further words stand for.
     pub fn shape(self) -> WordShape
         ensures { roles_of self ≡ roles_for result }
@@ -45,6 +50,7 @@ impl Verb {
             Verb::Plan | Verb::Check => WordShape::Job(FileKind::Log),
             Verb::Rows => WordShape::Tables,
             Verb::Trial => WordShape::Job(FileKind::Script),
+            Verb::Gen => WordShape::SeedAndTables,
         }
     }
 
@@ -53,7 +59,7 @@ impl Verb {
         ensures { more_kinds self ≡ listed result }
     {
         match self {
-            Verb::Plan | Verb::Rows => None,
+            Verb::Plan | Verb::Rows | Verb::Gen => None,
             Verb::Check => Some(FileKind::Log),
             Verb::Trial => Some(FileKind::Script),
         }

@@ -20,6 +20,8 @@ mod files;
 #[cfg(test)]
 mod fixtures;
 #[cfg(test)]
+mod generated;
+#[cfg(test)]
 mod log_parts;
 #[cfg(test)]
 mod plan;
