@@ -1,17 +1,16 @@
 //! Searches over networks of levels, whose answers were reckoned by an independent program. The
 //! log of each is replayed.
-use crate::networks::{
-    CLOSER_LEVEL, CaseTables, HALF_REDUNDANT, LEVELLING_LINE, ONE_LEVEL, TOO_REDUNDANT, network_of,
-};
-use crate::replays::replayed;
-use crate::tight_networks::missed;
 use branch_bound::{SearchFault, search};
 use geo_model::{Answer, Counts, Network, cost};
-use log_check::{Bound, Replayed};
+use log_check::{Bound, ReplayAnswer, Replayed, replay};
 use shelf_io::{MemShelf, Shelf, SureShelf};
 use std::alloc::Global;
 use std::process::Abort;
 use std::test::Fail;
+use test_networks::{
+    CLOSER_LEVEL, CaseTables, HALF_REDUNDANT, LEVELLING_LINE, ONE_LEVEL, TOO_REDUNDANT, missed,
+    network_of,
+};
 
 // What a search answers: the price of the plan, where it has one, and the open limit with its step and
 // interval, where it is undecided.
@@ -53,6 +52,11 @@ fn searched(alloc: Global, network: &Network) -> Result<SearchEnd, Fail> {
     })
 }
 
+// A replay, of which a proof here need know nothing.
+fn replayed(alloc: Global, network: &Network, log: &[u8]) -> Result<Replayed, ReplayAnswer> {
+    replay(alloc, network, log)
+}
+
 // Searches a network, asserts what is found, and replays the log.
 fn expect_search(
     rt: &impl Abort,
@@ -88,7 +92,7 @@ const SEARCHES: [(CaseTables, Found, Bound); 5] = [
 #[test]
 fn levels_to_heights(rt: HostRuntime) -> Result<(), Fail> {
     for (tables, found, bound) in &SEARCHES {
-        let network = network_of(&rt, rt.alloc(), tables)?;
+        let network = network_of(rt.alloc(), tables)?;
         expect_search(&rt, rt.alloc(), &network, *found, *bound)?;
     }
     Ok(())
@@ -115,7 +119,7 @@ const BOTH_LEVELS: CaseTables = CaseTables {
 // first two nodes, so that they are splits.
 #[test]
 fn a_failed_append_leaves_whole_lines_before_it(rt: HostRuntime) -> Result<(), Fail> {
-    let network = network_of(&rt, rt.alloc(), &BOTH_LEVELS)?;
+    let network = network_of(rt.alloc(), &BOTH_LEVELS)?;
     let mut shelf = MemShelf::new(rt.alloc(), vec![in rt.alloc(); 4]?);
     shelf.start("log")?;
     let refused = search(rt.alloc(), &network, &mut shelf, "log").err();

@@ -3,7 +3,6 @@ ghost use Rattle.std.specs.Prelude.{◌≡◌, ◌<◌, ◌≤◌, ◌^◌, leng
 ghost use Rattle.cut_pool.specs.Cut.{CutOf, cover};
 ghost use Rattle.dual_bound.specs.Shares.{IsSmallCover, IsShare};
 
-use crate::networks::{CaseTables, network_of};
 use cut_pool::{Cut, CutPool, Share, cut_of};
 use dual_bound::{leaf_bound, meeting_plans_cost_the_dual_bound};
 use geo_base::NoMemory;
@@ -11,16 +10,7 @@ use geo_model::{Displacement, Network, Node, Plan};
 use std::alloc::Global;
 use std::process::Abort;
 use std::test::Fail;
-
-// Three levels of 1.00 mm to one new height, whose limit is 0.9 mm.
-const THREE_LEVELS: CaseTables = CaseTables {
-    points: "A,,,100.000,,fixed\nH,,,101.000,,0.9\n",
-    candidates: "l1,level,A,H,,1.00,,5\nl2,level,A,H,,1.00,,7\nl3,level,A,H,,1.00,,9\n",
-    redundancy: 0,
-    unknowns: 1,
-    choices: 3,
-    limits: 1,
-};
+use test_networks::{CaseTables, THREE_LEVELS, Unfit, network_of};
 
 // Distances of 1.00 mm along the axes between a new point, whose limit is 1.0 mm, and fixed ones.
 const FOUR_DISTANCES: CaseTables = CaseTables {
@@ -181,7 +171,7 @@ const BY_THE_GREATEST: Cases = Cases {
 #[test]
 fn dual_bounds_of_three_levels(rt: HostRuntime) -> Result<(), Fail> {
     let alloc = rt.alloc();
-    let network = network_of(&rt, alloc, &THREE_LEVELS)?;
+    let network = network_of(alloc, &THREE_LEVELS)?;
     let coefficients = vec![in alloc; 9655953, 9655953, 9655953]?;
     let cut = first_cut(&rt, alloc, &network)?;
     assert_eq!(rt; cut.bound, BOUND);
@@ -193,17 +183,17 @@ fn dual_bounds_of_three_levels(rt: HostRuntime) -> Result<(), Fail> {
 }
 
 // The four distances, without stations.
-fn four_distances(rt: &impl Abort, alloc: Global) -> Result<Network, Fail>
+fn four_distances(alloc: Global) -> Result<Network, Unfit>
     ensures { IfOk result (λ network. length network.candidates ≡ 4) }
 {
-    network_of(rt, alloc, &FOUR_DISTANCES)
+    network_of(alloc, &FOUR_DISTANCES)
 }
 
 // The same with a station at each of the three points, for 10.
-fn from_stations(rt: &impl Abort, alloc: Global) -> Result<Network, Fail>
+fn from_stations(alloc: Global) -> Result<Network, Fail>
     ensures { IfOk result (λ network. length network.candidates ≡ 4) }
 {
-    let mut network = four_distances(rt, alloc)?;
+    let mut network = four_distances(alloc)?;
     let stations = vec![in alloc; Some(0), Some(1), Some(2), Some(2)]?;
     let prices = vec![in alloc; 10, 10, 10]?;
     network.set_stations(stations, prices);
@@ -254,7 +244,7 @@ const FROM_STATIONS: Cases = Cases {
 #[test]
 fn dual_bounds_of_distances(rt: HostRuntime) -> Result<(), Fail> {
     let alloc = rt.alloc();
-    let network = four_distances(&rt, alloc)?;
+    let network = four_distances(alloc)?;
     let pool = pool_of_distances(&rt, alloc, &network)?;
     ask_all(&rt, alloc, &network, &pool, &OF_DISTANCES)
 }
@@ -262,7 +252,7 @@ fn dual_bounds_of_distances(rt: HostRuntime) -> Result<(), Fail> {
 #[test]
 fn dual_bounds_with_stations(rt: HostRuntime) -> Result<(), Fail> {
     let alloc = rt.alloc();
-    let network = from_stations(&rt, alloc)?;
+    let network = from_stations(alloc)?;
     let pool = pool_of_distances(&rt, alloc, &network)?;
     ask_all(&rt, alloc, &network, &pool, &FROM_STATIONS)
 }

@@ -4,13 +4,13 @@ ghost use Rattle.geo_model.specs.Limit.{IsLoad};
 ghost use Rattle.normal_matrix.specs.Normal.{IsNormalOf};
 ghost use Rattle.limit_forms.specs.Grid.{grid_of};
 
-use crate::networks::{CaseTables, network_of};
 use geo_base::NoMemory;
 use geo_model::{Network, Square};
 use limit_forms::{LimitGrid, form_entry, grid_row};
 use normal_matrix::Normal;
 use std::alloc::Global;
 use std::test::Fail;
+use test_networks::{CaseTables, network_of};
 
 // A level of weight 100 to a new height.
 const ONE_LEVEL: CaseTables = CaseTables {
@@ -24,7 +24,7 @@ const ONE_LEVEL: CaseTables = CaseTables {
 
 #[test]
 fn a_level_comes_and_goes(rt: HostRuntime) -> Result<(), Fail> {
-    let network = network_of(&rt, rt.alloc(), &ONE_LEVEL)?;
+    let network = network_of(rt.alloc(), &ONE_LEVEL)?;
     let mut normal = Normal::new(rt.alloc(), &network)?;
     assert_eq!(rt; normal.entry(0, 0), 0);
     normal.add(&network, 0);
@@ -95,7 +95,7 @@ fn put_row(
 
 #[test]
 fn a_grid_of_two_unknowns(rt: HostRuntime) -> Result<(), Fail> {
-    let network = network_of(&rt, rt.alloc(), &TWO_LEVELS)?;
+    let network = network_of(rt.alloc(), &TWO_LEVELS)?;
     let normal = both_levels(rt.alloc(), &network)?;
     let squares = square_of(rt.alloc(), 1)?;
     let limit = squares.as_slice();
@@ -119,7 +119,7 @@ fn a_grid_of_two_unknowns(rt: HostRuntime) -> Result<(), Fail> {
 // the slack of both rows.
 #[test]
 fn a_grid_with_slack(rt: HostRuntime) -> Result<(), Fail> {
-    let network = network_of(&rt, rt.alloc(), &TWO_LEVELS)?;
+    let network = network_of(rt.alloc(), &TWO_LEVELS)?;
     let normal = both_levels(rt.alloc(), &network)?;
     let squares = square_of_both(rt.alloc())?;
     let limit = squares.as_slice();

@@ -5,7 +5,6 @@ ghost use Rattle.geo_model.specs.Energy.{IsWithin};
 ghost use Rattle.idle_splits.specs.Tests.{IsTestOf};
 ghost use Rattle.idle_splits.specs.UnitCuts.{AreUnitCuts};
 
-use crate::networks::{CaseTables, network_of};
 use geo_base::NoMemory;
 use geo_model::{Network, Node, Plan};
 use idle_splits::{
@@ -13,16 +12,7 @@ use idle_splits::{
 };
 use std::alloc::Global;
 use std::test::Fail;
-
-// Two levels for 1, and one for 50.
-const ONE_DEAR_LEVEL: CaseTables = CaseTables {
-    points: "A,,,100.000,,fixed\nH,,,101.000,,0.9\n",
-    candidates: "l1,level,A,H,,1.00,,1\nl2,level,A,H,,1.00,,1\nl3,level,A,H,,1.00,,50\n",
-    redundancy: 0,
-    unknowns: 1,
-    choices: 3,
-    limits: 1,
-};
+use test_networks::{ONE_DEAR_LEVEL, network_of};
 
 // What the plans of a node do with a candidate.
 #[derive(Clone, Copy)]
@@ -131,7 +121,7 @@ const FIRST_TWO: [NodePart; 3] = [NodePart::Chosen, NodePart::Chosen, NodePart::
 #[test]
 fn a_split_on_a_dear_level_is_idle(rt: HostRuntime) -> Result<(), Fail> {
     let alloc = rt.alloc();
-    let network = network_of(&rt, alloc, &ONE_DEAR_LEVEL)?;
+    let network = network_of(alloc, &ONE_DEAR_LEVEL)?;
     let mut test = IdleTest::new(alloc, &network)?;
     let dear = share_of(2, 50);
     // The splits of the log `s 0`, `s 1`, `c`, `s 2`, ..: before the third one stands a price of 2.
@@ -165,7 +155,7 @@ fn a_split_on_a_dear_level_is_idle(rt: HostRuntime) -> Result<(), Fail> {
 #[test]
 fn levels_that_fall_short_and_levels_that_suffice(rt: HostRuntime) -> Result<(), Fail> {
     let alloc = rt.alloc();
-    let network = network_of(&rt, alloc, &ONE_DEAR_LEVEL)?;
+    let network = network_of(alloc, &ONE_DEAR_LEVEL)?;
     let mut test = IdleTest::new(alloc, &network)?;
     assert_eq!(rt;
         share_at(alloc, &network, &mut test, MAYBE_THIRD, 61)?,
@@ -190,7 +180,7 @@ fn levels_that_fall_short_and_levels_that_suffice(rt: HostRuntime) -> Result<(),
 #[test]
 fn each_candidate_is_asked(rt: HostRuntime) -> Result<(), Fail> {
     let alloc = rt.alloc();
-    let network = network_of(&rt, alloc, &ONE_DEAR_LEVEL)?;
+    let network = network_of(alloc, &ONE_DEAR_LEVEL)?;
     let cuts = UnitCuts::new(alloc, &network)?;
     assert_eq!(rt; first_share_at(alloc, &network, &cuts, ALL, 2)?, None);
     assert_eq!(rt;

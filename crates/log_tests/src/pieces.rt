@@ -1,10 +1,10 @@
 //! Logs that are handed in in pieces: what comes of them is what comes of the whole logs.
-use crate::networks::{TOO_REDUNDANT, network_of};
 use crate::replays::{FAULTS, LOGS, accepted, fault};
 use geo_model::Network;
 use log_check::{LogFault, LogKind, ReplayAnswer, Replayed, Replayer};
 use std::alloc::Global;
 use std::test::Fail;
+use test_networks::{TOO_REDUNDANT, network_of};
 
 // What is answered after a piece, of which a proof here need know nothing.
 fn fed(replayer: &mut Replayer<'_>, piece: &[u8]) -> Result<(), ReplayAnswer> {
@@ -34,7 +34,7 @@ const SIZES: [usize; 4] = [1, 2, 7, 65536];
 
 #[test]
 fn logs_in_pieces(rt: HostRuntime) -> Result<(), Fail> {
-    let network = network_of(&rt, rt.alloc(), &TOO_REDUNDANT)?;
+    let network = network_of(rt.alloc(), &TOO_REDUNDANT)?;
     for (log, bound, counts) in LOGS {
         for size in SIZES {
             let whole = accepted(bound, counts);
@@ -46,7 +46,7 @@ fn logs_in_pieces(rt: HostRuntime) -> Result<(), Fail> {
 
 #[test]
 fn faults_in_pieces(rt: HostRuntime) -> Result<(), Fail> {
-    let network = network_of(&rt, rt.alloc(), &TOO_REDUNDANT)?;
+    let network = network_of(rt.alloc(), &TOO_REDUNDANT)?;
     for (log, line, kind) in FAULTS {
         for size in SIZES {
             let whole = fault(line, kind);
@@ -58,7 +58,7 @@ fn faults_in_pieces(rt: HostRuntime) -> Result<(), Fail> {
 
 #[test]
 fn a_line_of_two_pieces_is_one(rt: HostRuntime) -> Result<(), Fail> {
-    let network = network_of(&rt, rt.alloc(), &TOO_REDUNDANT)?;
+    let network = network_of(rt.alloc(), &TOO_REDUNDANT)?;
     let mut replayer = Replayer::new(rt.alloc(), &network)?;
     assert_eq!(rt; fed(&mut replayer, b"geoplan-log 1\ns"), Ok(()));
     assert_eq!(rt; fed(&mut replayer, b" 0\n"), Ok(()));
@@ -73,7 +73,7 @@ fn a_line_of_two_pieces_is_one(rt: HostRuntime) -> Result<(), Fail> {
 // The fault of a line is answered from the piece on in which the line ends.
 #[test]
 fn a_fault_stays(rt: HostRuntime) -> Result<(), Fail> {
-    let network = network_of(&rt, rt.alloc(), &TOO_REDUNDANT)?;
+    let network = network_of(rt.alloc(), &TOO_REDUNDANT)?;
     let mut replayer = Replayer::new(rt.alloc(), &network)?;
     let range = LogFault {
         line: 2,

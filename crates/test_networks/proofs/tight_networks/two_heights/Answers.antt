@@ -1,6 +1,6 @@
 use Rattle.std.proofs.Common.{◌∷◌, [], length, ◌∙◌, ap, ap₂}
-use Rattle.search_tests.proofs.TightNetworks.{two_heights}
-use Rattle.search_tests.proofs.tight_networks.two_heights.Goals as goal
+use Rattle.test_networks.proofs.TightNetworks.{two_heights}
+use Rattle.test_networks.proofs.tight_networks.two_heights.Goals as goal
 
 pub new-requires : goal.new-requires
 new-requires c =

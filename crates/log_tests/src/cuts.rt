@@ -1,7 +1,6 @@
 //! Cuts of three levels of 1.00 mm to one new height, whose limit is 0.9 mm.
 ghost use Rattle.std.specs.Prelude.{◌≡◌, length, IfOk};
 
-use crate::networks::{CaseTables, network_of};
 use cut_pool::{
     Cut, CutPool, Share, cut_into, cut_of, meeting_plans_satisfy_cuts, shifts_are_least,
 };
@@ -10,15 +9,7 @@ use geo_model::{Displacement, Network};
 use std::alloc::Global;
 use std::process::Abort;
 use std::test::Fail;
-
-const THREE_LEVELS: CaseTables = CaseTables {
-    points: "A,,,100.000,,fixed\nH,,,101.000,,0.9\n",
-    candidates: "l1,level,A,H,,1.00,,5\nl2,level,A,H,,1.00,,7\nl3,level,A,H,,1.00,,9\n",
-    redundancy: 0,
-    unknowns: 1,
-    choices: 3,
-    limits: 1,
-};
+use test_networks::{THREE_LEVELS, network_of};
 
 // The displacement of the height by so many millimetres.
 fn height_moves(alloc: Global, by: u8) -> Result<Displacement, NoMemory>
@@ -51,7 +42,7 @@ fn written(alloc: Global, network: &Network, by: u8) -> Result<(u32, [u32; 3]), 
 
 #[test]
 fn a_cut_of_three_levels(rt: HostRuntime) -> Result<(), Fail> {
-    let network = network_of(&rt, rt.alloc(), &THREE_LEVELS)?;
+    let network = network_of(rt.alloc(), &THREE_LEVELS)?;
     let expected = [9655953u32, 9655953, 9655953];
     let cut = height_cut(rt.alloc(), &network, 1)?;
     assert_eq!(rt; (cut.limit, cut.bound), (0, 11920928));
@@ -69,7 +60,7 @@ fn added(rt: &impl Abort, pool: &mut CutPool, cut: Cut) -> Result<bool, Fail> {
 
 #[test]
 fn a_pool_keeps_a_cut_once(rt: HostRuntime) -> Result<(), Fail> {
-    let network = network_of(&rt, rt.alloc(), &THREE_LEVELS)?;
+    let network = network_of(rt.alloc(), &THREE_LEVELS)?;
     let mut pool = CutPool::new(rt.alloc());
     assert_eq!(rt; pool.len(), 0);
     for (by, is_new) in [(1, true), (2, true), (1, false)] {

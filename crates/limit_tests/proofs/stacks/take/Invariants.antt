@@ -1,4 +1,4 @@
-use Rattle.search_tests.proofs.stacks.take.Given as goal
+use Rattle.limit_tests.proofs.stacks.take.Given as goal
 
 abbrev pub ghosts-take_counted : goal.ghosts-take_counted
 ghosts-take_counted g a = record { name = a.blank.name; parts = a.blank.parts }

@@ -1,6 +1,6 @@
 use Rattle.std.proofs.Common.{◌∷◌, [], length, ◌∙◌, ap, ap₂}
-use Rattle.search_tests.proofs.TightNetworks.{missed}
-use Rattle.search_tests.proofs.tight_networks.missed.Goals as goal
+use Rattle.test_networks.proofs.TightNetworks.{missed}
+use Rattle.test_networks.proofs.tight_networks.missed.Goals as goal
 
 pub new-requires : goal.new-requires
 new-requires c =

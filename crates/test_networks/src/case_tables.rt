@@ -1,13 +1,11 @@
-//! Networks of small tables, which the tests share.
-ghost use Rattle.std.specs.Prelude.{◌≡◌, length, IfOk};
+ghost use Rattle.std.specs.Prelude.{◌≡◌, length, IfOk, IsTrue};
 
+use crate::unfit::Unfit;
 use candidate_tables::read_candidates;
 use geo_model::Network;
 use net_build::build;
 use point_tables::{Points, read_points};
 use std::alloc::Global;
-use std::process::Abort;
-use std::test::Fail;
 
 /// Records of two tables, a redundancy in thousandths, and how many unknowns, candidates and limits
 /// their network has.
@@ -70,6 +68,36 @@ pub const TOO_REDUNDANT: CaseTables = CaseTables {
     limits: 3,
 };
 
+/// Levels for 1 and 50 to a height with a limit of 0.9 mm.
+pub const TWO_LEVELS: CaseTables = CaseTables {
+    points: CLOSER_HEIGHT,
+    candidates: "l1,level,A,H,,1.00,,1\nl3,level,A,H,,1.00,,50\n",
+    redundancy: 0,
+    unknowns: 1,
+    choices: 2,
+    limits: 1,
+};
+
+/// The same with levels for 5, 7 and 9.
+pub const THREE_LEVELS: CaseTables = CaseTables {
+    points: CLOSER_HEIGHT,
+    candidates: "l1,level,A,H,,1.00,,5\nl2,level,A,H,,1.00,,7\nl3,level,A,H,,1.00,,9\n",
+    redundancy: 0,
+    unknowns: 1,
+    choices: 3,
+    limits: 1,
+};
+
+/// The same with two levels for 1, and one for 50.
+pub const ONE_DEAR_LEVEL: CaseTables = CaseTables {
+    points: CLOSER_HEIGHT,
+    candidates: "l1,level,A,H,,1.00,,1\nl2,level,A,H,,1.00,,1\nl3,level,A,H,,1.00,,50\n",
+    redundancy: 0,
+    unknowns: 1,
+    choices: 3,
+    limits: 1,
+};
+
 const LINE: &str =
     "l1,level,A,H1,,0.50,,5\nl2,level,H1,H2,,0.50,,5\nl3,level,H2,H3,,0.50,,5\nl4,level,H3,H4,,0.50,,5\n";
 
@@ -93,37 +121,45 @@ pub const WIDER_LINE: CaseTables = CaseTables {
     limits: 4,
 };
 
-// The points of these records, of which a proof here need know nothing.
-fn points_of(alloc: Global, records: &str) -> Result<Points, Fail> {
+// The points of these records, of which a proof need know nothing.
+fn points_of(alloc: Global, records: &str) -> Result<Points, Unfit> {
     let mut bytes = b"name,x,y,z,plane,height\n".to_vec(alloc)?;
     bytes.extend_from_slice(records.as_bytes())?;
     Ok(read_points(alloc, bytes.as_slice())?)
 }
 
-// The network of these points and of a table's candidates, of which a proof here need know nothing.
-fn built(
-    rt: &impl Abort,
-    alloc: Global,
-    points: &Points,
-    tables: &CaseTables,
-) -> Result<Network, Fail> {
-    assert!(rt; tables.redundancy <= 999);
+// The network of these points and of a table's candidates, of which a proof need know nothing.
+fn built(alloc: Global, points: &Points, tables: &CaseTables) -> Result<Network, Unfit> {
+    if tables.redundancy > 999 {
+        return Err(Unfit::Sizes);
+    }
     let mut bytes = b"name,kind,from,to,to2,sd,sdh,price\n".to_vec(alloc)?;
     bytes.extend_from_slice(tables.candidates.as_bytes())?;
     let candidates = read_candidates(alloc, bytes.as_slice(), points)?;
     Ok(build(alloc, points, &candidates, tables.redundancy)?)
 }
 
-/// The network of these tables.
-pub fn network_of(rt: &impl Abort, alloc: Global, tables: &CaseTables) -> Result<Network, Fail>
+// Whether a network has the sizes that its tables tell.
+fn has_sizes(network: &Network, tables: &CaseTables) -> bool
+    ensures unknowns { IsTrue result → length network.now.unknowns ≡ tables.now.unknowns }
+    ensures candidates { IsTrue result → length network.now.candidates ≡ tables.now.choices }
+    ensures limits { IsTrue result → length network.now.limits ≡ tables.now.limits }
+{
+    network.unknowns().len() == tables.unknowns
+        && network.candidates().len() == tables.choices
+        && network.limits().len() == tables.limits
+}
+
+/// The network of these tables. A proof need know no more of it than its sizes.
+pub fn network_of(alloc: Global, tables: &CaseTables) -> Result<Network, Unfit>
     ensures unknowns { IfOk result (λ network. length network.unknowns ≡ tables.now.unknowns) }
     ensures candidates { IfOk result (λ network. length network.candidates ≡ tables.now.choices) }
     ensures limits { IfOk result (λ network. length network.limits ≡ tables.now.limits) }
 {
     let points = points_of(alloc, tables.points)?;
-    let network = built(rt, alloc, &points, tables)?;
-    assert!(rt; network.unknowns().len() == tables.unknowns);
-    assert!(rt; network.candidates().len() == tables.choices);
-    assert!(rt; network.limits().len() == tables.limits);
+    let network = built(alloc, &points, tables)?;
+    if !has_sizes(&network, tables) {
+        return Err(Unfit::Sizes);
+    }
     Ok(network)
 }

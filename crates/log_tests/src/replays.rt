@@ -1,11 +1,11 @@
 //! Logs of small networks of one new height, with levels of 1.00 mm to it. What they prove, and where
 //! they are wrong, was reckoned by an independent program.
-use crate::networks::{CLOSER_LEVEL, LEVELLING_LINE, ONE_LEVEL, TOO_REDUNDANT, network_of};
 use geo_base::NoMemory;
 use geo_model::{Counts, Network};
 use log_check::{Bound, LogFault, LogKind, ReplayAnswer, Replayed, replay};
 use std::alloc::Global;
 use std::test::Fail;
+use test_networks::{CLOSER_LEVEL, LEVELLING_LINE, ONE_LEVEL, TOO_REDUNDANT, network_of};
 
 /// A replay, of which a proof here need know nothing.
 pub fn replayed(alloc: Global, network: &Network, log: &[u8]) -> Result<Replayed, ReplayAnswer> {
@@ -59,7 +59,7 @@ pub const LOGS: [(&[u8], Bound, [u64; 4]); 4] = [
 
 #[test]
 fn logs_of_two_levels(rt: HostRuntime) -> Result<(), Fail> {
-    let network = network_of(&rt, rt.alloc(), &TOO_REDUNDANT)?;
+    let network = network_of(rt.alloc(), &TOO_REDUNDANT)?;
     for (log, bound, counts) in LOGS {
         let expected = accepted(bound, counts);
         assert_eq!(rt; replayed(rt.alloc(), &network, log), expected);
@@ -79,7 +79,7 @@ fn cut_off(front: &[u8]) -> Result<Replayed, ReplayAnswer> {
 
 #[test]
 fn logs_that_are_cut_off(rt: HostRuntime) -> Result<(), Fail> {
-    let network = network_of(&rt, rt.alloc(), &TOO_REDUNDANT)?;
+    let network = network_of(rt.alloc(), &TOO_REDUNDANT)?;
     for end in 0..WHOLE.len() {
         let front = &WHOLE[..end];
         assert_eq!(rt; replayed(rt.alloc(), &network, front), cut_off(front));
@@ -131,7 +131,7 @@ pub const FAULTS: [(&[u8], u64, LogKind); 30] = [
 
 #[test]
 fn logs_with_a_fault(rt: HostRuntime) -> Result<(), Fail> {
-    let network = network_of(&rt, rt.alloc(), &TOO_REDUNDANT)?;
+    let network = network_of(rt.alloc(), &TOO_REDUNDANT)?;
     for (log, line, kind) in FAULTS {
         assert_eq!(rt; replayed(rt.alloc(), &network, log), fault(line, kind));
     }
@@ -141,7 +141,7 @@ fn logs_with_a_fault(rt: HostRuntime) -> Result<(), Fail> {
 // A level that meets its limit, so that nothing is refuted.
 #[test]
 fn a_log_of_a_level_that_is_wide_enough(rt: HostRuntime) -> Result<(), Fail> {
-    let network = network_of(&rt, rt.alloc(), &ONE_LEVEL)?;
+    let network = network_of(rt.alloc(), &ONE_LEVEL)?;
     let refuted = b"geoplan-log 1\np 0\n".as_slice();
     let expected = fault(2, LogKind::NotRefuted);
     assert_eq!(rt; replayed(rt.alloc(), &network, refuted), expected);
@@ -150,7 +150,7 @@ fn a_log_of_a_level_that_is_wide_enough(rt: HostRuntime) -> Result<(), Fail> {
 
 #[test]
 fn logs_of_a_level_that_misses_its_limit(rt: HostRuntime) -> Result<(), Fail> {
-    let network = network_of(&rt, rt.alloc(), &CLOSER_LEVEL)?;
+    let network = network_of(rt.alloc(), &CLOSER_LEVEL)?;
     for (log, expected) in [
         (
             b"geoplan-log 1\np 0\n".as_slice(),
@@ -200,7 +200,7 @@ const DISPLACEMENTS: [(&[u8], LogKind); 12] = [
 
 #[test]
 fn displacements_with_a_fault(rt: HostRuntime) -> Result<(), Fail> {
-    let network = network_of(&rt, rt.alloc(), &LEVELLING_LINE)?;
+    let network = network_of(rt.alloc(), &LEVELLING_LINE)?;
     for (log, kind) in DISPLACEMENTS {
         assert_eq!(rt; replayed(rt.alloc(), &network, log), fault(2, kind));
     }
@@ -212,7 +212,7 @@ fn displacements_with_a_fault(rt: HostRuntime) -> Result<(), Fail> {
 // by 1, the load of a move by 7 is 49 times as much, and that of one by 6 only 36 times.
 #[test]
 fn displacements_without_a_level(rt: HostRuntime) -> Result<(), Fail> {
-    let network = network_of(&rt, rt.alloc(), &LEVELLING_LINE)?;
+    let network = network_of(rt.alloc(), &LEVELLING_LINE)?;
     for (log, expected) in [
         (
             b"geoplan-log 1\ns 3\nc\nx 3 1 3 -1\n".as_slice(),
@@ -247,7 +247,7 @@ fn repeated(alloc: Global, head: &[u8], part: &[u8], count: u32) -> Result<Vec<u
 #[test]
 fn lines_of_64_shares_and_of_64_pairs(rt: HostRuntime) -> Result<(), Fail> {
     let alloc = rt.alloc();
-    let network = network_of(&rt, alloc, &TOO_REDUNDANT)?;
+    let network = network_of(alloc, &TOO_REDUNDANT)?;
     let share = b" 1 0 1 0 1".as_slice();
     let log = repeated(alloc, b"geoplan-log 1\nd 190734848 64", share, 64)?;
     let mut counts = Counts::none();

@@ -2,15 +2,14 @@
 ghost use Rattle.std.specs.Prelude.{◌≡◌, ◌<◌, length, IfOk};
 ghost use Rattle.pivot_chain.specs.Room.{IsRoomOf};
 
-use crate::networks::{
-    CLOSER_LEVEL, CaseTables, LEVELLING_LINE, ONE_LEVEL, WIDER_LINE, network_of,
-};
-use crate::tight_networks::two_heights;
 use geo_model::{Network, Plan, Verdict};
 use pivot_chain::{ChainRoom, verdict};
 use std::alloc::Global;
 use std::process::Abort;
 use std::test::Fail;
+use test_networks::{
+    CLOSER_LEVEL, CaseTables, LEVELLING_LINE, ONE_LEVEL, WIDER_LINE, network_of, two_heights,
+};
 
 // A verdict, of which a proof here need know no more than that its room serves again.
 fn judged(room: &mut ChainRoom, network: &Network, plan: &Plan, limit: u32) -> Verdict
@@ -77,7 +76,7 @@ const VERDICTS: [(CaseTables, Option<u32>, u32, Verdict); 7] = [
 #[test]
 fn verdicts_on_levels(rt: HostRuntime) -> Result<(), Fail> {
     for (tables, left_out, limit, expected) in &VERDICTS {
-        let network = network_of(&rt, rt.alloc(), tables)?;
+        let network = network_of(rt.alloc(), tables)?;
         expect_verdict(&rt, rt.alloc(), &network, (*left_out, *limit), *expected)?;
     }
     Ok(())

@@ -3,7 +3,6 @@
 ghost use Rattle.std.specs.Prelude.{◌≡◌, ◌+◌, ◌<◌, ◌^◌, false, true, Some, length, slice_get, slice_set, IfOk};
 ghost use Rattle.factor_stack.specs.Stack.{IsStackOf};
 
-use crate::networks::{LEVELLING_LINE, network_of};
 use factor_stack::{FactorStack, Steps};
 use geo_base::NoMemory;
 use geo_model::{Network, Plan, Verdict};
@@ -12,6 +11,7 @@ use std::marker::Brand;
 use std::process::Abort;
 use std::sync::ledger::{Blank, Ledger};
 use std::test::Fail;
+use test_networks::{LEVELLING_LINE, network_of};
 
 // A level of the line that a plan doesn't have, and whether it has the others; the most steps that the
 // level's change takes, which are the places from the first one on that it touches; and the verdict
@@ -180,7 +180,7 @@ const CHANGES: [LevelChange; 8] = [
 
 #[test]
 fn changes_of_a_levelling_line(rt: HostRuntime) -> Result<(), Fail> {
-    let network = network_of(&rt, rt.alloc(), &LEVELLING_LINE)?;
+    let network = network_of(rt.alloc(), &LEVELLING_LINE)?;
     for change in &CHANGES {
         expect_change(&rt, rt.alloc(), &network, change)?;
     }

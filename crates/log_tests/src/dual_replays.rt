@@ -1,33 +1,10 @@
 //! Logs with dual bounds, of small networks of one new height with levels of 1.00 mm to it. The first
 //! one, and that the dual bound of its last node is 13, were reckoned by hand.
-use crate::networks::{CaseTables, TOO_REDUNDANT, network_of};
 use geo_model::{Counts, Network};
 use log_check::{Bound, LogFault, LogKind, ReplayAnswer, Replayed, replay};
 use std::alloc::Global;
 use std::test::Fail;
-
-// A fixed height, and a new one with a limit of 0.9 mm.
-const HEIGHT: &str = "A,,,100.000,,fixed\nH,,,101.000,,0.9\n";
-
-// Levels for 1, 1 and 50.
-const THREE_LEVELS: CaseTables = CaseTables {
-    points: HEIGHT,
-    candidates: "l1,level,A,H,,1.00,,1\nl2,level,A,H,,1.00,,1\nl3,level,A,H,,1.00,,50\n",
-    redundancy: 0,
-    unknowns: 1,
-    choices: 3,
-    limits: 1,
-};
-
-// Levels for 1 and 50.
-const TWO_LEVELS: CaseTables = CaseTables {
-    points: HEIGHT,
-    candidates: "l1,level,A,H,,1.00,,1\nl3,level,A,H,,1.00,,50\n",
-    redundancy: 0,
-    unknowns: 1,
-    choices: 2,
-    limits: 1,
-};
+use test_networks::{ONE_DEAR_LEVEL, TOO_REDUNDANT, TWO_LEVELS, network_of};
 
 // A replay, of which a proof here need know nothing.
 fn replayed(alloc: Global, network: &Network, log: &[u8]) -> Result<Replayed, ReplayAnswer> {
@@ -52,7 +29,7 @@ fn accepted(
 
 #[test]
 fn a_log_of_three_levels(rt: HostRuntime) -> Result<(), Fail> {
-    let network = network_of(&rt, rt.alloc(), &THREE_LEVELS)?;
+    let network = network_of(rt.alloc(), &ONE_DEAR_LEVEL)?;
     let log = b"geoplan-log 1\ns 0\ns 1\nc\ns 2\nc\np 0\nd 9655953 1 50 0 1 0 1\n".as_slice();
     assert_eq!(rt;
         replayed(rt.alloc(), &network, log),
@@ -74,7 +51,7 @@ const LOGS: [(&[u8], u128, [u64; 4]); 3] = [
 
 #[test]
 fn dual_bounds_of_two_levels(rt: HostRuntime) -> Result<(), Fail> {
-    let network = network_of(&rt, rt.alloc(), &TWO_LEVELS)?;
+    let network = network_of(rt.alloc(), &TWO_LEVELS)?;
     for (log, bound, counts) in LOGS {
         assert_eq!(rt;
             replayed(rt.alloc(), &network, log),
@@ -115,7 +92,7 @@ const WRONG: [(&[u8], LogKind); 15] = [
 
 #[test]
 fn dual_bounds_with_a_fault(rt: HostRuntime) -> Result<(), Fail> {
-    let network = network_of(&rt, rt.alloc(), &TOO_REDUNDANT)?;
+    let network = network_of(rt.alloc(), &TOO_REDUNDANT)?;
     for (log, kind) in WRONG {
         let expected = Err(ReplayAnswer::Fault(LogFault { line: 2, kind }));
         assert_eq!(rt; replayed(rt.alloc(), &network, log), expected);

@@ -1,18 +1,17 @@
 //! Displacements that break a limit of a height with a level of 1.00 mm.
 ghost use Rattle.std.specs.Prelude.{◌<◌};
 
-use crate::networks::{CLOSER_LEVEL, CaseTables, ONE_LEVEL, network_of};
 use displacements::{breaks, energy, load, propose};
 use geo_model::{Displacement, Plan};
 use pivot_chain::ChainRoom;
 use std::alloc::Global;
-use std::process::Abort;
 use std::test::Fail;
+use test_networks::{CLOSER_LEVEL, CaseTables, ONE_LEVEL, network_of};
 
 #[test]
 fn the_widest_move_breaks_the_narrow_limit_alone(rt: HostRuntime) -> Result<(), Fail> {
-    let exact = network_of(&rt, rt.alloc(), &ONE_LEVEL)?;
-    let narrow = network_of(&rt, rt.alloc(), &CLOSER_LEVEL)?;
+    let exact = network_of(rt.alloc(), &ONE_LEVEL)?;
+    let narrow = network_of(rt.alloc(), &CLOSER_LEVEL)?;
     let plan = Plan::full(rt.alloc(), 1)?;
     let mut x = Displacement::new(rt.alloc(), 1)?;
     x.set(0, 32768);
@@ -24,14 +23,10 @@ fn the_widest_move_breaks_the_narrow_limit_alone(rt: HostRuntime) -> Result<(), 
 }
 
 // What is proposed for the plan of all candidates and the first limit of a network.
-fn proposed(
-    rt: &impl Abort,
-    alloc: Global,
-    tables: &CaseTables,
-) -> Result<Option<Displacement>, Fail>
+fn proposed(alloc: Global, tables: &CaseTables) -> Result<Option<Displacement>, Fail>
     requires { 0 < tables.now.limits }
 {
-    let network = network_of(rt, alloc, tables)?;
+    let network = network_of(alloc, tables)?;
     let plan = Plan::full(alloc, network.candidates().len() as u32)?;
     let mut room = ChainRoom::new(alloc, &network)?;
     Ok(propose(alloc, &mut room, &network, &plan, 0)?)
@@ -39,8 +34,8 @@ fn proposed(
 
 #[test]
 fn a_limit_is_broken_or_nothing_is_proposed(rt: HostRuntime) -> Result<(), Fail> {
-    assert!(rt; proposed(&rt, rt.alloc(), &ONE_LEVEL)?.is_none());
-    let narrow = proposed(&rt, rt.alloc(), &CLOSER_LEVEL)?;
+    assert!(rt; proposed(rt.alloc(), &ONE_LEVEL)?.is_none());
+    let narrow = proposed(rt.alloc(), &CLOSER_LEVEL)?;
     let x = narrow.ok_or("nothing is proposed")?;
     assert_eq!(rt; x.entries(), [1i32].as_slice());
     Ok(())

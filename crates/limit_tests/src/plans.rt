@@ -1,7 +1,7 @@
 //! Plans, rows, limits and displacements.
-use crate::networks::{CaseTables, network_of};
 use geo_model::{Counts, Displacement, Limit, LimitKind, Node, Plan, Row, cost};
 use std::test::Fail;
+use test_networks::{CaseTables, network_of};
 
 // Two levels between fixed heights.
 const FIXED_LEVELS: CaseTables = CaseTables {
@@ -15,7 +15,7 @@ const FIXED_LEVELS: CaseTables = CaseTables {
 
 #[test]
 fn plans_cost_what_they_choose(rt: HostRuntime) -> Result<(), Fail> {
-    let network = network_of(&rt, rt.alloc(), &FIXED_LEVELS)?;
+    let network = network_of(rt.alloc(), &FIXED_LEVELS)?;
     let mut plan = Plan::empty(rt.alloc(), 2)?;
     plan.set(1, true);
     assert_eq!(rt; cost(&network, &plan), 7);

@@ -6,7 +6,7 @@ use Rattle.geo_model.specs.Energy.{full_energy}
 use Rattle.geo_model.specs.Candidate.{CandidateOf}
 use Rattle.geo_model.specs.Limit.{SquareOf, IsLoad, load}
 use Rattle.limit_forms.proofs.GridReads.{length-grid_of}
-use Rattle.search_tests.proofs.grids.a_grid_of_two_unknowns.Goals as goal
+use Rattle.limit_tests.proofs.grids.a_grid_of_two_unknowns.Goals as goal
 
 pub unknown-requires : goal.unknown-requires
 unknown-requires g c =
