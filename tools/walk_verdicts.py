@@ -2,7 +2,7 @@
 
     python3 tools/walk_verdicts.py PROGRAM [VERDICTS]    prints a row of a table for each kind of network, and a sum
 
-PROGRAM is crates/verdict_cli/out/verdict_cli after `rt run` there. A walk begins at the empty plan. Each step
+PROGRAM is crates/verdict_cli/out/verdict_cli after `rt run` there. A walk begins at a random plan. Each step
 changes one candidate, or takes the latest change back, so that a stack does too. The program is run twice over
 the plans of a walk: once its stacks follow them, once each verdict is reckoned anew. Both texts have to be the
 same, with the step and the interval of each open verdict. Walks go on until VERDICTS (100000 if it isn't told)
@@ -18,17 +18,19 @@ from bench_verdicts import Network, all_networks, candidates_text, points_text
 # The limits of the points in mm, from those that are met soon to those that no plan meets.
 LIMITS = ("0.1", "0.5", "1.0", "2.0", "5.0", "100.0")
 
-STEPS = 60
+STEPS = 16
 
 
 def small_networks():
-    """The networks of the table of verdicts that have at most 33 unknowns: large ones would take most of the time."""
-    return [network for network in all_networks() if len(network.new) <= 33]
+    """The networks of the table of verdicts of at most 17 new points: larger ones would take most of the time."""
+    return [network for network in all_networks() if len(network.new) <= 17]
 
 
 def walk(rng, count):
-    """The plans of a walk over so many candidates, with the number of the changes and of those taken back."""
-    plan, before, plans, back = [0] * count, [], [[0] * count], 0
+    """The plans of a walk over so many candidates, and how many changes are taken back on it."""
+    share = rng.choice((0, 0.5, 0.9, 1))
+    plan, before, back = [int(rng.random() < share) for _ in range(count)], [], 0
+    plans = [plan]
     for _step in range(STEPS):
         if before and rng.random() < 0.4:
             plan = before.pop()
@@ -36,9 +38,7 @@ def walk(rng, count):
         else:
             before.append(plan)
             plan = list(plan)
-            # Candidates come more often than they go, so that walks reach plans that meet limits.
-            open_ones = [i for i in range(count) if plan[i] == 0]
-            i = rng.choice(open_ones) if open_ones and rng.random() < 0.8 else rng.randrange(count)
+            i = rng.randrange(count)
             plan[i] = 1 - plan[i]
         plans.append(plan)
     return plans, back
