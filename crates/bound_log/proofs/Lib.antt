@@ -15,7 +15,6 @@ pub mod NumberLemmas
 pub mod OpenLemmas
 pub mod PoolLemmas
 pub mod SoundLemmas
-pub mod SpellLemmas
 pub mod TreeLemmas
 pub mod UseLemmas
 pub mod UseRuleLemmas

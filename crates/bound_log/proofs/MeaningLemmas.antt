@@ -1,20 +1,27 @@
 -- What lines of a log stand for, line by line; and that a text spells one tree.
-use Rattle.std.proofs.Common.{◌≡◌, ℕ, List, [], ◌∷◌, ◌++◌, All, Option, Some, None, refl, ap, sym, ◌∙◌, subst, append-nil, append_assoc}
+use Rattle.std.proofs.Common.{◌≡◌, ℕ, List, [], ◌∷◌, ◌++◌, All, Option, Some, None, true, arith, refl, ap, sym, ◌∙◌, subst, append-nil, append_assoc}
 use Rattle.std.specs.Prelude.{false}
 use Rattle.std.proofs.lemmas.Grind.{flat_map-append}
+use Rattle.std.proofs.lemmas.List.Elements.{All-cons, All-nil}
+use Rattle.geo_model.specs.Network.{NetworkOf, IsNetwork}
+use Rattle.bound_log.specs.declared.bound.Bound.{Bound}
 use Rattle.bound_log.specs.declared.log_format.LogFormat.{LogFormat}
 use Rattle.bound_log.specs.declared.log_format.LogFormat.TheVariants.{First, Second}
+use Rattle.bound_log.specs.declared.log_leaf.LogLeaf.TheVariants.{Cost}
 use Rattle.bound_log.specs.declared.log_line.LogLine.{LogLine}
+use Rattle.bound_log.specs.declared.log_line.LogLine.TheVariants.{Leaf}
 use Rattle.bound_log.specs.declared.named_line.NamedLine.{NamedLine}
 use Rattle.bound_log.specs.declared.named_line.NamedLine.TheVariants.{Named}
 use Rattle.bound_log.specs.CutText.{CutTextOf}
 use Rattle.bound_log.specs.Formats.{HasShortNumbers, LineIn, texts_in}
 use Rattle.bound_log.specs.LogText.{head_text, lines_text, log_text}
-use Rattle.bound_log.specs.Meanings.{Meaning, cuts_named, joined_nodes, lacking, meaning_in, named_in, names_last, nodes_in, nodes_of, standing}
+use Rattle.bound_log.specs.LogTree.{root_of, IsAllowed, IsLog, bound_at, HasBound}
+use Rattle.bound_log.specs.Meanings.{Meaning, cuts_named, is_cut_in_range, joined_nodes, lacking, meaning_in, named_in, names_last, nodes_in, nodes_of, standing}
 use Rattle.bound_log.specs.SpellsIn.{SpellsIn}
-use Rattle.bound_log.specs.Tree.{Tree, tree_lines}
+use Rattle.bound_log.specs.Tree.{Tree, tip, tree_lines}
+use Rattle.bound_log.proofs.AllowedLemmas.{cost_allowed}
 use Rattle.bound_log.proofs.FormatLemmas.{after_head_in, same_format, texts_in-apart}
-use Rattle.bound_log.proofs.TreeLemmas.{same_tree}
+use Rattle.bound_log.proofs.TreeLemmas.{allowed_numbers, same_tree}
 
 -- ---- lines, one after another
 
@@ -108,3 +115,38 @@ spells_first text tree small is = record {
   named = cuts_named-first (tree_lines tree);
   last = names_last-first (tree_lines tree);
 }
+
+-- a text that is a log of a network is one log
+pub one_log : (network : NetworkOf) (text : List ℕ) (a b : Tree) → IsLog network text a → IsLog network text b → a ≡ b
+one_log network text a b one other = (spell_same one.format other.format text one.cuts other.cuts a b one.spells other.spells).trees
+
+-- the log of a tree that is allowed, in format 1
+pub first_log : (network : NetworkOf) (tree : Tree) → IsNetwork network → IsAllowed network (root_of network) tree → IsLog network (log_text tree) tree
+first_log network tree bounds allowed = record {
+  format = First;
+  cuts = [];
+  spells = spells_first (log_text tree) tree (allowed_numbers network (root_of network) tree bounds allowed) refl;
+  named = record { few = omega arith; each = All-nil (λ (cut : CutTextOf). is_cut_in_range network cut ≡ true) };
+  allowed = allowed;
+}
+
+-- the log of the price alone
+pub cost_log : (network : NetworkOf) → IsLog network (log_text (tip Cost)) (tip Cost)
+cost_log network = record {
+  format = First;
+  cuts = [];
+  spells = spells_first (log_text (tip Cost)) (tip Cost) (All-cons (HasShortNumbers First) (Leaf Cost) [] tt (All-nil (HasShortNumbers First))) refl;
+  named = record { few = omega arith; each = All-nil (λ (cut : CutTextOf). is_cut_in_range network cut ≡ true) };
+  allowed = cost_allowed network (root_of network);
+}
+
+-- a text that is a log of a network has one bound
+pub one_bound : (network : NetworkOf) (text : List ℕ) (a b : Bound) → HasBound network text a → HasBound network text b → a ≡ b
+one_bound network text a b one other = one.least ∙ ap (bound_at network (root_of network)) (one_log network text one.tree other.tree one.log other.log) ∙ sym other.least
+
+-- logs of one tree have one bound
+pub one_tree_bound : (network : NetworkOf) (tree : Tree) (text other : List ℕ) (a b : Bound) → IsLog network text tree → IsLog network other tree → HasBound network text a → HasBound network other b → a ≡ b
+one_tree_bound network tree text other a b first second has also =
+    has.least
+    ∙ ap (bound_at network (root_of network)) (one_log network text has.tree tree has.log first ∙ one_log network other tree also.tree second also.log)
+    ∙ sym also.least

@@ -119,14 +119,18 @@ bound_for-below prices network node (fork candidate with_it without_it) stations
           (bound_for-below prices network (without_chosen node candidate) without_it stations bounds allowed.2 plan above (IsWithin-without plan node.upper candidate below lacks) meets)
     ]
 
--- the bound of a log is a lower bound, under any prices
-pub HasBoundFor-below : (prices : PricesOf) (network : NetworkOf) (text : List ℕ) (bound : Bound) → HasStationPrices prices → IsNetwork network → HasBoundFor prices network text bound → IsLowerBoundFor prices network bound
-HasBoundFor-below prices network text bound stations bounds log = λ plan long meets.
-    let below : IsAtMost (bound_for prices network (root_of network) log.tree) (plan_price prices plan) =
-    bound_for-below prices network (root_of network) log.tree stations bounds log.log.allowed plan
+-- the bound of a tree that is allowed at the root is a lower bound, under any prices
+pub allowed-below : (prices : PricesOf) (network : NetworkOf) (tree : Tree) (bound : Bound) → HasStationPrices prices → IsNetwork network → IsAllowed network (root_of network) tree → bound ≡ bound_for prices network (root_of network) tree → IsLowerBoundFor prices network bound
+allowed-below prices network tree bound stations bounds allowed least = λ plan long meets.
+    let below : IsAtMost (bound_for prices network (root_of network) tree) (plan_price prices plan) =
+    bound_for-below prices network (root_of network) tree stations bounds allowed plan
     (subst (λ (n : ℕ). IsWithin (replicate n false) plan) long (IsWithin-none plan))
     (subst (λ (n : ℕ). IsWithin plan (replicate n true)) long (IsWithin-all plan)) meets in
-    subst (λ (b : Bound). IsAtMost b (plan_price prices plan)) (sym log.least) below
+    subst (λ (b : Bound). IsAtMost b (plan_price prices plan)) (sym least) below
+
+-- .. so that of a log is
+pub HasBoundFor-below : (prices : PricesOf) (network : NetworkOf) (text : List ℕ) (bound : Bound) → HasStationPrices prices → IsNetwork network → HasBoundFor prices network text bound → IsLowerBoundFor prices network bound
+HasBoundFor-below prices network text bound stations bounds log = allowed-below prices network log.tree bound stations bounds log.log.allowed log.least
 
 -- .. under those of the network
 pub HasBound-below : (network : NetworkOf) (text : List ℕ) (bound : Bound) → IsNetwork network → HasBound network text bound → IsLowerBound network bound

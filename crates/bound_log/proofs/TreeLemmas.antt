@@ -5,12 +5,10 @@ use Rattle.std.proofs.lemmas.List.Elements.{All-nil, All-cons, All-head, All-tai
 use Rattle.geo_model.specs.Network.{NetworkOf, IsNetwork}
 use Rattle.geo_model.specs.declared.plan.Node.{Node}
 use Rattle.lent_parts.specs.Pieces.{TextLineOf, lines_of}
-use Rattle.bound_log.specs.declared.bound.Bound.{Bound}
 use Rattle.bound_log.specs.Grammar.{number_bound, HasNumbersBelow, IsLine}
-use Rattle.bound_log.specs.LogText.{head_text, line_body, line_text, lines_text, log_text}
+use Rattle.bound_log.specs.LogText.{line_body, line_text}
 use Rattle.bound_log.specs.Rules.{IsAllowedLine}
-use Rattle.bound_log.specs.Spells.{Spells}
-use Rattle.bound_log.specs.LogTree.{root_of, with_chosen, without_chosen, IsAllowed, bound_at, HasBound}
+use Rattle.bound_log.specs.LogTree.{with_chosen, without_chosen, IsAllowed}
 use Rattle.bound_log.specs.Placed.{placed}
 use Rattle.bound_log.specs.declared.log_leaf.LogLeaf.TheVariants.{Cost, Pivot, Cut, Dual}
 use Rattle.bound_log.specs.declared.log_line.LogLine.{LogLine}
@@ -18,7 +16,6 @@ use Rattle.bound_log.specs.declared.log_line.LogLine.TheVariants.{Split, Leaf}
 use Rattle.bound_log.specs.Tree.{Tree, fork, tip, tree_lines}
 use Rattle.bound_log.proofs.AllowedLemmas.{line_numbers}
 use Rattle.bound_log.proofs.GrammarLemmas.{IsLine-body, a_text_is_one, lines_of-line_text}
-use Rattle.bound_log.proofs.SpellLemmas.{spelled_text}
 
 -- ---- a text has one list of lines
 
@@ -45,15 +42,6 @@ some_text (Leaf (Pivot limit)) rest same = absurd (cc)
 some_text (Leaf (Cut cut)) rest same = absurd (cc)
 some_text (Leaf (Dual divisor shares)) rest same = absurd (cc)
 
-pub lines_text-apart : (xs ys : List LogLine) → All (HasNumbersBelow number_bound) xs → All (HasNumbersBelow number_bound) ys → lines_text xs ≡ lines_text ys → xs ≡ ys
-lines_text-apart [] [] small also same = refl
-lines_text-apart [] (y ∷ ys) small also same = absurd (some_text y (lines_text ys) same)
-lines_text-apart (x ∷ xs) [] small also same = absurd (some_text x (lines_text xs) (sym same))
-lines_text-apart (x ∷ xs) (y ∷ ys) small also same =
-    let start = same_start x y (lines_text xs) (lines_text ys) (All-head (HasNumbersBelow number_bound) x xs small) (All-head (HasNumbersBelow number_bound) y ys also) same in
-    ap₂ (λ line lines. line ∷ lines) start.line
-    (lines_text-apart xs ys (All-tail (HasNumbersBelow number_bound) x xs small) (All-tail (HasNumbersBelow number_bound) y ys also) start.rest)
-
 -- ---- lines have one tree
 
 pub record SameTree (a b : Tree) (x y : List LogLine) : Type 0 where
@@ -76,14 +64,7 @@ same_tree (fork c a1 a2) (fork d b1 b2) x y same =
     let two : a2 ≡ b2 = second.tree in
     record { tree = cc; rest = second.rest }
 
-pub one_tree : (text : List ℕ) (a b : Tree) → All (HasNumbersBelow number_bound) (tree_lines a) → All (HasNumbersBelow number_bound) (tree_lines b) → Spells text a → Spells text b → a ≡ b
-one_tree text a b small also first second =
-    let same : log_text a ≡ log_text b = sym (spelled_text text a first) ∙ spelled_text text b second in
-    let lines : tree_lines a ≡ tree_lines b =
-    lines_text-apart (tree_lines a) (tree_lines b) small also (append_cancel_left head_text (lines_text (tree_lines a)) (lines_text (tree_lines b)) same) in
-    (same_tree a b [] [] (ap (λ l. l ++ []) lines)).tree
-
--- ---- a text has one bound
+-- ---- numbers
 
 -- the numbers of an allowed tree have at most 19 digits
 pub allowed_numbers : (network : NetworkOf) (node : Node) (tree : Tree) → IsNetwork network → IsAllowed network node tree → All (HasNumbersBelow number_bound) (tree_lines tree)
@@ -94,15 +75,6 @@ allowed_numbers network node (fork candidate with_it without_it) bounds allowed 
     (All-append (HasNumbersBelow number_bound) (tree_lines with_it) (tree_lines without_it)
     (allowed_numbers network (with_chosen node candidate) with_it bounds allowed.1)
     (allowed_numbers network (without_chosen node candidate) without_it bounds allowed.2))
-
-pub one_bound : (network : NetworkOf) (text : List ℕ) (a b : Bound) → IsNetwork network → HasBound network text a → HasBound network text b → a ≡ b
-one_bound network text a b bounds one other =
-    let tree : one.tree ≡ other.tree =
-    one_tree text one.tree other.tree
-    (allowed_numbers network (root_of network) one.tree bounds one.log.allowed)
-    (allowed_numbers network (root_of network) other.tree bounds other.log.allowed)
-    one.log.spells other.log.spells in
-    one.least ∙ ap (bound_at network (root_of network)) tree ∙ sym other.least
 
 -- ---- a tree is allowed line by line
 

@@ -20,7 +20,6 @@ pub mod PoolShares
 pub mod Reading
 pub mod Rules
 pub mod Sound
-pub mod Spells
 pub mod SpellsIn
 pub mod Tree
 pub mod UseReading

@@ -13,12 +13,14 @@ use Rattle.bound_log.specs.declared.bound.Bound.TheVariants.{NoPlan, AtLeast}
 use Rattle.bound_log.specs.Bound.{lesser}
 use Rattle.bound_log.specs.CutText.{CutTextOf, displaced_by}
 use Rattle.bound_log.specs.DualText.{weighed_text}
+use Rattle.bound_log.specs.declared.log_format.LogFormat.{LogFormat}
 use Rattle.bound_log.specs.declared.log_leaf.LogLeaf.{LogLeaf}
 use Rattle.bound_log.specs.declared.log_leaf.LogLeaf.TheVariants.{Cost, Pivot, Cut, Dual}
 use Rattle.bound_log.specs.declared.log_line.LogLine.{LogLine}
 use Rattle.bound_log.specs.declared.log_line.LogLine.TheVariants.{Split, Leaf}
+use Rattle.bound_log.specs.Meanings.{AreNames}
 use Rattle.bound_log.specs.Rules.{IsAllowedLine, is_displacement}
-use Rattle.bound_log.specs.Spells.{Spells}
+use Rattle.bound_log.specs.SpellsIn.{SpellsIn}
 use Rattle.bound_log.specs.Tree.{Tree, fork, tip}
 
 -- Logs of a network, and their bounds. A node stands for all plans that contain its inner plan and lie in its
@@ -114,9 +116,13 @@ line_bound network node (Leaf end) = leaf_bound network node end
 abbrev pub bound_at : NetworkOf → Node → Tree → Bound
 bound_at network node tree = bound_for (prices_of network) network node tree
 
--- a text is a log of the network, with this tree
+-- a text is a log of the network, in either format, with this tree: the cuts that it names are in their ranges, and each line
+-- of the tree is allowed at its node
 pub record IsLog (network : NetworkOf) (text : List ℕ) (tree : Tree) : Type 0 where
-  pub spells : Spells text tree
+  pub format : LogFormat
+  pub cuts : List CutTextOf
+  pub spells : SpellsIn format text cuts tree
+  pub named : AreNames network cuts
   pub allowed : IsAllowed network (root_of network) tree
 
 -- a text is a log of the network, and this is its bound under these prices

@@ -11,7 +11,7 @@
 //! Said by: `read_line`, `read_line2`, `a_text_is_one_line`, `a_text_is_one_named_line`,
 //! `numbers_are_numerals`, `written_lines_are_read`, `named_lines_are_read`;
 //! `cuts_keep_their_displacements`, `duals_keep_their_shares`, `uses_mean_their_cuts`;
-//! `a_text_has_one_tree`, `a_text_spells_one_tree`, `a_text_is_spelled`, `a_text_has_one_bound`;
+//! `a_text_spells_one_tree`, `a_tree_has_one_first_text`, `a_text_has_one_bound`;
 //! `checker_is_sound`.
 //!
 //! Caller: `take_at_node` of `log_check/src/taking.rt`.
@@ -57,7 +57,7 @@ pub use format_laws::{
 };
 pub use grammar_laws::{a_text_is_one_line, numbers_are_numerals, written_lines_are_read};
 pub use laws::checker_is_sound;
-pub use line::{is_head, put_cost, put_head, put_line, put_pivot, put_split};
+pub use line::{put_cost, put_head, put_line, put_pivot, put_split};
 pub use line_kind::LineKind;
 pub use log_format::LogFormat;
 pub use log_kind::LogKind;
@@ -68,8 +68,7 @@ pub use named_put::{head_format, put_dual2, put_head2, put_named, put_named_text
 pub use read::read_line;
 pub use read_named::read_line2;
 pub use tree_laws::{
-    a_text_has_one_bound, a_text_has_one_tree, a_text_is_spelled, cuts_keep_their_displacements,
-    duals_keep_their_shares, lines_are_allowed_by_their_kinds, rules_say_what_is_allowed,
-    trees_are_allowed_line_by_line,
+    a_text_has_one_bound, cuts_keep_their_displacements, duals_keep_their_shares,
+    lines_are_allowed_by_their_kinds, rules_say_what_is_allowed, trees_are_allowed_line_by_line,
 };
 pub use uses::{UsePairs, Uses};

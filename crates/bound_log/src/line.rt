@@ -11,10 +11,10 @@ use crate::log_line::LogLine;
 use geo_base::NoMemory;
 use itoa::Buffer;
 
-/// The first line of a log, without its LF.
+/// The first line of a log of format 1, without its LF.
 const HEAD: &[u8] = b"geoplan-log 1";
 
-/// Whether a line, which is given without its LF, is the first line of a log.
+/// Whether a line, which is given without its LF, is the first line of a log of format 1.
 pub fn is_head(line: &[u8]) -> bool
     ensures { IsTrue result ↔ line.now ≡ head_body }
 {
@@ -51,7 +51,7 @@ pub fn put_line(out: &mut Vec<u8>, line: &LogLine<'_>) -> Result<(), NoMemory>
     }
 }
 
-/// Appends the first line of a log. Refused, `out` is as before.
+/// Appends the first line of a log of format 1. Refused, `out` is as before.
 pub fn put_head(out: &mut Vec<u8>) -> Result<(), NoMemory>
     ensures put { OnOk result (out.new.items ≡ out.old.items ++ head_text) }
     ensures refused { OnErr result (out.new.items ≡ out.old.items) }

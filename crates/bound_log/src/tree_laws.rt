@@ -6,37 +6,29 @@ ghost use Rattle.cut_pool.specs.declared.share.Share.{Share as ShareOf};
 ghost use Rattle.geo_model.specs.Limit.{LimitOf, IsInForce};
 ghost use Rattle.geo_model.specs.Meeting.{Breaks};
 ghost use Rattle.geo_model.specs.Row.{IsNarrow};
-ghost use Rattle.geo_model.specs.Network.{NetworkOf, IsNetwork};
+ghost use Rattle.geo_model.specs.Network.{NetworkOf};
 ghost use Rattle.geo_model.specs.declared.plan.Node.{Node};
 ghost use Rattle.bound_log.specs.declared.bound.Bound.{Bound as BoundOf};
 ghost use Rattle.bound_log.specs.CutText.{CutTextOf, displaced_by, moves_from, text_of_cut};
 ghost use Rattle.bound_log.specs.DualText.{text_of_share, texts_of_shares, weighed_text};
-ghost use Rattle.bound_log.specs.Grammar.{HasNumbersBelow, IsLine, number_bound};
-ghost use Rattle.bound_log.specs.LogText.{line_body, log_text};
-ghost use Rattle.bound_log.specs.LogTree.{HasBound, IsAllowed, IsBrokenBy, IsDualLineAt, IsOpenAt, IsNodeRefutedBy, IsWeight};
+ghost use Rattle.bound_log.specs.Grammar.{IsLine};
+ghost use Rattle.bound_log.specs.LogText.{line_body};
+ghost use Rattle.bound_log.specs.LogTree.{HasBound, IsAllowed, IsLog, IsBrokenBy, IsDualLineAt, IsOpenAt, IsNodeRefutedBy, IsWeight};
 ghost use Rattle.bound_log.specs.Placed.{placed};
 ghost use Rattle.bound_log.specs.PoolShares.{IsSpelled, IsPoolShareAt};
 ghost use Rattle.bound_log.specs.Rules.{IsAllowedLine, line_rules};
 ghost use Rattle.std.specs.List.{list_all};
-ghost use Rattle.bound_log.specs.Spells.{Spells};
 ghost use Rattle.bound_log.specs.Tree.{Tree, tree_lines};
 ghost use Rattle.bound_log.specs.declared.log_leaf.LogLeaf.TheVariants as log_leaf;
 ghost use Rattle.bound_log.specs.declared.log_line.LogLine.{LogLine as LineOf};
 ghost use Rattle.bound_log.specs.declared.log_line.LogLine.TheVariants as log_line;
 
-/// A text has at most one tree whose numbers have at most 19 digits each.
-pub fn a_text_has_one_tree()
-    ensures { (text : List ℕ) (a b : Tree) → All (HasNumbersBelow number_bound) (tree_lines a) → All (HasNumbersBelow number_bound) (tree_lines b) → Spells text a → Spells text b → a ≡ b }
-{}
-
-/// The texts that spell a tree: there is one, the first line of a log and the lines of the tree.
-pub fn a_text_is_spelled()
-    ensures { (text : List ℕ) (tree : Tree) → Spells text tree ↔ (text ≡ log_text tree) }
-{}
-
-/// As a log of a network, a text has at most one bound.
+/// As a log of a network a text has at most one bound; and logs of one tree have one bound, in
+/// whichever formats their texts are.
 pub fn a_text_has_one_bound()
-    ensures { (network : NetworkOf) (text : List ℕ) (a b : BoundOf) → IsNetwork network → HasBound network text a → HasBound network text b → a ≡ b }
+    ensures text { (network : NetworkOf) (text : List ℕ) (a b : BoundOf) → HasBound network text a → HasBound network text b → a ≡ b }
+    ensures formats { (network : NetworkOf) (tree : Tree) (one other : List ℕ) (a b : BoundOf) → IsLog network one tree → IsLog network other tree
+        → HasBound network one a → HasBound network other b → a ≡ b }
 {}
 
 /// The lines of a tree, in preorder, each with its own node: a tree is allowed at a node exactly

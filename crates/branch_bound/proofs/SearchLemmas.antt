@@ -15,9 +15,8 @@ use Rattle.bound_log.specs.declared.bound.Bound.TheVariants.{NoPlan, AtLeast}
 use Rattle.bound_log.specs.Bound.{IsAtMost}
 use Rattle.bound_log.specs.Counted.{counts_with, no_counts}
 use Rattle.bound_log.specs.Lines.{kind_of}
-use Rattle.bound_log.proofs.AllowedLemmas.{cost_allowed}
+use Rattle.bound_log.proofs.MeaningLemmas.{cost_log, first_log}
 use Rattle.bound_log.proofs.SoundLemmas.{bound_for-below}
-use Rattle.bound_log.proofs.SpellLemmas.{text_spelled}
 use Rattle.bound_log.specs.LogText.{head_text, lines_text, log_text}
 use Rattle.bound_log.specs.LogTree.{root_of, IsAllowed, bound_at}
 use Rattle.bound_log.specs.declared.log_leaf.LogLeaf.TheVariants.{Cost}
@@ -42,19 +41,19 @@ use Rattle.branch_bound.proofs.PieceLemmas.{BreaksText-nothing, AddsText-then, B
 -- memory ran out before anything was written
 pub BreaksLog-nothing : (network : NetworkOf) (name : List ℕ) (state : ShelfState) → ((files : Files) → state.held ≡ Some files → IsHeld files name) →
     BreaksLog network name fault.NoMemory state state
-BreaksLog-nothing network name state told = record { tree = tip Cost; text = log_text (tip Cost); spells = text_spelled (log_text (tip Cost)) (tip Cost) refl; allowed = cost_allowed network (root_of network); broken = BreaksText-nothing name (log_text (tip Cost)) state told }
+BreaksLog-nothing network name state told = record { tree = tip Cost; text = log_text (tip Cost); log = cost_log network; broken = BreaksText-nothing name (log_text (tip Cost)) state told }
 
 -- the head was begun
 pub BreaksLog-head : (network : NetworkOf) (name : List ℕ) (why : SearchFault) (before now : ShelfState) → BreaksText name head_text why before now →
     BreaksLog network name why before now
-BreaksLog-head network name why before now broken = record { tree = tip Cost; text = log_text (tip Cost); spells = text_spelled (log_text (tip Cost)) (tip Cost) refl; allowed = cost_allowed network (root_of network); broken = BreaksText-longer name head_text (lines_text (tree_lines (tip Cost))) why before now broken }
+BreaksLog-head network name why before now broken = record { tree = tip Cost; text = log_text (tip Cost); log = cost_log network; broken = BreaksText-longer name head_text (lines_text (tree_lines (tip Cost))) why before now broken }
 
 -- the tree was begun
-pub BreaksLog-tree : (network : NetworkOf) (node : Node) (name : List ℕ) (why : SearchFault) (before middle now : ShelfState) → node ≡ root_of network →
+pub BreaksLog-tree : (network : NetworkOf) (node : Node) (name : List ℕ) (why : SearchFault) (before middle now : ShelfState) → IsNetwork network → node ≡ root_of network →
     AddsText name head_text before middle → BreaksTree network node name why middle now → BreaksLog network name why before now
-BreaksLog-tree network node name why before middle now root added broken =
+BreaksLog-tree network node name why before middle now bounds root added broken =
     let at_root : BreaksTree network (root_of network) name why middle now = subst (λ n. BreaksTree network n name why middle now) root broken in
-    record { tree = at_root.tree; text = log_text at_root.tree; spells = text_spelled (log_text at_root.tree) at_root.tree refl; allowed = at_root.allowed; broken = BreaksText-after name head_text (lines_text (tree_lines at_root.tree)) why before middle now added at_root.broken }
+    record { tree = at_root.tree; text = log_text at_root.tree; log = first_log network at_root.tree bounds at_root.allowed; broken = BreaksText-after name head_text (lines_text (tree_lines at_root.tree)) why before middle now added at_root.broken }
 
 -- what a search begins with
 pub IsStart-same : (network : NetworkOf) (first begun : Best) → begun ≡ first → IsStart network first → IsStart network begun
@@ -126,7 +125,7 @@ Searches-done network node name found found_now counts counts_now done before mi
     record {
       tree = explored.tree;
       text = log_text explored.tree;
-      spells = text_spelled (log_text explored.tree) explored.tree refl;
+      log = first_log network explored.tree bounds allowed;
       searched = record {
         allowed = allowed;
         counted = counted_all ∙ explored.counted ∙ ap (λ c. counts_with c (map kind_of (tree_lines explored.tree))) none_counted;

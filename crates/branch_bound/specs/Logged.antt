@@ -1,8 +1,7 @@
 use Rattle.std.specs.Prelude.{ℕ, List}
 use Rattle.geo_model.specs.Network.{NetworkOf}
 use Rattle.geo_model.specs.declared.answer.SearchDone.{SearchDone}
-use Rattle.bound_log.specs.LogTree.{root_of, IsAllowed}
-use Rattle.bound_log.specs.Spells.{Spells}
+use Rattle.bound_log.specs.LogTree.{IsLog}
 use Rattle.bound_log.specs.Tree.{Tree}
 use Rattle.branch_bound.specs.declared.search_fault.SearchFault.{SearchFault}
 use Rattle.shelf_io.specs.States.{ShelfState}
@@ -15,7 +14,7 @@ use Rattle.branch_bound.specs.Searched.{IsSearched}
 pub record Searches (network : NetworkOf) (name : List ℕ) (done : SearchDone) (before now : ShelfState) : Type 0 where
   pub tree : Tree
   pub text : List ℕ
-  pub spells : Spells text tree
+  pub log : IsLog network text tree
   pub searched : IsSearched network tree done
   pub added : AddsText name text before now
 
@@ -23,6 +22,5 @@ pub record Searches (network : NetworkOf) (name : List ℕ) (done : SearchDone) 
 pub record BreaksLog (network : NetworkOf) (name : List ℕ) (why : SearchFault) (before now : ShelfState) : Type 0 where
   pub tree : Tree
   pub text : List ℕ
-  pub spells : Spells text tree
-  pub allowed : IsAllowed network (root_of network) tree
+  pub log : IsLog network text tree
   pub broken : BreaksText name text why before now

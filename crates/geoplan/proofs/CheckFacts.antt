@@ -19,7 +19,7 @@ right_log : (tables : TablesOf) (log : List ℕ) (before now : ShelfState) (text
 right_log tables log before now text accepts = record {
   done = accepts.done;
   replayed = accepts.replayed;
-  faultless = λ fault first. logs_have_no_fault tables.network log accepts.replayed.tree fault accepts.network accepts.replayed.log first;
+  faultless = λ fault first. logs_have_no_fault tables.network log accepts.replayed.tree fault accepts.replayed.log first;
 }
 
 -- a text with a first fault is no log
@@ -27,7 +27,7 @@ wrong_log : (tables : TablesOf) (log : List ℕ) (before now : ShelfState) (text
 wrong_log tables log before now text refuses = record {
   fault = refuses.fault;
   first = refuses.first;
-  no_log = λ tree is. logs_have_no_fault tables.network log tree refuses.fault refuses.network is refuses.first;
+  no_log = λ tree is. logs_have_no_fault tables.network log tree refuses.fault is refuses.first;
 }
 
 module _ (sources : SourcesOf) (tables : TablesOf) where

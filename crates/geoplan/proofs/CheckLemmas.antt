@@ -12,7 +12,7 @@ use Rattle.geo_model.specs.Network.{NetworkOf, IsNetwork}
 use Rattle.bound_log.specs.Counted.{counts_of}
 use Rattle.bound_log.specs.LogTree.{root_of, bound_at}
 use Rattle.bound_log.specs.Tree.{tree_lines}
-use Rattle.bound_log.proofs.TreeLemmas.{one_tree, allowed_numbers}
+use Rattle.bound_log.proofs.MeaningLemmas.{one_log}
 use Rattle.log_check.specs.declared.replaying.Replayed.{Replayed}
 use Rattle.log_check.specs.Replayed.{IsReplayed}
 use Rattle.text_num.specs.Digits.{digits_of}
@@ -121,10 +121,7 @@ same_replay one other bound counts = ap₂ (λ b c. record { bound = b; counts =
 one_replay : (network : NetworkOf) (text : List ℕ) (one other : Replayed) → IsNetwork network → IsReplayed network text one → IsReplayed network text other → one ≡ other
 one_replay network text one other bounds a b =
     let tree : a.tree ≡ b.tree =
-    one_tree text a.tree b.tree
-    (allowed_numbers network (root_of network) a.tree bounds a.log.allowed)
-    (allowed_numbers network (root_of network) b.tree bounds b.log.allowed)
-    a.log.spells b.log.spells in
+    one_log network text a.tree b.tree a.log b.log in
     same_replay one other
     (a.least ∙ ap (bound_at network (root_of network)) tree ∙ sym b.least)
     (a.counted ∙ ap (λ t. counts_of (tree_lines t)) tree ∙ sym b.counted)

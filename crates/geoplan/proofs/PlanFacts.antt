@@ -3,7 +3,6 @@ use Rattle.std.proofs.Common.{◌≡◌, inl, inr, ℕ, List, [], ◌∷◌, ref
 use Rattle.std.specs.Prelude.{Contains}
 use Rattle.std.proofs.lemmas.List.{append-nil}
 use Rattle.shelf_io.specs.States.{ShelfState}
-use Rattle.bound_log.proofs.SpellLemmas.{spelled_text}
 use Rattle.log_check.specs.declared.replaying.Replayed.{Replayed}
 use Rattle.geoplan.specs.declared.file_kind.FileKind.{FileKind}
 use Rattle.geoplan.specs.declared.file_kind.FileKind.TheVariants as kind
@@ -20,10 +19,11 @@ use Rattle.geoplan.proofs.OwedFacts.{EndsKeep, TablesAnswer, OwedFacts, tables_k
 pub whole_began : (tables : TablesOf) (name : List ℕ) (done : Replayed) (before now : ShelfState) → LeavesLog tables name done before now → BeganLog tables name before.held now.held
 whole_began tables name done before now leaves = record {
   tree = leaves.replayed.tree;
+  text = leaves.log;
   piece = leaves.log;
   rest = [];
-  allowed = leaves.replayed.log.allowed;
-  begins = sym (spelled_text leaves.log leaves.replayed.tree leaves.replayed.log.spells) ∙ sym (append-nil leaves.log);
+  log = leaves.replayed.log;
+  begins = sym (append-nil leaves.log);
   written = leaves.written;
 }
 

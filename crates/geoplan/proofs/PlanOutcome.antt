@@ -20,10 +20,8 @@ use Rattle.geo_model.specs.declared.answer.Counts.{Counts}
 use Rattle.geo_model.specs.declared.answer.SearchDone.{SearchDone}
 use Rattle.bound_log.specs.declared.bound.Bound.{Bound}
 use Rattle.bound_log.specs.declared.bound.Bound.TheVariants.{NoPlan, AtLeast}
-use Rattle.bound_log.specs.LogText.{log_text}
 use Rattle.bound_log.specs.LogTree.{root_of, HasBound, bound_at}
 use Rattle.bound_log.proofs.SoundLemmas.{HasBound-below}
-use Rattle.bound_log.proofs.SpellLemmas.{text_spelled}
 use Rattle.pivot_chain.proofs.Verdicts.{certified_meets}
 use Rattle.log_check.specs.declared.replaying.Replayed.{Replayed}
 use Rattle.geoplan.specs.declared.status.Status.{Status}
@@ -49,13 +47,13 @@ use Rattle.geoplan.proofs.PlanFacts.{reads_tables, whole_began}
 -- the log of a search that is done
 leaves_log : (tables : TablesOf) (name : List ℕ) (done : SearchDone) (before now : ShelfState) → IsNetwork tables.network → (solved : Solves tables name done before now) → LeavesLog tables name (record { bound = bound_at tables.network (root_of tables.network) solved.tree; counts = done.counts }) before now
 leaves_log tables name done before now network solved =
-    let shown : HasBound tables.network (log_text solved.tree) (bound_at tables.network (root_of tables.network) solved.tree) =
-    record { tree = solved.tree; log = record { spells = text_spelled (log_text solved.tree) solved.tree refl; allowed = solved.searched.allowed }; least = refl } in
+    let shown : HasBound tables.network solved.text (bound_at tables.network (root_of tables.network) solved.tree) =
+    record { tree = solved.tree; log = solved.spelled; least = refl } in
     record {
-      log = log_text solved.tree;
+      log = solved.text;
       network = network;
       replayed = record { tree = solved.tree; log = shown.log; least = refl; counted = solved.searched.counted };
-      lower = HasBound-below tables.network (log_text solved.tree) (bound_at tables.network (root_of tables.network) solved.tree) network shown;
+      lower = HasBound-below tables.network solved.text (bound_at tables.network (root_of tables.network) solved.tree) network shown;
       no_idle = solved.searched.no_idle;
       written = solved.written;
       quiet = solved.quiet;

@@ -4,12 +4,10 @@ use Rattle.shelf_io.specs.Files.{Files, with_bytes, with_piece}
 use Rattle.shelf_io.specs.Faults.{Rose, KeepsFaults, write_of}
 use Rattle.shelf_io.proofs.FileLaws.{with_piece-with_bytes}
 use Rattle.geo_model.specs.declared.answer.SearchDone.{SearchDone}
-use Rattle.bound_log.proofs.AllowedLemmas.{cost_allowed}
+use Rattle.bound_log.proofs.MeaningLemmas.{cost_log}
 use Rattle.bound_log.specs.LogText.{log_text}
-use Rattle.bound_log.specs.LogTree.{root_of}
 use Rattle.bound_log.specs.declared.log_leaf.LogLeaf.TheVariants.{Cost}
 use Rattle.bound_log.specs.Tree.{tip}
-use Rattle.bound_log.proofs.SpellLemmas.{spelled_text}
 use Rattle.branch_bound.specs.declared.search_fault.SearchFault.{SearchFault}
 use Rattle.branch_bound.specs.declared.search_fault.SearchFault.TheVariants as search
 use Rattle.shelf_io.specs.States.{ShelfState}
@@ -24,9 +22,10 @@ use Rattle.geoplan.specs.Solving.{Solves, FailsSolve}
 Solves-after : (tables : TablesOf) (log : List ℕ) (done : SearchDone) (before middle now : ShelfState) → middle.held ≡ with_bytes before.held log [] → KeepsFaults before middle → Searches tables.network log done middle now → Solves tables log done before now
 Solves-after tables log done before middle now started quiet found = record {
   tree = found.tree;
+  text = found.text;
+  spelled = found.log;
   searched = found.searched;
-  written = found.added.written ∙ ap (λ held. with_piece held log found.text) started ∙ with_piece-with_bytes before.held log [] found.text
-      ∙ ap (λ text. with_bytes before.held log text) (spelled_text found.text found.tree found.spells);
+  written = found.added.written ∙ ap (λ held. with_piece held log found.text) started ∙ with_piece-with_bytes before.held log [] found.text;
   quiet = record { same_count = found.added.quiet.same_count ∙ quiet.same_count; same_last = found.added.quiet.same_last ∙ quiet.same_last };
 }
 
@@ -35,10 +34,11 @@ FailsSolve-after : (tables : TablesOf) (log : List ℕ) (why : SearchFault) (bef
 FailsSolve-after tables log why before middle now started quiet found = record {
   held = inr (record {
     tree = found.tree;
+    text = found.text;
     piece = found.broken.piece;
     rest = found.broken.rest;
-    allowed = found.allowed;
-    begins = sym (spelled_text found.text found.tree found.spells) ∙ found.broken.begins;
+    log = found.log;
+    begins = found.broken.begins;
     written = found.broken.written ∙ ap (λ held. with_piece held log found.broken.piece) started ∙ with_piece-with_bytes before.held log [] found.broken.piece;
   });
   later = subst (λ n. n ≤ now.faults) quiet.same_count found.broken.later;
@@ -48,7 +48,7 @@ FailsSolve-after tables log why before middle now started quiet found = record {
 -- a log that could not be started stands as before, or empty
 started_or_not : (tables : TablesOf) (log : List ℕ) (before now : Option Files) → (now ≡ before) ⊎ (now ≡ with_bytes before log []) → (now ≡ before) ⊎ BeganLog tables log before now
 started_or_not tables log before now (inl same) = inl same
-started_or_not tables log before now (inr empty) = inr (record { tree = tip Cost; piece = []; rest = log_text (tip Cost); allowed = cost_allowed tables.network (root_of tables.network); begins = refl; written = empty })
+started_or_not tables log before now (inr empty) = inr (record { tree = tip Cost; text = log_text (tip Cost); piece = []; rest = log_text (tip Cost); log = cost_log tables.network; begins = refl; written = empty })
 
 pub FailsSolve-start : (tables : TablesOf) (log : List ℕ) (why : SearchFault) (before now : ShelfState) → (now.held ≡ before.held) ⊎ (now.held ≡ with_bytes before.held log []) → before.faults ≤ now.faults → (why ≡ search.WriteFault → Rose before.faults now.faults × (now.last_fault ≡ Some (write_of log))) → FailsSolve tables log why before now
 FailsSolve-start tables log why before now held later failed = record {

@@ -9,8 +9,7 @@ use Rattle.covariance_words.specs.Meaning.{HoldsAndIsPrecise}
 use Rattle.geo_model.specs.Network.{IsNetwork}
 use Rattle.geo_model.specs.declared.answer.Counts.{Counts}
 use Rattle.bound_log.specs.declared.bound.Bound.TheVariants.{NoPlan, AtLeast}
-use Rattle.bound_log.specs.LogText.{log_text}
-use Rattle.bound_log.specs.LogTree.{root_of, IsAllowed, IsLog}
+use Rattle.bound_log.specs.LogTree.{IsLog}
 use Rattle.bound_log.specs.Placed.{placed}
 use Rattle.bound_log.specs.Sound.{IsLowerBound}
 use Rattle.bound_log.specs.Tree.{Tree}
@@ -85,10 +84,11 @@ pub record LeavesOpen (tables : TablesOf) (name : List ℕ) (before now : ShelfS
 -- the name holds the beginning of a log of the tables' network, and every other name what it held
 pub record BeganLog (tables : TablesOf) (name : List ℕ) (before now : Option Files) : Type 0 where
   pub tree : Tree
+  pub text : List ℕ
   pub piece : List ℕ
   pub rest : List ℕ
-  pub allowed : IsAllowed tables.network (root_of tables.network) tree
-  pub begins : log_text tree ≡ piece ++ rest
+  pub log : IsLog tables.network text tree
+  pub begins : text ≡ piece ++ rest
   pub written : now ≡ with_bytes before name piece
 
 -- a write of the name failed, which holds what it held, or the beginning of a log

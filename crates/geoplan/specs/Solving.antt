@@ -2,7 +2,7 @@ use Rattle.std.specs.Prelude.{◌≡◌, ◌⊎◌, ℕ, ◌≤◌, List, [], So
 use Rattle.shelf_io.specs.Files.{with_bytes}
 use Rattle.shelf_io.specs.Faults.{Rose, KeepsFaults, write_of}
 use Rattle.geo_model.specs.declared.answer.SearchDone.{SearchDone}
-use Rattle.bound_log.specs.LogText.{log_text}
+use Rattle.bound_log.specs.LogTree.{IsLog}
 use Rattle.bound_log.specs.Tree.{Tree}
 use Rattle.branch_bound.specs.declared.search_fault.SearchFault.{SearchFault}
 use Rattle.branch_bound.specs.declared.search_fault.SearchFault.TheVariants as search
@@ -18,8 +18,10 @@ use Rattle.geoplan.specs.declared.status.Status.TheVariants as status
 -- the search is done, and its whole log stands under the name
 pub record Solves (tables : TablesOf) (log : List ℕ) (done : SearchDone) (before now : ShelfState) : Type 0 where
   pub tree : Tree
+  pub text : List ℕ
+  pub spelled : IsLog tables.network text tree
   pub searched : IsSearched tables.network tree done
-  pub written : now.held ≡ with_bytes before.held log (log_text tree)
+  pub written : now.held ≡ with_bytes before.held log text
   pub quiet : KeepsFaults before now
 
 -- the search ended by a fault

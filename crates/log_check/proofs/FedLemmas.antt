@@ -9,12 +9,11 @@ use Rattle.std.proofs.lemmas.List.Sums.{count_by-le-length}
 use Rattle.lent_parts.specs.Pieces.{TextLineOf, is_line_feed, line_feed, lines_of, line_bytes}
 use Rattle.lent_parts.proofs.PieceLemmas.{last_line, lines_of-more}
 use Rattle.geo_model.specs.Network.{NetworkOf, IsNetwork}
-use Rattle.bound_log.specs.LogText.{head_text, lines_text}
-use Rattle.bound_log.specs.Spells.{BeginsWith}
+use Rattle.bound_log.specs.Formats.{BeginsIn, LineIn, head_text_in, texts_in}
+use Rattle.bound_log.specs.declared.log_format.LogFormat.{LogFormat}
 use Rattle.bound_log.specs.declared.log_kind.LogKind.{LogKind}
 use Rattle.bound_log.specs.declared.log_kind.LogKind.TheVariants.{Short}
-use Rattle.bound_log.specs.declared.log_line.LogLine.{LogLine}
-use Rattle.bound_log.proofs.SpellLemmas.{after_head, begins_head, begins_more}
+use Rattle.bound_log.proofs.FormatLemmas.{after_head_in, begins_head_in, begins_more_in, same_format}
 use Rattle.log_check.specs.declared.fault.LogFault.{LogFault}
 use Rattle.log_check.specs.declared.fault.ReplayAnswer.{ReplayAnswer}
 use Rattle.log_check.specs.declared.fault.ReplayAnswer.TheVariants as replay_answer
@@ -25,11 +24,11 @@ use Rattle.log_check.specs.Fed.{ReplayerOf, HoldsFault, IsRight, HasFed, HasRead
 use Rattle.log_check.specs.FirstFault.{LogBegins, IsFaultAfter, IsFirstFault, headless, later}
 use Rattle.log_check.specs.Reaching.{IsFront, nothing, begun, HasTaken, Reaches}
 use Rattle.log_check.specs.Taking.{TakesLine, at_head, at_node}
-use Rattle.log_check.proofs.LongerLemmas.{feeds, NoFeed, feeds-append, feeds-none, feeds-lines, fault_stays}
+use Rattle.log_check.proofs.LongerLemmas.{feeds, NoFeed, feeds-append, feeds-head, feeds-none, feeds-lines, fault_stays}
 use Rattle.log_check.proofs.ReachLemmas.{taken_next, next_rises, fault_stopped, fault_empty, fault_short, front_begun, replayed_whole, ended_bytes}
-use Rattle.log_check.proofs.RunLemmas.{leads_begins}
+use Rattle.log_check.proofs.FormatRuns.{goes_begins}
 use Rattle.log_check.proofs.TextLemmas.{Order, same, further, behind, order}
-use Rattle.log_check.proofs.VerdictLemmas.{begun_numbers, no_fault_inside}
+use Rattle.log_check.proofs.VerdictLemmas.{no_fault_inside}
 
 -- ---- whether there is a fault
 
@@ -45,14 +44,14 @@ no_fault (Some fault) is = absurd (false≢true (sym is))
 
 -- a front of so many lines has as many LFs
 pub front_feeds : (network : NetworkOf) (front : List ℕ) (progress : Progress) → IsNetwork network → HasTaken network front progress → feeds front ≡ progress.lines
-front_feeds network front progress bounds taken = by_front front taken.lines progress.lines taken.front (leads_begins network taken.lines progress.stack.nodes taken.stands.leads)
+front_feeds network front progress bounds taken = by_front front taken.format taken.lines progress.lines taken.front
   where
-    by_front : (text : List ℕ) (lines : List LogLine) (count : ℕ) → IsFront text lines count → LogBegins network lines → feeds text ≡ count
-    by_front text lines count (nothing no_text no_lines none) begins = ap feeds no_text ∙ sym none
-    by_front text lines count (begun spells number) begins =
-        let all : feeds text ≡ feeds head_text + feeds (lines_text lines ++ []) = ap feeds spells.spelled ∙ feeds-append head_text (lines_text lines ++ []) in
-        let after : feeds (lines_text lines ++ []) ≡ length lines = ap feeds (append-nil (lines_text lines)) ∙ feeds-lines lines (begun_numbers network lines bounds begins) in
-        let head : feeds head_text ≡ 1 = refl in
+    by_front : (text : List ℕ) (format : LogFormat) (lines : List (LineIn format)) (count : ℕ) → IsFront text format lines count → feeds text ≡ count
+    by_front text format lines count (nothing no_text no_lines none) = ap feeds no_text ∙ sym none
+    by_front text format lines count (begun spells number) =
+        let all : feeds text ≡ feeds (head_text_in format) + feeds (texts_in format lines ++ []) = ap feeds spells.spelled ∙ feeds-append (head_text_in format) (texts_in format lines ++ []) in
+        let after : feeds (texts_in format lines ++ []) ≡ length lines = ap feeds (append-nil (texts_in format lines)) ∙ feeds-lines format lines spells.numbers in
+        let head : feeds (head_text_in format) ≡ 1 = feeds-head format in
         omega arith
 
 feeds-more : (text more : List ℕ) → feeds text ≤ feeds (text ++ more)
@@ -71,49 +70,53 @@ right_feeds text replayer bounds is =
 
 pub held_stays : (network : NetworkOf) (text more : List ℕ) (fault : LogFault) → IsNetwork network → HoldsFault network text fault → HoldsFault network (text ++ more) fault
 held_stays network text more fault bounds held = record {
-  first = fault_stays network text more fault bounds held.first held.ended;
+  first = fault_stays network text more fault held.first held.ended;
   ended = omega (arith, held.ended, feeds-more text more);
 }
 
 -- where the lines so far are right, no line that has ended holds a fault
-past_right : (network : NetworkOf) (xs ys : List LogLine) (x y : List ℕ) (kind : LogKind) → Order xs ys x y → LogBegins network xs → length ys < length xs → IsFaultAfter network ys y kind → ⊥
-past_right network xs ys x y kind (same lines texts) begins shorter fault = let long : length xs ≡ length ys = ap length lines in omega arith
-past_right network xs ys x y kind (further line more left lines next) begins shorter fault =
+past_right : (network : NetworkOf) (format : LogFormat) (xs ys : List (LineIn format)) (x y : List ℕ) (kind : LogKind) → Order format xs ys x y → LogBegins network format xs → length ys < length xs → IsFaultAfter network format ys y kind → ⊥
+past_right network format xs ys x y kind (same lines texts) begins shorter fault = let long : length xs ≡ length ys = ap length lines in omega arith
+past_right network format xs ys x y kind (further line more left lines next) begins shorter fault =
     let long : length ys ≡ length (xs ++ line ∷ more) = ap length lines in
     omega (arith, length-append xs (line ∷ more))
-past_right network xs ys x y kind (behind line more left lines next) begins shorter fault =
-    no_fault_inside network ys line more y left kind (subst (LogBegins network) lines begins) next fault
+past_right network format xs ys x y kind (behind line more left lines next) begins shorter fault =
+    no_fault_inside network format ys line more y left kind (subst (LogBegins network format) lines begins) next fault
 
 -- the front that was taken is the beginning of the text
-record Begun (text : List ℕ) (replayer : ReplayerOf) : Type 0 where
-  lines : List LogLine
-  begins : BeginsWith text lines replayer.unfinished
-  log : LogBegins replayer.network lines
+record Begun (text : List ℕ) (replayer : ReplayerOf) (format : LogFormat) : Type 0 where
+  lines : List (LineIn format)
+  begins : BeginsIn format text lines replayer.unfinished
+  log : LogBegins replayer.network format lines
   number : replayer.judged.progress.lines ≡ length lines + 1
 
-begun_text : (text : List ℕ) (replayer : ReplayerOf) → IsRight text replayer → 0 < replayer.judged.progress.lines → Begun text replayer
+begun_text : (text : List ℕ) (replayer : ReplayerOf) (is : IsRight text replayer) → 0 < replayer.judged.progress.lines → Begun text replayer is.taken.format
 begun_text text replayer is some =
     let taken = is.taken in
-    let log = front_begun is.front taken.lines replayer.judged.progress.lines taken.front some in
+    let log = front_begun is.front taken.format taken.lines replayer.judged.progress.lines taken.front some in
     record {
       lines = taken.lines;
-      begins = subst (λ (t : List ℕ). BeginsWith t taken.lines replayer.unfinished) (sym is.whole) (begins_more is.front taken.lines [] replayer.unfinished log.begins);
-      log = leads_begins replayer.network taken.lines replayer.judged.progress.stack.nodes taken.stands.leads;
+      begins = subst (λ (t : List ℕ). BeginsIn taken.format t taken.lines replayer.unfinished) (sym is.whole) (begins_more_in taken.format is.front taken.lines [] replayer.unfinished log.begins);
+      log = goes_begins replayer.network taken.format taken.lines replayer.judged.progress.stack.nodes taken.goes;
       number = log.numbered;
     }
+
+none_later : (text : List ℕ) (replayer : ReplayerOf) (format : LogFormat) (ys : List (LineIn format)) (y : List ℕ) (kind : LogKind) → Begun text replayer format → BeginsIn format text ys y → length ys + 1 < replayer.judged.progress.lines → IsFaultAfter replayer.network format ys y kind → ⊥
+none_later text replayer format ys y kind log spelled shorter wrong' =
+    past_right replayer.network format log.lines ys replayer.unfinished y kind
+    (order format log.lines ys replayer.unfinished y log.begins.numbers spelled.numbers (after_head_in format text log.lines ys replayer.unfinished y log.begins spelled))
+    log.log (omega (arith, shorter, log.number)) wrong'
 
 none_held : (text : List ℕ) (replayer : ReplayerOf) (fault : LogFault) → IsNetwork replayer.network → IsRight text replayer → fault.line ≤ feeds text → IsFirstFault replayer.network text fault → ⊥
 none_held text replayer fault bounds is ended (headless line kind lacks) =
     let counted = right_feeds text replayer bounds is in
     let log = begun_text text replayer is (omega (arith, line, ended, counted)) in
-    lacks (lines_text log.lines ++ replayer.unfinished) (begins_head text log.lines replayer.unfinished log.begins)
-none_held text replayer fault bounds is ended (later ys y spelled begins at wrong') =
+    lacks is.taken.format (texts_in is.taken.format log.lines ++ replayer.unfinished) (begins_head_in is.taken.format text log.lines replayer.unfinished log.begins)
+none_held text replayer fault bounds is ended (later format ys y spelled begins at wrong') =
     let counted = right_feeds text replayer bounds is in
     let log = begun_text text replayer is (omega (arith, at, ended, counted)) in
-    past_right replayer.network log.lines ys replayer.unfinished y fault.kind
-    (order log.lines ys replayer.unfinished y (begun_numbers replayer.network log.lines bounds log.log) (begun_numbers replayer.network ys bounds begins)
-    (after_head text log.lines ys replayer.unfinished y log.begins spelled))
-    log.log (omega (arith, at, ended, counted, log.number)) wrong'
+    let formats : is.taken.format ≡ format = same_format is.taken.format format text log.lines ys replayer.unfinished y log.begins spelled in
+    none_later text replayer format ys y fault.kind (subst (Begun text replayer) formats log) spelled (omega (arith, at, ended, counted)) wrong'
 
 pub right_holds_none : (text : List ℕ) (replayer : ReplayerOf) → IsNetwork replayer.network → IsRight text replayer → (fault : LogFault) → HoldsFault replayer.network text fault → ⊥
 right_holds_none text replayer bounds is fault held = none_held text replayer fault bounds is held.ended held.first

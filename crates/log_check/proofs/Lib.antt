@@ -2,8 +2,10 @@ pub mod DualSizes
 pub mod DualTerms
 pub mod EveryText
 pub mod FedLemmas
+pub mod FormatRuns
 pub mod LongerLemmas
 pub mod MoveLemmas
+pub mod NamingLemmas
 pub mod PlaceLemmas
 pub mod ReachLemmas
 pub mod ReducedLemmas
@@ -12,6 +14,7 @@ pub mod RunLemmas
 pub mod ShareLemmas
 pub mod TakeLemmas
 pub mod TextLemmas
+pub mod UsingLemmas
 pub mod VerdictLemmas
 pub mod WalkLemmas
 pub mod WeighLemmas

@@ -6,19 +6,19 @@ use Rattle.std.proofs.lemmas.List.Elements.{All-nil, All-cons, All-head, All-tai
 use Rattle.std.proofs.lemmas.List.Sums.{sum_by-append, sum_by-cons}
 use Rattle.lent_parts.specs.Pieces.{TextLineOf, is_line_feed, line_feed, lines_of}
 use Rattle.lent_parts.proofs.PieceLemmas.{lines_of-more}
-use Rattle.geo_model.specs.Network.{NetworkOf, IsNetwork}
+use Rattle.geo_model.specs.Network.{NetworkOf}
+use Rattle.bound_log.specs.declared.log_format.LogFormat.{LogFormat}
+use Rattle.bound_log.specs.declared.log_format.LogFormat.TheVariants.{First, Second}
 use Rattle.bound_log.specs.declared.log_kind.LogKind.{LogKind}
-use Rattle.bound_log.specs.declared.log_line.LogLine.{LogLine}
-use Rattle.bound_log.specs.Grammar.{HasNumbersBelow, number_bound, text_line}
-use Rattle.bound_log.specs.LogText.{head_body, head_text, line_body, line_end, line_text, lines_text}
-use Rattle.bound_log.specs.Spells.{BeginsWith, NextIs}
-use Rattle.bound_log.proofs.GrammarLemmas.{line_body-no_feed, lines_of-line_text}
-use Rattle.bound_log.proofs.SpellLemmas.{begins_more}
+use Rattle.bound_log.specs.Formats.{BeginsIn, HasShortNumbers, LineIn, NextIn, body_in, head_body_in, head_text_in, text_in, text_line_in, texts_in}
+use Rattle.bound_log.specs.LogText.{line_end}
+use Rattle.bound_log.proofs.FormatLemmas.{begins_more_in, lines_of-text_in}
+use Rattle.bound_log.proofs.GrammarLemmas.{line_body-no_feed}
+use Rattle.bound_log.proofs.NamedLemmas.{named_body-no_feed}
 use Rattle.log_check.specs.declared.fault.LogFault.{LogFault}
 use Rattle.log_check.specs.FirstFault.{IsFaultAfter, extra, short, form, rule, IsFirstFault, headless, later}
 use Rattle.log_check.specs.Reaching.{head_line}
 use Rattle.log_check.proofs.ReachLemmas.{head_lacks}
-use Rattle.log_check.proofs.VerdictLemmas.{begun_numbers}
 
 -- ---- the LFs of a text
 
@@ -38,20 +38,29 @@ feeds-none (x ∷ xs) lacks =
     let rest : feeds xs ≡ 0 = feeds-none xs (All-tail NoFeed x xs lacks) in
     sum_by-cons (λ c. cond {A = ℕ} (is_line_feed c) 1 0) x xs ∙ ap (λ (n : ℕ). n + feeds xs) one ∙ zero-add (feeds xs) ∙ rest
 
-feeds-line : (line : LogLine) → HasNumbersBelow number_bound line → feeds (line_text line) ≡ 1
-feeds-line line small =
-    let both : feeds (line_text line) ≡ feeds (line_body line) + feeds line_end = feeds-append (line_body line) line_end in
-    let none : feeds (line_body line) ≡ 0 = feeds-none (line_body line) (line_body-no_feed line small) in
+body_lacks : (format : LogFormat) (line : LineIn format) → HasShortNumbers format line → All NoFeed (body_in format line)
+body_lacks First line small = line_body-no_feed line small
+body_lacks Second line small = named_body-no_feed line small
+
+feeds-line : (format : LogFormat) (line : LineIn format) → HasShortNumbers format line → feeds (text_in format line) ≡ 1
+feeds-line format line small =
+    let both : feeds (text_in format line) ≡ feeds (body_in format line) + feeds line_end = feeds-append (body_in format line) line_end in
+    let none : feeds (body_in format line) ≡ 0 = feeds-none (body_in format line) (body_lacks format line small) in
     both ∙ ap (λ n. n + 1) none
 
 -- each line has one
-pub feeds-lines : (lines : List LogLine) → All (HasNumbersBelow number_bound) lines → feeds (lines_text lines) ≡ length lines
-feeds-lines [] small = refl
-feeds-lines (line ∷ lines) small =
-    let both : feeds (line_text line ++ lines_text lines) ≡ feeds (line_text line) + feeds (lines_text lines) = feeds-append (line_text line) (lines_text lines) in
-    let one : feeds (line_text line) ≡ 1 = feeds-line line (All-head (HasNumbersBelow number_bound) line lines small) in
-    let more : feeds (lines_text lines) ≡ length lines = feeds-lines lines (All-tail (HasNumbersBelow number_bound) line lines small) in
+pub feeds-lines : (format : LogFormat) (lines : List (LineIn format)) → All (HasShortNumbers format) lines → feeds (texts_in format lines) ≡ length lines
+feeds-lines format [] small = refl
+feeds-lines format (line ∷ lines) small =
+    let both : feeds (text_in format line ++ texts_in format lines) ≡ feeds (text_in format line) + feeds (texts_in format lines) = feeds-append (text_in format line) (texts_in format lines) in
+    let one : feeds (text_in format line) ≡ 1 = feeds-line format line (All-head (HasShortNumbers format) line lines small) in
+    let more : feeds (texts_in format lines) ≡ length lines = feeds-lines format lines (All-tail (HasShortNumbers format) line lines small) in
     both ∙ omega arith
+
+-- the first line has one
+pub feeds-head : (format : LogFormat) → feeds (head_text_in format) ≡ 1
+feeds-head First = refl
+feeds-head Second = refl
 
 -- ---- a line that has ended
 
@@ -88,27 +97,32 @@ first_same text more ended =
 same_first : (a b : TextLineOf) (xs ys : List TextLineOf) → a ∷ xs ≡ b ∷ ys → a.text ≡ b.text
 same_first a b xs ys same = let first : a ≡ b = cc in ap (λ l. l.text) first
 
-stays_headless : (text more : List ℕ) → 1 ≤ feeds text → ((left : List ℕ) → BeginsWith text [] left → ⊥) → (left : List ℕ) → BeginsWith (text ++ more) [] left → ⊥
-stays_headless text more some lacks left begins =
+stays_headless : (text more : List ℕ) → 1 ≤ feeds text → ((format : LogFormat) (left : List ℕ) → BeginsIn format text [] left → ⊥) → (format : LogFormat) (left : List ℕ) → BeginsIn format (text ++ more) [] left → ⊥
+stays_headless text more some lacks format left begins =
     let ended = ended_line text some in
-    let head : lines_of (text ++ more) ≡ head_line ∷ lines_of left = ap lines_of (begins.spelled ∙ append_assoc head_body line_end left) ∙ lines_of-more head_body left head_lacks in
-    let same : ended.body ≡ head_body = same_first (record { text = ended.body; ended = true }) head_line (lines_of (ended.rest ++ more)) (lines_of left) (sym (first_same text more ended) ∙ head) in
-    lacks ended.rest (record { spelled = ended.spelled ∙ ap (λ (b : List ℕ). b ++ line_feed ∷ ended.rest) same ∙ sym (append_assoc head_body line_end ended.rest) })
+    let body : List ℕ = head_body_in format in
+    let head : lines_of (text ++ more) ≡ head_line format ∷ lines_of left = ap lines_of (begins.spelled ∙ append_assoc body line_end left) ∙ lines_of-more body left (head_lacks format) in
+    let same : ended.body ≡ body = same_first (record { text = ended.body; ended = true }) (head_line format) (lines_of (ended.rest ++ more)) (lines_of left) (sym (first_same text more ended) ∙ head) in
+    lacks format ended.rest (record {
+      spelled = ended.spelled ∙ ap (λ (b : List ℕ). b ++ line_feed ∷ ended.rest) same ∙ sym (append_assoc body line_end ended.rest);
+      numbers = begins.numbers;
+    })
 
 -- a line with which a longer text begins
-record NextStays (text : List ℕ) (line : LogLine) : Type 0 where
+record NextStays (format : LogFormat) (text : List ℕ) (line : LineIn format) : Type 0 where
   left : List ℕ
-  next : NextIs text line left
+  next : NextIn format text line left
 
-next_stays : (text more : List ℕ) (line : LogLine) (left : List ℕ) → 1 ≤ feeds text → NextIs (text ++ more) line left → NextStays text line
-next_stays text more line left some next =
+next_stays : (format : LogFormat) (text more : List ℕ) (line : LineIn format) (left : List ℕ) → 1 ≤ feeds text → NextIn format (text ++ more) line left → NextStays format text line
+next_stays format text more line left some next =
     let ended = ended_line text some in
-    let first : lines_of (text ++ more) ≡ text_line line ∷ lines_of left = ap lines_of next.spelled ∙ lines_of-line_text line left next.numbers in
-    let same : ended.body ≡ line_body line = same_first (record { text = ended.body; ended = true }) (text_line line) (lines_of (ended.rest ++ more)) (lines_of left) (sym (first_same text more ended) ∙ first) in
+    let body : List ℕ = body_in format line in
+    let first : lines_of (text ++ more) ≡ text_line_in format line ∷ lines_of left = ap lines_of next.spelled ∙ lines_of-text_in format line left next.numbers in
+    let same : ended.body ≡ body = same_first (record { text = ended.body; ended = true }) (text_line_in format line) (lines_of (ended.rest ++ more)) (lines_of left) (sym (first_same text more ended) ∙ first) in
     record {
       left = ended.rest;
       next = record {
-        spelled = ended.spelled ∙ ap (λ (b : List ℕ). b ++ line_feed ∷ ended.rest) same ∙ sym (append_assoc (line_body line) line_end ended.rest);
+        spelled = ended.spelled ∙ ap (λ (b : List ℕ). b ++ line_feed ∷ ended.rest) same ∙ sym (append_assoc body line_end ended.rest);
         numbers = next.numbers;
       };
     }
@@ -119,25 +133,25 @@ front_empty : (xs ys : List ℕ) → xs ++ ys ≡ [] → xs ≡ []
 front_empty [] ys none = refl
 front_empty (x ∷ xs) ys none = absurd (cc)
 
-after_stays : (network : NetworkOf) (lines : List LogLine) (text more : List ℕ) (kind : LogKind) → 1 ≤ feeds text → IsFaultAfter network lines text kind → IsFaultAfter network lines (text ++ more) kind
-after_stays network lines text more kind ended (extra is whole some) = extra is whole (λ none. some (front_empty text more none))
-after_stays network lines text more kind ended (short is other none) = let zero_feeds : feeds text ≡ 0 = ap feeds none in absurd (omega arith)
-after_stays network lines text more kind ended (form is other some lacks) =
+after_stays : (network : NetworkOf) (format : LogFormat) (lines : List (LineIn format)) (text more : List ℕ) (kind : LogKind) → 1 ≤ feeds text → IsFaultAfter network format lines text kind → IsFaultAfter network format lines (text ++ more) kind
+after_stays network format lines text more kind ended (extra is whole some) = extra is whole (λ none. some (front_empty text more none))
+after_stays network format lines text more kind ended (short is other none) = let zero_feeds : feeds text ≡ 0 = ap feeds none in absurd (omega arith)
+after_stays network format lines text more kind ended (form is other some lacks) =
     form is other (λ none. some (front_empty text more none))
-    (λ line left next. let stays = next_stays text more line left ended next in lacks line stays.left stays.next)
-after_stays network lines text more kind ended (rule line left node next stands broken) =
+    (λ line left next. let stays = next_stays format text more line left ended next in lacks line stays.left stays.next)
+after_stays network format lines text more kind ended (rule line left node next stands broken) =
     rule line (left ++ more) node
-    (record { spelled = ap (λ (t : List ℕ). t ++ more) next.spelled ∙ append_assoc (line_text line) left more; numbers = next.numbers })
+    (record { spelled = ap (λ (t : List ℕ). t ++ more) next.spelled ∙ append_assoc (text_in format line) left more; numbers = next.numbers })
     stands broken
 
-pub fault_stays : (network : NetworkOf) (text more : List ℕ) (fault : LogFault) → IsNetwork network → IsFirstFault network text fault → fault.line ≤ count_by is_line_feed text → IsFirstFault network (text ++ more) fault
-fault_stays network text more fault bounds (headless line kind lacks) ended =
+pub fault_stays : (network : NetworkOf) (text more : List ℕ) (fault : LogFault) → IsFirstFault network text fault → fault.line ≤ count_by is_line_feed text → IsFirstFault network (text ++ more) fault
+fault_stays network text more fault (headless line kind lacks) ended =
     let some : 1 ≤ feeds text = omega arith in
     headless line kind (stays_headless text more some lacks)
-fault_stays network text more fault bounds (later lines left begins begun at wrong) ended =
-    let all : feeds text ≡ feeds head_text + feeds (lines_text lines ++ left) = ap feeds begins.spelled ∙ feeds-append head_text (lines_text lines ++ left) in
-    let after : feeds (lines_text lines ++ left) ≡ feeds (lines_text lines) + feeds left = feeds-append (lines_text lines) left in
-    let counted : feeds (lines_text lines) ≡ length lines = feeds-lines lines (begun_numbers network lines bounds begun) in
-    let head : feeds head_text ≡ 1 = refl in
+fault_stays network text more fault (later format lines left begins begun at wrong) ended =
+    let all : feeds text ≡ feeds (head_text_in format) + feeds (texts_in format lines ++ left) = ap feeds begins.spelled ∙ feeds-append (head_text_in format) (texts_in format lines ++ left) in
+    let after : feeds (texts_in format lines ++ left) ≡ feeds (texts_in format lines) + feeds left = feeds-append (texts_in format lines) left in
+    let counted : feeds (texts_in format lines) ≡ length lines = feeds-lines format lines begins.numbers in
+    let head : feeds (head_text_in format) ≡ 1 = feeds-head format in
     let some : 1 ≤ feeds left = omega arith in
-    later lines (left ++ more) (begins_more text lines left more begins) begun at (after_stays network lines left more fault.kind some wrong)
+    later format lines (left ++ more) (begins_more_in format text lines left more begins) begun at (after_stays network format lines left more fault.kind some wrong)

@@ -10,11 +10,11 @@ use Rattle.log_check.specs.Writing.{Writes}
 
 -- ---- tests
 
-and_left : (a b : Bool) → (a && b) ≡ true → a ≡ true
+pub and_left : (a b : Bool) → (a && b) ≡ true → a ≡ true
 and_left true b is = refl
 and_left false b is = absurd (false≢true is)
 
-and_right : (a b : Bool) → (a && b) ≡ true → b ≡ true
+pub and_right : (a b : Bool) → (a && b) ≡ true → b ≡ true
 and_right true b is = is
 and_right false b is = absurd (false≢true is)
 
@@ -26,13 +26,18 @@ moves_one unknowns least pair low high some small =
     ∙ ap (λ b. (true && true) && (b && nat_le (unsigned_abs pair.1) 32768)) (lt-ltb 0 (unsigned_abs pair.1) some)
     ∙ ap (λ b. (true && true) && (true && b)) (le-leb (unsigned_abs pair.1) 32768 small)
 
-place_of : (unknowns least : ℕ) (pair : ℕ × ℤ) → is_move unknowns least pair ≡ true → (least ≤ pair.0) × (pair.0 < unknowns)
+pub place_of : (unknowns least : ℕ) (pair : ℕ × ℤ) → is_move unknowns least pair ≡ true → (least ≤ pair.0) × (pair.0 < unknowns)
 place_of unknowns least pair is =
     let place = and_left (nat_le least pair.0 && ltb pair.0 unknowns) (ltb 0 (unsigned_abs pair.1) && nat_le (unsigned_abs pair.1) 32768) is in
     (leb-true least pair.0 (and_left (nat_le least pair.0) (ltb pair.0 unknowns) place), ltb-true pair.0 unknowns (and_right (nat_le least pair.0) (ltb pair.0 unknowns) place))
 
+pub size_of : (unknowns least : ℕ) (pair : ℕ × ℤ) → is_move unknowns least pair ≡ true → (0 < unsigned_abs pair.1) × (unsigned_abs pair.1 ≤ 32768)
+size_of unknowns least pair is =
+    let size = and_right (nat_le least pair.0 && ltb pair.0 unknowns) (ltb 0 (unsigned_abs pair.1) && nat_le (unsigned_abs pair.1) 32768) is in
+    (ltb-true 0 (unsigned_abs pair.1) (and_left (ltb 0 (unsigned_abs pair.1)) (nat_le (unsigned_abs pair.1) 32768) size), leb-true (unsigned_abs pair.1) 32768 (and_right (ltb 0 (unsigned_abs pair.1)) (nat_le (unsigned_abs pair.1) 32768) size))
+
 -- moves from an unknown on move none before it
-before_moves : (unknowns least i : ℕ) (pairs : List (ℕ × ℤ)) → are_moves unknowns least pairs ≡ true → i < least → displaced_by pairs i ≡ pos 0
+pub before_moves : (unknowns least i : ℕ) (pairs : List (ℕ × ℤ)) → are_moves unknowns least pairs ≡ true → i < least → displaced_by pairs i ≡ pos 0
 before_moves unknowns least i [] are below = refl
 before_moves unknowns least i (pair ∷ pairs) are below =
     let first = and_left (is_move unknowns least pair) (are_moves unknowns (suc pair.0) pairs) are in

@@ -12,6 +12,7 @@ use Rattle.geo_model.specs.Network.{NetworkOf}
 use Rattle.geo_model.specs.Nodes.{all_plans}
 use Rattle.bound_log.specs.LogTree.{with_chosen, without_chosen}
 use Rattle.bound_log.specs.Rules.{IsAllowedLine}
+use Rattle.bound_log.specs.Meanings.{AreNames, Meaning, naming, standing, lacking, may_name, meaning_in}
 use Rattle.bound_log.specs.OpenCount.{open_count}
 use Rattle.bound_log.specs.declared.log_line.LogLine.{LogLine}
 use Rattle.bound_log.specs.declared.log_line.LogLine.TheVariants.{Split, Leaf}
@@ -20,8 +21,10 @@ use Rattle.bound_log.proofs.OpenLemmas.{open_count-root, open_count-with, open_c
 use Rattle.bound_log.proofs.SoundLemmas.{at_place}
 use Rattle.log_check.specs.Places.{OpenOf, HasEntries, ArePlaces, HasRoom, IsReady}
 use Rattle.log_check.specs.Running.{opened, LeadsTo}
-use Rattle.log_check.specs.Taking.{TakesText, TakesLine, at_head, at_node}
+use Rattle.log_check.specs.FirstFault.{KeepsRules}
+use Rattle.log_check.specs.Taking.{Does, TakesLine, at_head, at_node}
 use Rattle.log_check.specs.declared.progress.Progress.{Progress}
+use Rattle.log_check.proofs.FormatRuns.{kept_rule, names_more}
 
 -- ---- copies of plans
 
@@ -172,17 +175,34 @@ not_empty (x ∷ xs) some = record { first = x; rest = xs; is = refl }
 
 -- ---- after a line that was taken
 
-pub ready_text : (network : NetworkOf) (text : List ℕ) (ended : Bool) (before now : Progress) → IsReady network before.stack → TakesText network text ended before now → IsReady network now.stack
-ready_text network text ended before now ready takes =
+ready_does : (network : NetworkOf) (node : Node) (rest : List Node) (said : Meaning) (before now : Progress) → IsReady network before.stack → before.stack.nodes ≡ node ∷ rest → KeepsRules network before.cuts node said → Does network node rest said before now → IsReady network now.stack
+ready_does network node rest (naming cut) before now ready top keeps does = subst (λ (s : OpenOf). IsReady network s) (sym does.stack) ready
+ready_does network node rest (standing line) before now ready top keeps does =
     let count : ℕ = length network.candidates in
-    let room : HasRoom count (takes.node ∷ takes.rest) = subst (HasRoom count) takes.top ready.room in
+    let room : HasRoom count (node ∷ rest) = subst (HasRoom count) top ready.room in
     record {
       few = ready.few;
-      count = ap (λ (s : OpenOf). s.candidates) takes.takes.stack ∙ ready.count;
-      room = subst (HasRoom count) (sym (ap (λ (s : OpenOf). s.nodes) takes.takes.stack)) (room_after network count takes.node takes.rest takes.line room takes.allowed);
+      count = ap (λ (s : OpenOf). s.candidates) does.stack ∙ ready.count;
+      room = subst (HasRoom count) (sym (ap (λ (s : OpenOf). s.nodes) does.stack)) (room_after network count node rest line room keeps);
     }
+ready_does network node rest lacking before now ready top keeps does = absurd does
 
 pub ready_next : (network : NetworkOf) (text : List ℕ) (ended : Bool) (before now : Progress) → IsReady network before.stack → TakesLine network text ended before now → IsReady network now.stack
 ready_next network text ended before now ready (at_head head) = subst (λ (s : OpenOf). IsReady network s) (sym head.stack) ready
 ready_next network text ended before now ready (at_node middle some takes is) =
-    subst (λ (s : OpenOf). IsReady network s) (sym (ap (λ (p : Progress). p.stack) is)) (ready_text network text ended before middle ready takes)
+    let said = takes.body.said in
+    subst (λ (s : OpenOf). IsReady network s) (sym (ap (λ (p : Progress). p.stack) is))
+    (ready_does network said.node said.rest (meaning_in before.format before.cuts takes.body.line) before middle ready said.top said.keeps said.does)
+
+names_does : (network : NetworkOf) (node : Node) (rest : List Node) (said : Meaning) (before now : Progress) → AreNames network before.cuts → KeepsRules network before.cuts node said → Does network node rest said before now → AreNames network now.cuts
+names_does network node rest (naming cut) before now names keeps does =
+    subst (AreNames network) (sym does.named) (names_more network before.cuts cut names (kept_rule (may_name network before.cuts cut) keeps))
+names_does network node rest (standing line) before now names keeps does = subst (AreNames network) (sym does.named) names
+names_does network node rest lacking before now names keeps does = absurd does
+
+pub names_next : (network : NetworkOf) (text : List ℕ) (ended : Bool) (before now : Progress) → AreNames network before.cuts → TakesLine network text ended before now → AreNames network now.cuts
+names_next network text ended before now names (at_head head) = subst (AreNames network) (sym head.cuts) names
+names_next network text ended before now names (at_node middle some takes is) =
+    let said = takes.body.said in
+    subst (AreNames network) (sym (ap (λ (p : Progress). p.cuts) is))
+    (names_does network said.node said.rest (meaning_in before.format before.cuts takes.body.line) before middle names said.keeps said.does)

@@ -1,12 +1,10 @@
 -- Lines of logs and the open nodes that they lead to.
-use Rattle.std.proofs.Common.{◌≡◌, ℕ, List, [], ◌∷◌, ◌++◌, map, All, refl, ap, sym, ◌∙◌, subst, append-nil, append_assoc}
-use Rattle.std.proofs.lemmas.List.Elements.{All-nil, All-cons}
-use Rattle.geo_model.specs.Network.{NetworkOf, IsNetwork}
+use Rattle.std.proofs.Common.{◌≡◌, ℕ, List, [], ◌∷◌, ◌++◌, map, refl, ap, sym, ◌∙◌, subst, append-nil, append_assoc}
+use Rattle.geo_model.specs.Network.{NetworkOf}
 use Rattle.geo_model.specs.declared.plan.Node.{Node}
 use Rattle.bound_log.specs.declared.bound.Bound.{Bound}
 use Rattle.bound_log.specs.declared.bound.Bound.TheVariants.{NoPlan}
 use Rattle.bound_log.specs.Bound.{lesser}
-use Rattle.bound_log.specs.Grammar.{HasNumbersBelow, number_bound}
 use Rattle.bound_log.specs.LogTree.{root_of, with_chosen, without_chosen, IsAllowed, leaf_bound, bound_at}
 use Rattle.bound_log.specs.Rules.{IsAllowedLine}
 use Rattle.bound_log.specs.Placed.{placed}
@@ -14,9 +12,8 @@ use Rattle.bound_log.specs.declared.log_leaf.LogLeaf.TheVariants.{Cost}
 use Rattle.bound_log.specs.declared.log_line.LogLine.{LogLine}
 use Rattle.bound_log.specs.declared.log_line.LogLine.TheVariants.{Split, Leaf}
 use Rattle.bound_log.specs.Tree.{Tree, fork, tip, tree_lines}
-use Rattle.bound_log.proofs.AllowedLemmas.{cost_allowed, line_numbers}
+use Rattle.bound_log.proofs.AllowedLemmas.{cost_allowed}
 use Rattle.bound_log.proofs.BoundLemmas.{lesser_none, lesser_assoc}
-use Rattle.log_check.specs.FirstFault.{LogBegins, IsWhole, StandsNext}
 use Rattle.log_check.specs.Running.{opened, line_bound, LeadsTo, bound_along}
 
 -- ---- one after another
@@ -88,9 +85,9 @@ placed_along network node (fork candidate with_it without_it) nodes allowed = (
 )
 
 -- after the lines of some, the node of the next is the first open one
-record NodeNext (network : NetworkOf) (nodes : List Node) (before : List (Node × LogLine)) (node : Node) : Type 0 where
-  rest : List Node
-  leads : LeadsTo network nodes (map (λ at. at.1) before) (node ∷ rest)
+pub record NodeNext (network : NetworkOf) (nodes : List Node) (before : List (Node × LogLine)) (node : Node) : Type 0 where
+  pub rest : List Node
+  pub leads : LeadsTo network nodes (map (λ at. at.1) before) (node ∷ rest)
 
 node_next : (network : NetworkOf) (nodes final : List Node) (before after : List (Node × LogLine)) (at : Node × LogLine) → PlacedAlong network nodes (before ++ at ∷ after) final → NodeNext network nodes before at.0
 node_next network [] final [] after at along = absurd along
@@ -187,22 +184,22 @@ one_tree_of network node [] allowed = absurd allowed
 one_tree_of network node (a ∷ []) allowed = record { tree = a; alone = refl; allowed = allowed.0 }
 one_tree_of network node (a ∷ b ∷ trees) allowed = absurd allowed.1
 
--- ---- right lines
+-- ---- lines from the root
 
--- some nodes are open
-pub record Leads (network : NetworkOf) (lines : List LogLine) : Type 0 where
-  pub final : List Node
-  pub leads : LeadsTo network (root_of network ∷ []) lines final
+-- lines that lead from the root begin those of a tree; where no line of it is left, no node is open
+pub record TreeAround (network : NetworkOf) (lines : List LogLine) (final : List Node) : Type 0 where
+  pub tree : Tree
+  pub rest : List LogLine
+  pub allowed : IsAllowed network (root_of network) tree
+  pub begins : tree_lines tree ≡ lines ++ rest
+  pub ends : rest ≡ [] → final ≡ []
 
-pub begins_leads : (network : NetworkOf) (lines : List LogLine) → LogBegins network lines → Leads network lines
-begins_leads network lines begun =
-    let along : LeadsTo network (root_of network ∷ []) (lines ++ begun.rest) [] =
-    subst (λ (l : List LogLine). LeadsTo network (root_of network ∷ []) l []) begun.begins (tree_leads network (root_of network) begun.tree [] begun.allowed) in
-    let parts = LeadsTo-parts network (root_of network ∷ []) [] lines begun.rest along in
-    record { final = parts.middle; leads = parts.first }
+none_left : (final : List Node) → forest_lines (leaves final) ≡ [] → final ≡ []
+none_left [] none = refl
+none_left (node ∷ nodes) none = absurd (cc)
 
-pub leads_begins : (network : NetworkOf) (lines : List LogLine) (final : List Node) → LeadsTo network (root_of network ∷ []) lines final → LogBegins network lines
-leads_begins network lines final leads =
+pub leads_tree : (network : NetworkOf) (lines : List LogLine) (final : List Node) → LeadsTo network (root_of network ∷ []) lines final → TreeAround network lines final
+leads_tree network lines final leads =
     let made = complete network (root_of network ∷ []) lines final (leaves final) leads (leaves_allowed network final) in
     let one = one_tree_of network (root_of network) made.whole made.allowed in
     record {
@@ -210,10 +207,14 @@ leads_begins network lines final leads =
       rest = forest_lines (leaves final);
       allowed = one.allowed;
       begins = sym (append-nil (tree_lines one.tree)) ∙ ap forest_lines (sym one.alone) ∙ made.spelled;
+      ends = none_left final;
     }
 
-pub whole_leads : (network : NetworkOf) (lines : List LogLine) → IsWhole network lines → LeadsTo network (root_of network ∷ []) lines []
-whole_leads network lines whole = subst (λ (l : List LogLine). LeadsTo network (root_of network ∷ []) l []) whole.spelled (tree_leads network (root_of network) whole.tree [] whole.allowed)
+-- the first lines of a tree lead from the root
+pub tree_front : (network : NetworkOf) (tree : Tree) (lines rest : List LogLine) → IsAllowed network (root_of network) tree → tree_lines tree ≡ lines ++ rest → Between network (root_of network ∷ []) lines rest []
+tree_front network tree lines rest allowed begins =
+    LeadsTo-parts network (root_of network ∷ []) [] lines rest
+    (subst (λ (l : List LogLine). LeadsTo network (root_of network ∷ []) l []) begins (tree_leads network (root_of network) tree [] allowed))
 
 -- the tree of all lines, with its bound
 pub record WholeTree (network : NetworkOf) (lines : List LogLine) : Type 0 where
@@ -236,25 +237,24 @@ whole_tree network lines leads =
           ∙ lesser_none (bound_along network (root_of network ∷ []) lines);
     }
 
-pub leads_whole : (network : NetworkOf) (lines : List LogLine) → LeadsTo network (root_of network ∷ []) lines [] → IsWhole network lines
-leads_whole network lines leads =
-    let made = whole_tree network lines leads in
-    record { tree = made.tree; allowed = made.allowed; spelled = made.spelled }
+-- the node of a line is the first one that is open after the lines before it
+pub placed_leads : (network : NetworkOf) (tree : Tree) (before after : List (Node × LogLine)) (at : Node × LogLine) → IsAllowed network (root_of network) tree → placed (root_of network) tree ≡ before ++ at ∷ after → NodeNext network (root_of network ∷ []) before at.0
+placed_leads network tree before after at allowed parts =
+    node_next network (root_of network ∷ []) [] before after at
+    (subst (λ (l : List (Node × LogLine)). PlacedAlong network (root_of network ∷ []) l []) parts (placed_along network (root_of network) tree [] allowed))
 
--- a node is the first open one
-pub record FirstOpen (network : NetworkOf) (lines : List LogLine) (node : Node) : Type 0 where
-  pub rest : List Node
-  pub leads : LeadsTo network (root_of network ∷ []) lines (node ∷ rest)
+-- .. and lines that lead to a first open node are those before it in some tree
+pub record PlacedNext (network : NetworkOf) (lines : List LogLine) (node : Node) : Type 0 where
+  pub tree : Tree
+  pub before : List (Node × LogLine)
+  pub next : LogLine
+  pub after : List (Node × LogLine)
+  pub allowed : IsAllowed network (root_of network) tree
+  pub parts : placed (root_of network) tree ≡ before ++ (node, next) ∷ after
+  pub earlier : map (λ at. at.1) before ≡ lines
 
-pub stands_leads : (network : NetworkOf) (lines : List LogLine) (node : Node) → StandsNext network lines node → FirstOpen network lines node
-stands_leads network lines node stands =
-    let along : PlacedAlong network (root_of network ∷ []) (stands.before ++ (node, stands.next) ∷ stands.after) [] =
-    subst (λ (l : List (Node × LogLine)). PlacedAlong network (root_of network ∷ []) l []) stands.parts (placed_along network (root_of network) stands.tree [] stands.allowed) in
-    let found = node_next network (root_of network ∷ []) [] stands.before stands.after (node, stands.next) along in
-    record { rest = found.rest; leads = subst (λ (l : List LogLine). LeadsTo network (root_of network ∷ []) l (node ∷ found.rest)) stands.earlier found.leads }
-
-pub leads_stands : (network : NetworkOf) (lines : List LogLine) (node : Node) (rest : List Node) → LeadsTo network (root_of network ∷ []) lines (node ∷ rest) → StandsNext network lines node
-leads_stands network lines node rest leads =
+pub leads_placed : (network : NetworkOf) (lines : List LogLine) (node : Node) (rest : List Node) → LeadsTo network (root_of network ∷ []) lines (node ∷ rest) → PlacedNext network lines node
+leads_placed network lines node rest leads =
     let made = complete network (root_of network ∷ []) lines (node ∷ rest) (leaves (node ∷ rest)) leads (leaves_allowed network (node ∷ rest)) in
     let one = one_tree_of network (root_of network) made.whole made.allowed in
     record {
@@ -266,25 +266,3 @@ leads_stands network lines node rest leads =
       parts = sym (append-nil (placed (root_of network) one.tree)) ∙ ap (forest_placed (root_of network ∷ [])) (sym one.alone) ∙ made.parts;
       earlier = made.earlier;
     }
-
-pub stands_not_whole : (network : NetworkOf) (lines : List LogLine) (node : Node) → StandsNext network lines node → IsWhole network lines → ⊥
-stands_not_whole network lines node stands whole =
-    let found = stands_leads network lines node stands in
-    let same : [] ≡ node ∷ found.rest = one_final network (root_of network ∷ []) [] (node ∷ found.rest) lines (whole_leads network lines whole) found.leads in
-    absurd (cc)
-
-pub one_node : (network : NetworkOf) (lines : List LogLine) (a b : Node) → StandsNext network lines a → StandsNext network lines b → a ≡ b
-one_node network lines a b stands also =
-    let first = stands_leads network lines a stands in
-    let second = stands_leads network lines b also in
-    let same : a ∷ first.rest ≡ b ∷ second.rest = one_final network (root_of network ∷ []) (a ∷ first.rest) (b ∷ second.rest) lines first.leads second.leads in
-    cc
-
--- ---- numbers
-
-pub lines_numbers : (network : NetworkOf) (nodes final : List Node) (lines : List LogLine) → IsNetwork network → LeadsTo network nodes lines final → All (HasNumbersBelow number_bound) lines
-lines_numbers network nodes final [] bounds leads = All-nil (HasNumbersBelow number_bound)
-lines_numbers network [] final (x ∷ lines) bounds leads = absurd leads
-lines_numbers network (node ∷ nodes) final (x ∷ lines) bounds leads =
-    All-cons (HasNumbersBelow number_bound) x lines (line_numbers network node x bounds leads.0)
-    (lines_numbers network (opened node x ++ nodes) final lines bounds leads.1)

@@ -17,6 +17,10 @@ use Rattle.log_check.specs.Weighing.{is_owned_at, is_share_in_range}
 pub fails_at : {X : Type 0} (test : X → Bool) (all left : List X) (x : X) → list_all test all ≡ list_all test (x ∷ left) → test x ≡ false → list_all test all ≡ false
 fails_at test all left x so_far fails = so_far ∙ ap (λ b. b && list_all test left) fails
 
+-- .. and one that passes
+pub holds_at : {X : Type 0} (test : X → Bool) (all left : List X) (x : X) → list_all test all ≡ list_all test (x ∷ left) → test x ≡ true → list_all test all ≡ list_all test left
+holds_at test all left x so_far holds = so_far ∙ ap (λ b. b && list_all test left) holds
+
 -- ---- ranges
 
 three_parts : (a b c x y z : Bool) → ((a && (b && c)) && (x && (y && z))) ≡ ((a && x) && ((b && y) && (c && z)))

@@ -1,37 +1,35 @@
 -- Two readings of a text as lines and what is left.
 use Rattle.std.proofs.Common.{◌≡◌, ℕ, List, [], ◌∷◌, ◌++◌, All, refl, ap₂, sym, ◌∙◌, append_assoc}
 use Rattle.std.proofs.lemmas.List.Elements.{All-head, All-tail}
-use Rattle.bound_log.specs.Grammar.{number_bound, HasNumbersBelow}
-use Rattle.bound_log.specs.LogText.{line_text, lines_text}
-use Rattle.bound_log.specs.declared.log_line.LogLine.{LogLine}
-use Rattle.bound_log.specs.Spells.{NextIs}
-use Rattle.bound_log.proofs.TreeLemmas.{SameStart, same_start, some_text}
+use Rattle.bound_log.specs.declared.log_format.LogFormat.{LogFormat}
+use Rattle.bound_log.specs.Formats.{HasShortNumbers, LineIn, NextIn, text_in, texts_in}
+use Rattle.bound_log.proofs.FormatLemmas.{SameStartIn, same_start_in, some_text_in}
 
-pub one_beginning : (text : List ℕ) (a b : LogLine) (x y : List ℕ) → NextIs text a x → NextIs text b y → SameStart a b x y
-one_beginning text a b x y first second = same_start a b x y first.numbers second.numbers (sym first.spelled ∙ second.spelled)
+pub one_beginning : (format : LogFormat) (text : List ℕ) (a b : LineIn format) (x y : List ℕ) → NextIn format text a x → NextIn format text b y → SameStartIn format a b x y
+one_beginning format text a b x y first second = same_start_in format a b x y first.numbers second.numbers (sym first.spelled ∙ second.spelled)
 
 -- a text that begins with a line isn't empty
-pub begins_some : (text : List ℕ) (line : LogLine) (left : List ℕ) → NextIs text line left → text ≡ [] → ⊥
-begins_some text line left begins none = some_text line left (sym none ∙ begins.spelled)
+pub begins_some : (format : LogFormat) (text : List ℕ) (line : LineIn format) (left : List ℕ) → NextIn format text line left → text ≡ [] → ⊥
+begins_some format text line left begins none = some_text_in format line left (sym none ∙ begins.spelled)
 
 -- of two readings one goes further, or they are the same
-pub data Order (xs ys : List LogLine) (x y : List ℕ) : Type 0 where
-  same : xs ≡ ys → x ≡ y → Order xs ys x y
-  further : (line : LogLine) (more : List LogLine) (left : List ℕ) → ys ≡ xs ++ line ∷ more → NextIs x line left → Order xs ys x y
-  behind : (line : LogLine) (more : List LogLine) (left : List ℕ) → xs ≡ ys ++ line ∷ more → NextIs y line left → Order xs ys x y
+pub data Order (format : LogFormat) (xs ys : List (LineIn format)) (x y : List ℕ) : Type 0 where
+  same : xs ≡ ys → x ≡ y → Order format xs ys x y
+  further : (line : LineIn format) (more : List (LineIn format)) (left : List ℕ) → ys ≡ xs ++ line ∷ more → NextIn format x line left → Order format xs ys x y
+  behind : (line : LineIn format) (more : List (LineIn format)) (left : List ℕ) → xs ≡ ys ++ line ∷ more → NextIn format y line left → Order format xs ys x y
 
-one_more : (a b : LogLine) (xs ys : List LogLine) (x y : List ℕ) → a ≡ b → Order xs ys x y → Order (a ∷ xs) (b ∷ ys) x y
-one_more a b xs ys x y is (same lines texts) = same (ap₂ (λ (l : LogLine) (ls : List LogLine). l ∷ ls) is lines) texts
-one_more a b xs ys x y is (further line more left lines begins) = further line more left (ap₂ (λ (l : LogLine) (ls : List LogLine). l ∷ ls) (sym is) lines) begins
-one_more a b xs ys x y is (behind line more left lines begins) = behind line more left (ap₂ (λ (l : LogLine) (ls : List LogLine). l ∷ ls) is lines) begins
+one_more : (format : LogFormat) (a b : LineIn format) (xs ys : List (LineIn format)) (x y : List ℕ) → a ≡ b → Order format xs ys x y → Order format (a ∷ xs) (b ∷ ys) x y
+one_more format a b xs ys x y is (same lines texts) = same (ap₂ (λ (l : LineIn format) (ls : List (LineIn format)). l ∷ ls) is lines) texts
+one_more format a b xs ys x y is (further line more left lines begins) = further line more left (ap₂ (λ (l : LineIn format) (ls : List (LineIn format)). l ∷ ls) (sym is) lines) begins
+one_more format a b xs ys x y is (behind line more left lines begins) = behind line more left (ap₂ (λ (l : LineIn format) (ls : List (LineIn format)). l ∷ ls) is lines) begins
 
-pub order : (xs ys : List LogLine) (x y : List ℕ) → All (HasNumbersBelow number_bound) xs → All (HasNumbersBelow number_bound) ys → lines_text xs ++ x ≡ lines_text ys ++ y → Order xs ys x y
-order [] [] x y small also is = same refl is
-order [] (b ∷ ys) x y small also is =
-    further b ys (lines_text ys ++ y) refl (record { spelled = is ∙ append_assoc (line_text b) (lines_text ys) y; numbers = All-head (HasNumbersBelow number_bound) b ys also })
-order (a ∷ xs) [] x y small also is =
-    behind a xs (lines_text xs ++ x) refl (record { spelled = sym is ∙ append_assoc (line_text a) (lines_text xs) x; numbers = All-head (HasNumbersBelow number_bound) a xs small })
-order (a ∷ xs) (b ∷ ys) x y small also is =
-    let start = same_start a b (lines_text xs ++ x) (lines_text ys ++ y) (All-head (HasNumbersBelow number_bound) a xs small) (All-head (HasNumbersBelow number_bound) b ys also)
-    (sym (append_assoc (line_text a) (lines_text xs) x) ∙ is ∙ append_assoc (line_text b) (lines_text ys) y) in
-    one_more a b xs ys x y start.line (order xs ys x y (All-tail (HasNumbersBelow number_bound) a xs small) (All-tail (HasNumbersBelow number_bound) b ys also) start.rest)
+pub order : (format : LogFormat) (xs ys : List (LineIn format)) (x y : List ℕ) → All (HasShortNumbers format) xs → All (HasShortNumbers format) ys → texts_in format xs ++ x ≡ texts_in format ys ++ y → Order format xs ys x y
+order format [] [] x y small also is = same refl is
+order format [] (b ∷ ys) x y small also is =
+    further b ys (texts_in format ys ++ y) refl (record { spelled = is ∙ append_assoc (text_in format b) (texts_in format ys) y; numbers = All-head (HasShortNumbers format) b ys also })
+order format (a ∷ xs) [] x y small also is =
+    behind a xs (texts_in format xs ++ x) refl (record { spelled = sym is ∙ append_assoc (text_in format a) (texts_in format xs) x; numbers = All-head (HasShortNumbers format) a xs small })
+order format (a ∷ xs) (b ∷ ys) x y small also is =
+    let start = same_start_in format a b (texts_in format xs ++ x) (texts_in format ys ++ y) (All-head (HasShortNumbers format) a xs small) (All-head (HasShortNumbers format) b ys also)
+    (sym (append_assoc (text_in format a) (texts_in format xs) x) ∙ is ∙ append_assoc (text_in format b) (texts_in format ys) y) in
+    one_more format a b xs ys x y start.line (order format xs ys x y (All-tail (HasShortNumbers format) a xs small) (All-tail (HasShortNumbers format) b ys also) start.rest)

@@ -3,7 +3,7 @@ use Rattle.std.proofs.Common.{◌≡◌, ◌<◌, ◌≤◌, ◌^◌, ℕ, ◌+�
 use Rattle.std.specs.Prelude.{All, Some, slice_get, sum_by, unsigned_abs}
 use Rattle.std.proofs.lemmas.Int.{ints}
 use Rattle.std.proofs.lemmas.List.{append-nil, map-append}
-use Rattle.std.proofs.lemmas.List.Elements.{All-tail}
+use Rattle.std.proofs.lemmas.List.Elements.{All-nil, All-cons, All-head, All-tail}
 use Rattle.std.proofs.lemmas.List.Sums.{sum_by-append}
 use Rattle.whole_algebra.specs.Matrices.{at}
 use Rattle.cut_pool.specs.Cut.{cover_of}
@@ -15,7 +15,11 @@ use Rattle.geo_model.specs.Prices.{prices_of}
 use Rattle.bound_log.specs.CutText.{CutTextOf, displaced_by}
 use Rattle.bound_log.specs.DualText.{cover_at, weighed_text}
 use Rattle.bound_log.proofs.AllowedLemmas.{item_at}
+use Rattle.bound_log.specs.LogTree.{IsLineShareAt}
+use Rattle.bound_log.specs.Meanings.{AreNames, share_used}
+use Rattle.geo_model.specs.declared.plan.Node.{Node}
 use Rattle.log_check.specs.Weighing.{IsShareOf, Weighs}
+use Rattle.log_check.proofs.NamingLemmas.{in_range_at}
 
 -- the covering inequality that was written is that of the share's cut
 pub cover_written : (network : NetworkOf) (cut : CutTextOf) (limit : ℕ) (x : List ℤ) (written : CoverOf) → cut.limit < length network.limits → limit ≡ cut.limit → ((i : ℕ) → displaced_by cut.pairs i ≡ at x i)
@@ -64,6 +68,13 @@ weighs_next network divisor shares left share reduced now paid part weighs is fe
       paid_small = omega (arith, weighs.paid_small, few, long);
     }
 
+-- what is left of the prices, and what was paid, is small
+pub weighs_small : (network : NetworkOf) (divisor : ℕ) (shares left : List (ℕ × CutTextOf)) (reduced : List ℤ) (paid : ℕ) → length shares ≤ 64 → Weighs network divisor shares left reduced paid → ((i : ℕ) → unsigned_abs (at reduced i) ≤ 2 ^ 75) × (paid ≤ 2 ^ 74)
+weighs_small network divisor shares left reduced paid few weighs =
+    let whole : length shares ≡ length (weighs.done ++ left) = ap length weighs.whole in
+    let long : length weighs.done ≤ 64 = omega (arith, few, whole, length-append weighs.done left) in
+    (λ i. omega (arith, weighs.small i, long), omega (arith, weighs.paid_small, long))
+
 -- all shares are taken off
 pub record HasWeighed (network : NetworkOf) (divisor : ℕ) (shares : List (ℕ × CutTextOf)) (reduced : List ℤ) (paid : ℕ) : Type 0 where
   pub sum : paid ≡ sum_by (λ share. share.multiplier * share.cover.bound) (map (weighed_text network) shares)
@@ -81,3 +92,22 @@ weighs_end network divisor shares left reduced paid few none weighs =
       taken = λ i. weighs.taken i ∙ ap (λ (l : List (ℕ × CutTextOf)). reduced_price (prices_of network) divisor (map (weighed_text network) l) i) all;
       small = λ i. omega (arith, weighs.small i, long, few);
     }
+
+-- ---- uses of cuts by their numbers
+
+-- the shares that uses stand for, with their numbers in their ranges
+pub shares_of_uses : (network : NetworkOf) (cuts : List CutTextOf) (uses : List (ℕ × ℕ)) → AreNames network cuts → All (λ one. (one.0 ≤ 2 ^ 44) × (one.1 < length cuts)) uses → All (IsShareOf network) (map (share_used cuts) uses)
+shares_of_uses network cuts [] names each = All-nil (IsShareOf network)
+shares_of_uses network cuts (one ∷ uses) names each =
+    let here : (one.0 ≤ 2 ^ 44) × (one.1 < length cuts) = All-head (λ (u : ℕ × ℕ). (u.0 ≤ 2 ^ 44) × (u.1 < length cuts)) one uses each in
+    let range = in_range_at network cuts one.1 names here.1 in
+    All-cons (IsShareOf network) (share_used cuts one) (map (share_used cuts) uses) (record { small = here.0; within = range.within; displacement = range.displacement })
+    (shares_of_uses network cuts uses names (All-tail (λ (u : ℕ × ℕ). (u.0 ≤ 2 ^ 44) × (u.1 < length cuts)) one uses each))
+
+-- uses whose shares are allowed have small multipliers
+pub small_uses : (network : NetworkOf) (node : Node) (cuts : List CutTextOf) (uses : List (ℕ × ℕ)) → All (λ one. one.1 < length cuts) uses → All (IsLineShareAt network node) (map (share_used cuts) uses) → All (λ one. (one.0 ≤ 2 ^ 44) × (one.1 < length cuts)) uses
+small_uses network node cuts [] named each = All-nil (λ (u : ℕ × ℕ). (u.0 ≤ 2 ^ 44) × (u.1 < length cuts))
+small_uses network node cuts (one ∷ uses) named each =
+    let share = All-head (IsLineShareAt network node) (share_used cuts one) (map (share_used cuts) uses) each in
+    All-cons (λ (u : ℕ × ℕ). (u.0 ≤ 2 ^ 44) × (u.1 < length cuts)) one uses (share.multiplier.high, All-head (λ (u : ℕ × ℕ). u.1 < length cuts) one uses named)
+    (small_uses network node cuts uses (All-tail (λ (u : ℕ × ℕ). u.1 < length cuts) one uses named) (All-tail (IsLineShareAt network node) (share_used cuts one) (map (share_used cuts) uses) each))

@@ -2,6 +2,7 @@
 use Rattle.std.specs.Prelude.{◌≡◌, ℕ, ◌^◌, ◌<◌, ◌≤◌, Bool, true, false, List, [], ◌++◌, count_by, All, Some, None, Result, Ok, Err, MatchOption}
 use Rattle.lent_parts.specs.Pieces.{TextLineOf, is_line_feed, line_bytes}
 use Rattle.geo_model.specs.Network.{NetworkOf, IsNetwork}
+use Rattle.bound_log.specs.Meanings.{AreNames}
 use Rattle.bound_log.specs.declared.log_kind.LogKind.{LogKind}
 use Rattle.bound_log.specs.declared.log_kind.LogKind.TheVariants.{Form, Short}
 use Rattle.log_check.specs.declared.fault.LogFault.{LogFault}
@@ -87,11 +88,13 @@ Finishes network text (Err fault) = IsFirstFault network text fault
 
 -- ---- what the code keeps
 
--- the room is one for the network, and the open nodes are nodes of it, few enough for their places
+-- the room is one for the network, the open nodes are nodes of it, few enough for their places, and the cuts that are named
+-- have their numbers in their ranges
 pub record IsSound (network : NetworkOf) (judged : Judged) : Type 0 where
   pub bounds : IsNetwork network
   pub room : IsLineRoom network judged.room
   pub ready : IsReady network judged.progress.stack
+  pub names : AreNames network judged.progress.cuts
 
 -- a line was judged: after a wrong one nothing changes; else it was taken, or is the first wrong
 -- one

@@ -2,6 +2,7 @@ pub mod Fed
 pub mod FirstFault
 pub mod Groups
 pub mod LineRoom
+pub mod Naming
 pub mod Places
 pub mod Reaching
 pub mod Replayed

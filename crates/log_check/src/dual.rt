@@ -1,8 +1,9 @@
 //! The dual bound of a line of a log, formed from the lent line in room that stands.
-ghost use Rattle.std.specs.Prelude.{◌≡◌, ℕ, ◌+◌, ◌-◌, ◌*◌, ◌/◌, ◌^◌, ◌≤◌, pos, ◌-ℤ◌, All, None, get_or, length, map, sum_by, unsigned_abs};
+ghost use Rattle.std.specs.Prelude.{◌≡◌, ℕ, ◌+◌, ◌-◌, ◌*◌, ◌/◌, ◌^◌, ◌<◌, ◌≤◌, pos, ◌-ℤ◌, List, All, None, get_or, length, map, sum_by, unsigned_abs};
 ghost use Rattle.whole_algebra.specs.Matrices.{at};
-ghost use Rattle.geo_model.specs.Dual.{at_least_zero, dual_bound, reduced_price};
+ghost use Rattle.geo_model.specs.Dual.{WeighedCover, at_least_zero, dual_bound, reduced_price};
 ghost use Rattle.geo_model.specs.Prices.{prices_of};
+ghost use Rattle.bound_log.specs.CutText.{CutTextOf, displaced_by};
 ghost use Rattle.bound_log.specs.DualText.{weighed_text};
 ghost use Rattle.bound_log.specs.LogTree.{IsDualLineAt};
 ghost use Rattle.log_check.specs.Groups.{AreReduced};
@@ -33,8 +34,28 @@ fn weigh_share(network: &Network, room: &mut LineRoom, multiplier: u64, cut: &Cu
     let _bounds = network.limits();
     // The pairs are a displacement: their ranges were looked at.
     let _written = write_moves(&mut room.moves, cut);
+    weigh_moves(network, room, multiplier, cut.limit() as u32)
+}
+
+/// Takes a share off the reduced prices, whose cut is that of a limit and of the displacement that
+/// is written, and answers its multiplier times the bound of the cut. It takes no memory.
+pub fn weigh_moves(network: &Network, room: &mut LineRoom, multiplier: u64, limit: u32) -> u128
+    requires room { IsLineRoom network.now room.old }
+    requires multiplier { multiplier ≤ 2 ^ 44 }
+    requires limit { limit < length network.now.limits }
+    requires small { (i : ℕ) → unsigned_abs (at room.old.reduced.items i) ≤ 2 ^ 75 }
+    ensures paid { (cut : CutTextOf) → cut.limit ≡ limit → ((i : ℕ) → displaced_by cut.pairs i ≡ at room.old.moves i)
+        → result ≡ multiplier * (weighed_text network.now (multiplier, cut)).cover.bound }
+    ensures paid_size { result ≤ 2 ^ 68 }
+    ensures taken { (cut : CutTextOf) → cut.limit ≡ limit → ((i : ℕ) → displaced_by cut.pairs i ≡ at room.old.moves i)
+        → (i : ℕ) → at room.new.reduced.items i ≡ at room.old.reduced.items i -ℤ pos (multiplier * get_or (weighed_text network.now (multiplier, cut)).cover.coefficients i 0) }
+    ensures near { (i : ℕ) → unsigned_abs (at room.new.reduced.items i) ≤ unsigned_abs (at room.old.reduced.items i) + 2 ^ 68 }
+    ensures kept { IsLineRoom network.now room.new }
+{
+    // The network's bounds, for the proof.
+    let _bounds = network.limits();
     let coefficients = room.coefficients.as_mut_slice();
-    let bound = cut_into(network, cut.limit() as u32, &room.moves, coefficients);
+    let bound = cut_into(network, limit, &room.moves, coefficients);
     take_off(
         room.reduced.as_mut_slice(),
         room.coefficients.as_slice(),
@@ -90,7 +111,26 @@ pub fn dual_bound_at(
     ensures kept { IsLineRoom network.now room.new }
 {
     let paid = weigh(network, room, divisor, shares);
-    let reduced = room.reduced.as_slice();
+    bound_of_sums(network, node, divisor, room.reduced.as_slice(), paid)
+}
+
+/// The dual bound of a divisor, of the reduced prices that shares leave, and of what the shares pay.
+pub fn bound_of_sums(
+    network: &Network,
+    node: &Node,
+    divisor: u64,
+    reduced: &[i128],
+    paid: u128,
+) -> u128
+    requires node { HasEntries (length network.now.candidates) node.now }
+    requires low { 1 ≤ divisor }
+    requires high { divisor ≤ 2 ^ 44 }
+    requires reduced { AreReduced (length network.now.candidates) reduced.now }
+    requires paid { paid ≤ 2 ^ 74 }
+    ensures { (shares : List WeighedCover) → paid ≡ sum_by (λ share. share.multiplier * share.cover.bound) shares
+        → ((i : ℕ) → at reduced.now i ≡ reduced_price (prices_of network.now) divisor shares i)
+        → result ≡ dual_bound (prices_of network.now) divisor shares node.now }
+{
     let inner = inner_sum(network, node, reduced);
     let free = open_sum(network, node, reduced, None);
     let stations = stations_sum(network, node, divisor, reduced);

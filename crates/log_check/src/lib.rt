@@ -1,7 +1,8 @@
-//! The replay of a log over a network: its bound and the counts of its lines, or its first fault. A
-//! log is handed in whole, line by line or in pieces that are cut anywhere; of a line nothing is
-//! kept but where a piece ends in it. It stands on no crate of the search; all its memory is taken
-//! at its start, but for a line of more than 65536 bytes that pieces cut.
+//! The replay of a log of either format over a network: its bound and the counts of its lines, or
+//! its first fault. A log is handed in whole, line by line or in pieces that are cut anywhere; of a
+//! line nothing is kept but the cut that it names, and what stands before the end of a piece. It
+//! stands on no crate of the search; all its memory is taken at its start, with room for 65536 named
+//! cuts, but for a line of more than 65536 bytes that pieces cut.
 //!
 //! Proved: a text is replayed to the bound and the counts of its one tree, or to its first fault, a
 //! line and a kind, however it is cut; each text is a log or has a first fault, never both, nor
@@ -16,11 +17,13 @@
 
 mod dual;
 mod dual_sums;
+mod dual_uses;
 mod fault;
 mod judged;
 mod laws;
 mod line_room;
 mod moves;
+mod named_cuts;
 mod open_nodes;
 mod parts;
 mod progress;
@@ -29,7 +32,10 @@ mod replayer;
 mod replaying;
 mod rules;
 mod shares;
+mod standing;
 mod taking;
+mod taking_named;
+mod uses;
 
 pub use bound_log::{Bound, LogKind};
 pub use fault::{LogFault, ReplayAnswer};

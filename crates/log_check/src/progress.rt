@@ -1,5 +1,5 @@
 //! How far a replay has come.
-ghost use Rattle.std.specs.Prelude.{◌≡◌, ◌<◌, ◌≤◌, List, [], ◌∷◌, length, map, IfOk};
+ghost use Rattle.std.specs.Prelude.{◌≡◌, ◌<◌, ◌≤◌, ℕ, List, [], ◌∷◌, length, map, IfOk};
 ghost use Rattle.geo_model.specs.Network.{IsNetwork};
 ghost use Rattle.geo_model.specs.Dual.{dual_bound};
 ghost use Rattle.geo_model.specs.Prices.{price_of, prices_of};
@@ -8,9 +8,11 @@ ghost use Rattle.geo_model.specs.declared.plan.Node.{Node as NodeOf};
 ghost use Rattle.bound_log.specs.declared.bound.Bound.TheVariants.{NoPlan, AtLeast};
 ghost use Rattle.bound_log.specs.Bound.{lesser};
 ghost use Rattle.bound_log.specs.Counted.{counts_of};
+ghost use Rattle.bound_log.specs.CutText.{CutTextOf};
 ghost use Rattle.bound_log.specs.DualText.{weighed_text};
 ghost use Rattle.bound_log.specs.LogTree.{IsDualLineAt, leaf_bound};
 ghost use Rattle.bound_log.specs.Rules.{IsAllowedLine};
+ghost use Rattle.bound_log.specs.declared.log_leaf.LogLeaf.TheVariants as log_leaf;
 ghost use Rattle.bound_log.specs.declared.log_line.LogLine.TheVariants as log_line;
 ghost use Rattle.log_check.specs.LineRoom.{IsLineRoom};
 ghost use Rattle.log_check.specs.Places.{IsReady};
@@ -19,17 +21,21 @@ ghost use Rattle.log_check.specs.Taking.{EndsAt, Takes};
 
 use crate::dual::dual_bound_at;
 use crate::line_room::LineRoom;
+use crate::named_cuts::NamedCuts;
 use crate::open_nodes::OpenNodes;
-use bound_log::{Bound, LogLeaf, LogLine, Shares, count_line};
+use bound_log::{Bound, LineKind, LogFormat, LogLeaf, LogLine, Shares, count_line};
 use geo_base::NoMemory;
 use geo_model::{Counts, Network, cost};
 use std::alloc::Global;
 
-/// What the lines so far leave: how many there are, the first line of a log among them, the nodes
-/// that are open, the least bound of the leaves, and the lines counted by their kinds.
+/// What the lines so far leave: how many there are, the first line of a log among them, the format
+/// that this one tells, the cuts that are named, the nodes that are open, the least bound of the
+/// leaves, and the lines counted by their kinds.
 #[derive(Drop)]
 pub struct Progress {
     pub lines: u64,
+    pub format: LogFormat,
+    pub cuts: NamedCuts,
     pub stack: OpenNodes,
     pub bound: Bound,
     pub counts: Counts,
@@ -40,14 +46,18 @@ impl Progress {
     pub fn new(alloc: Global, network: &Network) -> Result<Progress, NoMemory>
         ensures lines { IfOk result (λ made. made.lines ≡ 0) }
         ensures stack { IfOk result (λ made. made.stack ≡ record { candidates = length network.now.candidates; nodes = all_plans (length network.now.candidates) ∷ [] }) }
+        ensures cuts { IfOk result (λ made. made.cuts ≡ []) }
         ensures bound { IfOk result (λ made. made.bound ≡ NoPlan) }
         ensures counts { IfOk result (λ made. made.counts ≡ counts_of []) }
         ensures few { length network.now.candidates ≤ 256 }
         ensures bounds { IsNetwork network.now }
     {
         let stack = OpenNodes::new(alloc, network.candidates().len() as u32)?;
+        let cuts = NamedCuts::new(alloc)?;
         Ok(Progress {
             lines: 0,
+            format: LogFormat::First,
+            cuts,
             stack,
             bound: Bound::NoPlan,
             counts: Counts::none(),
@@ -118,6 +128,27 @@ impl Progress {
         ensures kept { IsLineRoom network.now room.new }
     {
         let least = dual_bound_at(network, room, self.stack.top(), divisor, shares);
+        self.bound = lesser_bound(self.bound, least);
+        self.stack.pop();
+    }
+
+    /// Takes a leaf at the next node whose cut is broken, which is to be numbered yet.
+    pub fn end_at_cut(&mut self)
+        requires { 0 < length self.old.stack.nodes }
+        ensures { (cut : CutTextOf) (node : NodeOf) (rest : List NodeOf) → self.old.stack.nodes ≡ node ∷ rest →
+            Takes node rest (log_line.Leaf (log_leaf.Cut cut)) NoPlan self.old self.new }
+    {
+        count_line(&mut self.counts, LineKind::Cut);
+        self.stack.pop();
+    }
+
+    /// Takes a leaf at the next node with this dual bound, which is to be numbered yet.
+    pub fn end_at_dual(&mut self, least: u128)
+        requires { 0 < length self.old.stack.nodes }
+        ensures { (divisor : ℕ) (shares : List (ℕ × CutTextOf)) (node : NodeOf) (rest : List NodeOf) → self.old.stack.nodes ≡ node ∷ rest →
+            Takes node rest (log_line.Leaf (log_leaf.Dual divisor shares)) (AtLeast least) self.old self.new }
+    {
+        count_line(&mut self.counts, LineKind::Dual);
         self.bound = lesser_bound(self.bound, least);
         self.stack.pop();
     }

@@ -37,8 +37,8 @@ impl<'n> Model for Replayer<'n> {
 }
 
 impl<'n> Replayer<'n> {
-    /// Before the first byte. It takes all the room for nodes and verdicts, and 65536 bytes for an
-    /// unfinished line. Refused for want of memory alone.
+    /// Before the first byte. It takes all the room for nodes, verdicts and 65536 named cuts, and 65536
+    /// bytes for an unfinished line. Refused for want of memory alone.
     pub fn new(alloc: Global, network: &'n Network) -> Result<Replayer<'n>, NoMemory>
         ensures network { IfOk result (λ made. made.network ≡ network.entry.now) }
         ensures bounds { IfOk result (λ _. IsNetwork network.entry.now) }

@@ -1,6 +1,8 @@
 //! Whether a line is allowed at a node.
-ghost use Rattle.std.specs.Prelude.{◌≡◌, length};
-ghost use Rattle.bound_log.specs.Rules.{first_unkept, line_rules};
+ghost use Rattle.std.specs.Prelude.{◌≡◌, ◌<◌, ℕ, true, length};
+ghost use Rattle.whole_algebra.specs.Matrices.{at};
+ghost use Rattle.bound_log.specs.CutText.{CutTextOf, displaced_by};
+ghost use Rattle.bound_log.specs.Rules.{first_unkept, is_displacement, line_rules};
 ghost use Rattle.bound_log.specs.declared.log_leaf.LogLeaf.TheVariants as log_leaf;
 ghost use Rattle.bound_log.specs.declared.log_line.LogLine.TheVariants as log_line;
 ghost use Rattle.log_check.specs.LineRoom.{IsLineRoom};
@@ -10,7 +12,7 @@ use crate::line_room::LineRoom;
 use crate::moves::write_moves;
 use crate::shares::{dual_in_range, shares_owned};
 use bound_log::{CutText, LogKind, LogLeaf, LogLine, Shares};
-use geo_model::{Network, Node, Verdict, breaks};
+use geo_model::{Displacement, Network, Node, Verdict, breaks};
 use pivot_chain::verdict;
 
 /// The first rule that a line breaks at a node; `None` where it is allowed there. It takes no
@@ -117,11 +119,30 @@ fn broken_by_cut(
     if !write_moves(&mut room.moves, cut) {
         return Some(LogKind::Range);
     }
+    broken_by_moves(network, node, number as u32, &room.moves)
+}
+
+/// The first rule after those of its numbers that a leaf breaks whose displacement has these
+/// entries. It takes no memory.
+pub fn broken_by_moves(
+    network: &Network,
+    node: &Node,
+    number: u32,
+    moves: &Displacement,
+) -> Option<LogKind>
+    requires node { HasEntries (length network.now.candidates) node.now }
+    requires limit { number < length network.now.limits }
+    requires moves { length moves.now ≡ length network.now.unknowns }
+    ensures { (cut : CutTextOf) → cut.limit ≡ number → is_displacement (length network.now.unknowns) cut.pairs ≡ true
+        → ((i : ℕ) → displaced_by cut.pairs i ≡ at moves.now i)
+        → result ≡ first_unkept (line_rules network.now node.now (log_line.Leaf (log_leaf.Cut cut))) }
+{
+    let limits = network.limits();
     let broken = &limits[number as usize];
     if !broken.is_in_force(&node.inside) {
         return Some(LogKind::Owner);
     }
-    if !breaks(network, &node.upper, number as u32, &room.moves) {
+    if !breaks(network, &node.upper, number, moves) {
         return Some(LogKind::CutHolds);
     }
     None

@@ -17,10 +17,10 @@ use geo_model::{Network, Node};
 const MOST_WEIGHT: u64 = 17_592_186_044_416;
 
 /// The most shares of a line.
-const MOST_SHARES: u64 = 64;
+pub const MOST_SHARES: u64 = 64;
 
-// Whether a divisor or a multiplier is in its range.
-fn is_weight(weight: u64) -> bool
+/// Whether a divisor or a multiplier is in its range.
+pub fn is_weight(weight: u64) -> bool
     ensures { result ≡ is_weight weight }
 {
     weight >= 1 && weight <= MOST_WEIGHT
@@ -82,8 +82,8 @@ pub fn dual_in_range(
     shares_in_range(network, room, shares)
 }
 
-// Whether the limit of a number is in force for the inner plan of a node.
-fn is_owned_at(network: &Network, node: &Node, number: u64) -> bool
+/// Whether the limit of a number is in force for the inner plan of a node.
+pub fn is_owned_at(network: &Network, node: &Node, number: u64) -> bool
     requires { HasEntries (length network.now.candidates) node.now }
     ensures { result ≡ is_owned_at network.now node.now number }
 {

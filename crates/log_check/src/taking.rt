@@ -1,15 +1,19 @@
 //! One more line of a log.
-ghost use Rattle.std.specs.Prelude.{◌≡◌, [], true, IfErr, OnOk, OnErr};
+ghost use Rattle.std.specs.Prelude.{◌≡◌, ◌<◌, true, length, IfErr, OnOk, OnErr};
+ghost use Rattle.bound_log.specs.Formats.{head_body_in};
+ghost use Rattle.bound_log.specs.Meanings.{AreNames};
+ghost use Rattle.bound_log.specs.declared.log_format.LogFormat.{LogFormat as FormatOf};
+ghost use Rattle.bound_log.specs.declared.log_format.LogFormat.TheVariants as log_format;
+ghost use Rattle.bound_log.specs.declared.log_kind.LogKind.TheVariants.{Form};
 ghost use Rattle.log_check.specs.LineRoom.{IsLineRoom};
 ghost use Rattle.log_check.specs.Places.{IsReady};
-ghost use Rattle.log_check.specs.Taking.{Stops, StopsLine, TakesHead, TakesLine, TakesText};
-ghost use Rattle.bound_log.specs.LogText.{head_body};
-ghost use Rattle.bound_log.specs.declared.log_kind.LogKind.TheVariants.{Form};
+ghost use Rattle.log_check.specs.Taking.{Stops, StopsBody, StopsLine, TakesBody, TakesHead, TakesLine, TakesText};
 
 use crate::line_room::LineRoom;
 use crate::progress::Progress;
-use crate::rules::broken_rule;
-use bound_log::{LogKind, is_head, read_line};
+use crate::standing::take_standing;
+use crate::taking_named::take_second;
+use bound_log::{LogFormat, LogKind, head_format, read_line};
 use geo_model::Network;
 
 /// Takes the text of a line, which LF ends or not: that of the first line of a log, or one at the
@@ -23,6 +27,7 @@ pub fn take_line(
 ) -> Result<(), LogKind>
     requires room { IsLineRoom network.now room.old }
     requires ready { IsReady network.now progress.old.stack }
+    requires names { AreNames network.now progress.old.cuts }
     ensures taken { OnOk result (TakesLine network.now text.now ended progress.old progress.new) }
     ensures stopped { IfErr result (λ kind. StopsLine network.now progress.old text.now ended kind) }
     ensures refused { OnErr result (progress.new ≡ progress.old) }
@@ -38,19 +43,20 @@ pub fn take_line(
     Ok(())
 }
 
-// Takes the text of the first line of a log.
+// Takes the text of the first line of a log, which tells its format.
 fn take_head(progress: &mut Progress, text: &[u8], ended: bool) -> Result<(), LogKind>
     requires { progress.old.lines ≡ 0 }
     ensures taken { OnOk result (TakesHead text.now ended progress.old progress.new) }
-    ensures stopped { IfErr result (λ kind. (kind ≡ Form) × (ended ≡ true → text.now ≡ head_body → ⊥)) }
+    ensures stopped { IfErr result (λ kind. (kind ≡ Form) × (ended ≡ true → (format : FormatOf) → text.now ≡ head_body_in format → ⊥)) }
     ensures refused { OnErr result (progress.new ≡ progress.old) }
 {
     if !ended {
         return Err(LogKind::Form);
     }
-    if !is_head(text) {
+    let Some(format) = head_format(text) else {
         return Err(LogKind::Form);
-    }
+    };
+    progress.format = format;
     progress.lines = 1;
     Ok(())
 }
@@ -65,8 +71,9 @@ fn take_at_node(
 ) -> Result<(), LogKind>
     requires room { IsLineRoom network.now room.old }
     requires ready { IsReady network.now progress.old.stack }
-    ensures taken { OnOk result (TakesText network.now text.now ended progress.old progress.new) }
-    ensures stopped { IfErr result (λ kind. Stops network.now progress.old.stack.nodes text.now ended kind) }
+    requires names { AreNames network.now progress.old.cuts }
+    ensures taken { OnOk result (TakesText network.now progress.old.format text.now ended progress.old progress.new) }
+    ensures stopped { IfErr result (λ kind. Stops network.now progress.old.format progress.old.cuts progress.old.stack.nodes text.now ended kind) }
     ensures refused { OnErr result (progress.new ≡ progress.old) }
     ensures kept { IsLineRoom network.now room.new }
 {
@@ -76,12 +83,29 @@ fn take_at_node(
     if !ended {
         return Err(LogKind::Form);
     }
-    let Some(line) = read_line(text) else {
-        return Err(LogKind::Form);
-    };
-    if let Some(kind) = broken_rule(network, room, progress.stack.top(), &line) {
-        return Err(kind);
+    match progress.format {
+        LogFormat::First => take_first(network, room, progress, text),
+        LogFormat::Second => take_second(network, room, progress, text),
     }
-    progress.take(network, room, &line);
-    Ok(())
+}
+
+// Takes the text of a line of format 1 at the next node.
+fn take_first(
+    network: &Network,
+    room: &mut LineRoom,
+    progress: &mut Progress,
+    text: &[u8],
+) -> Result<(), LogKind>
+    requires room { IsLineRoom network.now room.old }
+    requires ready { IsReady network.now progress.old.stack }
+    requires some { 0 < length progress.old.stack.nodes }
+    ensures taken { OnOk result (TakesBody network.now log_format.First text.now progress.old progress.new) }
+    ensures stopped { IfErr result (λ kind. StopsBody network.now log_format.First progress.old.cuts progress.old.stack.nodes text.now kind) }
+    ensures refused { OnErr result (progress.new ≡ progress.old) }
+    ensures kept { IsLineRoom network.now room.new }
+{
+    match read_line(text) {
+        Some(line) => take_standing(network, room, progress, &line),
+        None => Err(LogKind::Form),
+    }
 }

@@ -13,6 +13,8 @@ mod log_lines;
 #[cfg(test)]
 mod named_lines;
 #[cfg(test)]
+mod named_replays;
+#[cfg(test)]
 mod pieces;
 #[cfg(test)]
 mod replays;

@@ -1,7 +1,7 @@
 //! Lines of a log as texts.
 use bound_log::{
-    LineKind, LogLeaf, LogLine, count_line, is_head, put_cost, put_cut, put_head, put_line,
-    put_pivot, put_split, read_line,
+    LineKind, LogLeaf, LogLine, count_line, put_cost, put_cut, put_head, put_line, put_pivot,
+    put_split, read_line,
 };
 use cut_pool::Cut;
 use geo_base::NoMemory;
@@ -107,23 +107,6 @@ fn cuts_are_put(rt: HostRuntime) -> Result<(), Fail> {
     put_cut(&mut out, &cut)?;
     assert_eq!(rt; out.as_slice(), b"x 12 2 1 -32768 4 7\n".as_slice());
     Ok(())
-}
-
-// Texts, and whether each is the first line of a log.
-const FIRST_LINES: [(&[u8], bool); 6] = [
-    (b"geoplan-log 1", true),
-    (b"geoplan-log 1\n", false),
-    (b"geoplan-log 1\r", false),
-    (b"geoplan-log 2", false),
-    (b"geoplan-log", false),
-    (b"", false),
-];
-
-#[test]
-fn the_first_line_is_told(rt: HostRuntime) {
-    for (text, told) in FIRST_LINES {
-        assert_eq!(rt; is_head(text), told);
-    }
 }
 
 #[test]

@@ -11,8 +11,8 @@ fn fed(replayer: &mut Replayer<'_>, piece: &[u8]) -> Result<(), ReplayAnswer> {
     replayer.feed(piece)
 }
 
-// What comes of a log in pieces of so many bytes. A fault stays, and is answered again at the end.
-fn in_pieces(
+/// What comes of a log in pieces of so many bytes. A fault stays, and is answered again at the end.
+pub fn in_pieces(
     alloc: Global,
     network: &Network,
     log: &[u8],
@@ -30,7 +30,8 @@ fn in_pieces(
     }
 }
 
-const SIZES: [usize; 4] = [1, 2, 7, 65536];
+/// The sizes of the pieces.
+pub const SIZES: [usize; 4] = [1, 2, 7, 65536];
 
 #[test]
 fn logs_in_pieces(rt: HostRuntime) -> Result<(), Fail> {

@@ -126,7 +126,7 @@ pub const FAULTS: [(&[u8], u64, LogKind); 30] = [
     (b"geoplan-log 1\nx 0 1 0 32769\n", 2, LogKind::Range),
     (b"geoplan-log 1\ns 0\nx 1 1 0 1\n", 4, LogKind::Short),
     (b"geoplan-log 1\nd 1\n", 2, LogKind::Form),
-    (b"geoplan-log 2\ns 0\n", 1, LogKind::Form),
+    (b"geoplan-log 3\ns 0\n", 1, LogKind::Form),
 ];
 
 #[test]

@@ -53,7 +53,7 @@ returns-in_err-explore-clause-refused g c =
     (g.H.Shelf.state c.args.shelf.now)
     (g.H.Shelf.state c.begin_log.new.shelf)
     (g.H.Shelf.state c.explore.new.shelf)
-    root c.in_ok-begin_log.ensures.added c.in_err-explore.ensures.refused)
+    c.in_ok-first.ensures.bounds root c.in_ok-begin_log.ensures.added c.in_err-explore.ensures.refused)
 
 pub returns-clause-searched : goal.returns-clause-searched
 returns-clause-searched g c =

@@ -1,34 +1,18 @@
-use Rattle.std.proofs.Common.{◌≡◌, ◌∙◌, ℕ, ◌*◌, ℤ, pos, ◌-ℤ◌, List, length, get_or, true, arith, ap, ap₂}
-use Rattle.std.specs.Prelude.{slice_get}
-use Rattle.std.proofs.lemmas.List.{with_items_is}
+use Rattle.std.proofs.Common.{◌≡◌, ◌∙◌, ℕ, true, ap, sym}
 use Rattle.whole_algebra.specs.Matrices.{at}
-use Rattle.geo_model.specs.Cover.{CoverOf}
-use Rattle.bound_log.specs.DualText.{cover_at}
+use Rattle.bound_log.specs.CutText.{displaced_by}
 use Rattle.bound_log.specs.Rules.{is_displacement}
-use Rattle.log_check.proofs.WeighLemmas.{cover_written}
 use Rattle.log_check.proofs.dual.weigh_share.Goals as goal
 
--- the covering inequality that was written is that of the cut
-covers : (c : goal.After-from-2) → let written : CoverOf = record { coefficients = c.cut_into-bound.new.coefficients; bound = c.cut_into-bound.result } in
-    written ≡ cover_at c.args.network.now c.args.cut.now (slice_get c.args.network.now.limits c.args.cut.now.limit)
-covers c =
+-- the displacement of the cut was written
+moved : (c : goal.After-weigh_moves) → (i : ℕ) → displaced_by c.args.cut.now.pairs i ≡ at c.write_moves-written.new.x i
+moved c =
     let cut = c.args.cut.now in
     let moves : c.write_moves-written.result ≡ true = c.write_moves-written.ensures.are ∙ ap (λ n. is_displacement n cut.pairs) c.requires.room.moves ∙ c.requires.share.displacement in
-    cover_written c.args.network.now cut c.limit.result c.write_moves-written.new.x _ c.requires.share.within c.limit.ensures (c.write_moves-written.ensures.written moves) c.cut_into-bound.ensures.value
+    c.write_moves-written.ensures.written moves
 
 pub returns-clause-paid : goal.returns-clause-paid
-returns-clause-paid c = ap₂ (λ m n. m * n) c.from.ensures (c.from-2.ensures ∙ ap (λ (v : CoverOf). v.bound) (covers c))
+returns-clause-paid c = c.weigh_moves.ensures.paid c.args.cut.now (sym c.limit.ensures) (moved c)
 
 pub returns-clause-taken : goal.returns-clause-taken
-returns-clause-taken c =
-    let room = c.args.room.now in
-    let numbers = c.cut_into-bound.new.coefficients in
-    let left = c.take_off.new.reduced in
-    let wide : length numbers ≡ room.coefficients.len = omega (arith, c.cut_into-bound.auto.coefficients, ap length c.as_mut_slice-coefficients.ensures.value, room.coefficients.ok.0) in
-    let long : length left ≡ room.reduced.len = omega (arith, c.take_off.auto.reduced, ap length c.as_mut_slice.ensures.value, room.reduced.ok.0) in
-    let read : c.as_slice.result.now ≡ numbers = c.as_slice.ensures.value ∙ with_items_is room.coefficients numbers wide in
-    let are : numbers ≡ (cover_at c.args.network.now c.args.cut.now (slice_get c.args.network.now.limits c.args.cut.now.limit)).coefficients = ap (λ (v : CoverOf). v.coefficients) (covers c) in
-    λ i.
-    ap (λ (l : List ℤ). at l i) (with_items_is room.reduced left long)
-    ∙ c.take_off.ensures.taken i
-    ∙ ap₂ (λ (l : List ℤ) (n : List ℕ). at l i -ℤ pos (c.args.multiplier * get_or n i 0)) c.as_mut_slice.ensures.value (read ∙ are)
+returns-clause-taken c = c.weigh_moves.ensures.taken c.args.cut.now (sym c.limit.ensures) (moved c)

@@ -1,39 +1,53 @@
-use Rattle.std.proofs.Common.{length, sym, subst}
+use Rattle.std.proofs.Common.{◌≡◌, ◌<◌, [], true, length, arith, ap, sym, subst}
 use Rattle.std.proofs.lemmas.Bool.{false≢true}
-use Rattle.geo_model.specs.declared.plan.Node.{Node}
-use Rattle.bound_log.specs.Rules.{IsAllowedLine, IsFirstBroken}
-use Rattle.log_check.specs.Places.{HasEntries}
-use Rattle.log_check.specs.Taking.{no_rule}
-use Rattle.log_check.proofs.PlaceLemmas.{not_empty, next_long}
+use Rattle.std.proofs.lemmas.Result.{IfErr-weaker, on_ok_weaker}
+use Rattle.bound_log.specs.declared.log_format.LogFormat.{LogFormat}
+use Rattle.bound_log.specs.declared.log_format.LogFormat.TheVariants.{First, Second}
+use Rattle.log_check.specs.Taking.{Stops, StopsBody, TakesBody, TakesText, no_body}
+use Rattle.log_check.proofs.PlaceLemmas.{not_empty}
 use Rattle.log_check.proofs.taking.take_at_node.Goals as goal
 
-pub broken_rule-requires-clause-node : goal.broken_rule-requires-clause-node
-broken_rule-requires-clause-node c =
-    let stack = c.args.progress.now.stack in
-    let top = not_empty stack.nodes (λ none. false≢true (c.if-is_empty.ensures.1 none)) in
-    subst (HasEntries (length c.args.network.now.candidates)) (sym (c.top.ensures top.first top.rest top.is))
-    (next_long c.args.network.now stack top.first top.rest c.requires.ready top.is)
+-- some node is open
+pub take_first-requires-clause-some : goal.take_first-requires-clause-some
+take_first-requires-clause-some c =
+    let nodes = c.args.progress.now.stack.nodes in
+    let top = not_empty nodes (λ none. false≢true (c.if-is_empty.ensures.1 none)) in
+    omega (arith, ap length top.is)
 
-pub returns-in-Some-broken_rule-clause-stopped : goal.returns-in-Some-broken_rule-clause-stopped
-returns-in-Some-broken_rule-clause-stopped c =
-    let stack = c.args.progress.now.stack in
-    let line = c.in-Some.line in
-    let top = not_empty stack.nodes (λ none. false≢true (c.if-is_empty.ensures.1 none)) in
-    no_rule top.first top.rest line top.is c.if-not-ended.false c.in-Some.ensures.some
-    (subst (λ (n : Node). IsFirstBroken c.args.network.now n line c.in-Some-broken_rule.kind) (c.top.ensures top.first top.rest top.is) (sym c.in-Some-broken_rule.ensures.rule))
+pub take_second-requires-clause-some : goal.take_second-requires-clause-some
+take_second-requires-clause-some c =
+    let nodes = c.args.progress.now.stack.nodes in
+    let top = not_empty nodes (λ none. false≢true (c.if-is_empty.ensures.1 none)) in
+    omega (arith, ap length top.is)
 
-pub returns-clause-taken : goal.returns-clause-taken
-returns-clause-taken c =
-    let stack = c.args.progress.now.stack in
-    let line = c.in-Some.line in
-    let top = not_empty stack.nodes (λ none. false≢true (c.if-is_empty.ensures.1 none)) in
-    record {
-      node = top.first;
-      rest = top.rest;
-      line = line;
-      top = top.is;
-      with_end = c.if-not-ended.false;
-      spelled = c.in-Some.ensures.some;
-      allowed = subst (λ (n : Node). IsAllowedLine c.args.network.now n line) (c.top.ensures top.first top.rest top.is) (sym c.in_default-broken_rule.ensures.rule);
-      takes = c.take.ensures.taken top.first top.rest top.is;
-    }
+pub returns-in-First-clause-taken : goal.returns-in-First-clause-taken
+returns-in-First-clause-taken c =
+    on_ok_weaker c.take_first.result
+    (λ body. subst (λ (f : LogFormat). TakesText c.args.network.now f c.args.text.now c.args.ended c.args.progress.now c.take_first.new.progress) (sym c.in-First.is)
+    (record { with_end = c.if-not-ended.false; body = body }))
+    c.take_first.ensures.taken
+
+pub returns-in-First-clause-stopped : goal.returns-in-First-clause-stopped
+returns-in-First-clause-stopped c =
+    let before = c.args.progress.now in
+    IfErr-weaker c.take_first.result (StopsBody c.args.network.now First before.cuts before.stack.nodes c.args.text.now)
+    (Stops c.args.network.now before.format before.cuts before.stack.nodes c.args.text.now c.args.ended)
+    (λ kind body. no_body (λ none. false≢true (c.if-is_empty.ensures.1 none)) c.if-not-ended.false
+    (subst (λ (f : LogFormat). StopsBody c.args.network.now f before.cuts before.stack.nodes c.args.text.now kind) (sym c.in-First.is) body))
+    c.take_first.ensures.stopped
+
+pub returns-in-Second-clause-taken : goal.returns-in-Second-clause-taken
+returns-in-Second-clause-taken c =
+    on_ok_weaker c.take_second.result
+    (λ body. subst (λ (f : LogFormat). TakesText c.args.network.now f c.args.text.now c.args.ended c.args.progress.now c.take_second.new.progress) (sym c.in-Second.is)
+    (record { with_end = c.if-not-ended.false; body = body }))
+    c.take_second.ensures.taken
+
+pub returns-in-Second-clause-stopped : goal.returns-in-Second-clause-stopped
+returns-in-Second-clause-stopped c =
+    let before = c.args.progress.now in
+    IfErr-weaker c.take_second.result (StopsBody c.args.network.now Second before.cuts before.stack.nodes c.args.text.now)
+    (Stops c.args.network.now before.format before.cuts before.stack.nodes c.args.text.now c.args.ended)
+    (λ kind body. no_body (λ none. false≢true (c.if-is_empty.ensures.1 none)) c.if-not-ended.false
+    (subst (λ (f : LogFormat). StopsBody c.args.network.now f before.cuts before.stack.nodes c.args.text.now kind) (sym c.in-Second.is) body))
+    c.take_second.ensures.stopped

@@ -4,7 +4,7 @@ use Rattle.log_check.specs.declared.progress.Progress.{Progress}
 use Rattle.log_check.specs.Fed.{after_fault, right, wrong}
 use Rattle.log_check.specs.Taking.{next_count}
 use Rattle.log_check.proofs.FedLemmas.{some_fault, no_fault}
-use Rattle.log_check.proofs.PlaceLemmas.{ready_next}
+use Rattle.log_check.proofs.PlaceLemmas.{names_next, ready_next}
 use Rattle.log_check.proofs.judged.Judged.judge.Goals as goal
 
 pub returns-then-is_some-clause-judged : goal.returns-then-is_some-clause-judged
@@ -28,4 +28,5 @@ returns-in_default-clause-sound c = record {
   bounds = c.requires.bounds;
   room = c.take_line-judged.ensures.kept;
   ready = ready_next c.args.network.now c.args.line.text.now c.args.line.ended c.args.self.now.progress c.take_line-judged.new.progress c.requires.ready c.in_default.ensures.taken;
+  names = names_next c.args.network.now c.args.line.text.now c.args.line.ended c.args.self.now.progress c.take_line-judged.new.progress c.requires.names c.in_default.ensures.taken;
 }

@@ -12,8 +12,8 @@ returns-in-Cost-clause-ends c = λ node rest is.
 
 pub returns-in-Pivot-clause-ends : goal.returns-in-Pivot-clause-ends
 returns-in-Pivot-clause-ends c = λ node rest is. elim c.in-Pivot.is [
-  | inl pivot ↦ closed_by_pivot c.args.network.now node rest c.args.leaf.now pivot.0 c.args.self.now _ pivot.1 (c.pop.ensures node rest is) refl refl refl
-  | inr cut ↦ closed_by_cut c.args.network.now node rest c.args.leaf.now cut.0 c.args.self.now _ cut.1 (c.pop.ensures node rest is) refl refl refl
+  | inl pivot ↦ closed_by_pivot c.args.network.now node rest c.args.leaf.now pivot.0 c.args.self.now _ pivot.1 (c.pop.ensures node rest is) refl refl refl refl refl
+  | inr cut ↦ closed_by_cut c.args.network.now node rest c.args.leaf.now cut.0 c.args.self.now _ cut.1 (c.pop.ensures node rest is) refl refl refl refl refl
 ]
 
 pub close_at_dual-requires-clause-allowed : goal.close_at_dual-requires-clause-allowed

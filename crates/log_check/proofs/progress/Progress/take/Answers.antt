@@ -29,11 +29,11 @@ split-requires-clause-candidate c =
 
 pub returns-in-Split-clause-taken : goal.returns-in-Split-clause-taken
 returns-in-Split-clause-taken c = λ node rest is.
-    split_taken c.args.network.now node rest c.args.line.now c.in-Split.candidate c.args.self.now _ c.in-Split.is (c.split.ensures node rest is) refl (c.count_line.ensures ∙ ap (λ (k : LineKind). counts_with c.args.self.now.counts (k ∷ [])) c.kind.ensures) refl
+    split_taken c.args.network.now node rest c.args.line.now c.in-Split.candidate c.args.self.now _ c.in-Split.is (c.split.ensures node rest is) refl (c.count_line.ensures ∙ ap (λ (k : LineKind). counts_with c.args.self.now.counts (k ∷ [])) c.kind.ensures) refl refl refl
 
 pub returns-in-Leaf-clause-taken : goal.returns-in-Leaf-clause-taken
 returns-in-Leaf-clause-taken c = λ node rest is.
-    leaf_taken c.args.network.now node rest c.args.line.now c.in-Leaf.leaf c.args.self.now _ _ c.in-Leaf.is refl refl (c.count_line.ensures ∙ ap (λ (k : LineKind). counts_with c.args.self.now.counts (k ∷ [])) c.kind.ensures) refl (c.close.ensures.ends node rest is)
+    leaf_taken c.args.network.now node rest c.args.line.now c.in-Leaf.leaf c.args.self.now _ _ c.in-Leaf.is refl refl (c.count_line.ensures ∙ ap (λ (k : LineKind). counts_with c.args.self.now.counts (k ∷ [])) c.kind.ensures) refl refl refl (c.close.ensures.ends node rest is)
 
 pub close-requires-clause-allowed : goal.close-requires-clause-allowed
 close-requires-clause-allowed c = λ node rest is.
