@@ -4,6 +4,7 @@ use crate::pieces::{SIZES, in_pieces};
 use crate::replays::{fault, replayed};
 use geo_model::Counts;
 use log_check::{Bound, LogKind, ReplayAnswer, Replayed};
+use std::alloc::Global;
 use std::test::Fail;
 use test_networks::{
     CLOSER_LEVEL, CaseTables, ONE_DEAR_LEVEL, TOO_REDUNDANT, TWO_LEVELS, network_of,
