@@ -13,7 +13,7 @@ use Rattle.bound_log.specs.declared.log_line.LogLine.TheVariants.{Leaf}
 use Rattle.bound_log.specs.declared.named_line.NamedLine.{NamedLine}
 use Rattle.bound_log.specs.declared.named_line.NamedLine.TheVariants.{Named}
 use Rattle.bound_log.specs.CutText.{CutTextOf}
-use Rattle.bound_log.specs.Formats.{HasShortNumbers, LineIn, texts_in}
+use Rattle.bound_log.specs.Formats.{IsShortLine, LineIn, texts_in}
 use Rattle.bound_log.specs.LogText.{head_text, lines_text, log_text}
 use Rattle.bound_log.specs.LogTree.{root_of, IsAllowed, IsLog, bound_at, HasBound}
 use Rattle.bound_log.specs.Meanings.{Meaning, cuts_named, is_cut_in_range, joined_nodes, lacking, meaning_in, named_in, names_last, nodes_in, nodes_of, standing}
@@ -107,7 +107,7 @@ first_spelled text cuts tree spells =
       sym spells.named ∙ cuts_named-first spells.lines,
     )
 
-pub spells_first : (text : List ℕ) (tree : Tree) → All (HasShortNumbers First) (tree_lines tree) → text ≡ log_text tree → SpellsIn First text [] tree
+pub spells_first : (text : List ℕ) (tree : Tree) → All (IsShortLine First) (tree_lines tree) → text ≡ log_text tree → SpellsIn First text [] tree
 spells_first text tree small is = record {
   lines = tree_lines tree;
   begins = record { spelled = is ∙ ap (λ (t : List ℕ). head_text ++ t) (sym (append-nil (lines_text (tree_lines tree)))); numbers = small };
@@ -135,7 +135,7 @@ pub cost_log : (network : NetworkOf) → IsLog network (log_text (tip Cost)) (ti
 cost_log network = record {
   format = First;
   cuts = [];
-  spells = spells_first (log_text (tip Cost)) (tip Cost) (All-cons (HasShortNumbers First) (Leaf Cost) [] tt (All-nil (HasShortNumbers First))) refl;
+  spells = spells_first (log_text (tip Cost)) (tip Cost) (All-cons (IsShortLine First) (Leaf Cost) [] tt (All-nil (IsShortLine First))) refl;
   named = record { few = omega arith; each = All-nil (λ (cut : CutTextOf). is_cut_in_range network cut ≡ true) };
   allowed = cost_allowed network (root_of network);
 }

@@ -11,7 +11,7 @@ use Rattle.geo_model.specs.declared.plan.Node.{Node}
 use Rattle.cut_pool.specs.declared.share.Share.{Share}
 use Rattle.bound_log.specs.CutText.{CutTextOf}
 use Rattle.bound_log.specs.LogTree.{IsBrokenBy, IsDualLineAt}
-use Rattle.bound_log.specs.Meanings.{Meaning, cut_at, found_share, found_use, is_cut_in_range, is_named, lacking, may_name, named_meaning, naming, rules_of, share_used, standing}
+use Rattle.bound_log.specs.Meanings.{Meaning, cut_named, found_share, found_use, is_cut_in_range, is_named, lacking, may_name, named_meaning, naming, meaning_rules, share_used, standing}
 use Rattle.bound_log.specs.NamedText.{IsNamedLine, named_body}
 use Rattle.bound_log.specs.Numbers.{AreShort}
 use Rattle.bound_log.specs.Rules.{IsAllowedLine, first_unkept}
@@ -38,11 +38,11 @@ no_cut = record { limit = 0; pairs = [] }
 
 pub use_means : (cuts : List CutTextOf) (number : ℕ) (cut : CutTextOf) → slice_get cuts number ≡ Some cut → named_meaning cuts (UseCut number) ≡ standing (Leaf (Cut cut))
 use_means cuts number cut named =
-    picked (is_named cuts number) (standing (Leaf (Cut (cut_at cuts number)))) lacking (lt-ltb number (length cuts) (slice_get_within cuts number cut named))
+    picked (is_named cuts number) (standing (Leaf (Cut (cut_named cuts number)))) lacking (lt-ltb number (length cuts) (slice_get_within cuts number cut named))
     ∙ ap (λ (c : CutTextOf). standing (Leaf (Cut c))) (get_or_from_slice_get cuts number cut no_cut named)
 
 pub use_lacks : (cuts : List CutTextOf) (number : ℕ) → length cuts ≤ number → named_meaning cuts (UseCut number) ≡ lacking
-use_lacks cuts number high = passed_over (is_named cuts number) (standing (Leaf (Cut (cut_at cuts number)))) lacking (le-ltb number (length cuts) high)
+use_lacks cuts number high = passed_over (is_named cuts number) (standing (Leaf (Cut (cut_named cuts number)))) lacking (le-ltb number (length cuts) high)
 
 -- .. and those of the uses of a dual bound
 abbrev used : List CutTextOf → ℕ × ℕ → Bool
@@ -116,7 +116,7 @@ dual_lacks cuts divisor uses other = elim (cases_Bool (list_all (used cuts) uses
 -- ---- what is allowed
 
 abbrev pub IsUnbroken : NetworkOf → List CutTextOf → Node → Meaning → Type 0
-IsUnbroken network cuts node meaning = first_unkept (rules_of network cuts node meaning) ≡ None
+IsUnbroken network cuts node meaning = first_unkept (meaning_rules network cuts node meaning) ≡ None
 
 name_kept : (network : NetworkOf) (cuts : List CutTextOf) (node : Node) (cut : CutTextOf) (kept : Bool) → may_name network cuts cut ≡ kept → IsUnbroken network cuts node (naming cut) → kept ≡ true
 name_kept network cuts node cut true is none = refl
@@ -147,14 +147,14 @@ where_stands : (network : NetworkOf) (cuts : List CutTextOf) (node : Node) (b : 
 where_stands network cuts node b line passes allowed =
     subst (λ (m : Meaning). IsUnbroken network cuts node m) (sym (picked b (standing line) lacking passes)) allowed
 
-pub use_rules : (network : NetworkOf) (cuts : List CutTextOf) (node : Node) (number : ℕ) → IsUnbroken network cuts node (named_meaning cuts (UseCut number)) → (number < length cuts) × IsBrokenBy network node (cut_at cuts number)
+pub use_rules : (network : NetworkOf) (cuts : List CutTextOf) (node : Node) (number : ℕ) → IsUnbroken network cuts node (named_meaning cuts (UseCut number)) → (number < length cuts) × IsBrokenBy network node (cut_named cuts number)
 use_rules network cuts node number none =
-    let both = stands_where network cuts node (is_named cuts number) (Leaf (Cut (cut_at cuts number))) none in
-    (ltb-true number (length cuts) both.passes, cut_broken network node (cut_at cuts number) both.allowed)
+    let both = stands_where network cuts node (is_named cuts number) (Leaf (Cut (cut_named cuts number))) none in
+    (ltb-true number (length cuts) both.passes, cut_broken network node (cut_named cuts number) both.allowed)
 
-pub use_allowed : (network : NetworkOf) (cuts : List CutTextOf) (node : Node) (number : ℕ) → number < length cuts → IsBrokenBy network node (cut_at cuts number) → IsUnbroken network cuts node (named_meaning cuts (UseCut number))
+pub use_allowed : (network : NetworkOf) (cuts : List CutTextOf) (node : Node) (number : ℕ) → number < length cuts → IsBrokenBy network node (cut_named cuts number) → IsUnbroken network cuts node (named_meaning cuts (UseCut number))
 use_allowed network cuts node number few broken =
-    where_stands network cuts node (is_named cuts number) (Leaf (Cut (cut_at cuts number))) (lt-ltb number (length cuts) few) (cut_allowed network node (cut_at cuts number) broken)
+    where_stands network cuts node (is_named cuts number) (Leaf (Cut (cut_named cuts number))) (lt-ltb number (length cuts) few) (cut_allowed network node (cut_named cuts number) broken)
 
 pub dual_rules : (network : NetworkOf) (cuts : List CutTextOf) (node : Node) (divisor : ℕ) (uses : List (ℕ × ℕ)) → IsUnbroken network cuts node (named_meaning cuts (UseDual divisor uses)) →
     All (IsUsed cuts) uses × IsDualLineAt network node divisor (map (share_used cuts) uses)

@@ -41,8 +41,8 @@ numbers_in First line = numbers_of line
 numbers_in Second line = named_numbers line
 
 -- each number of a line has at most 19 digits
-abbrev pub HasShortNumbers : (format : LogFormat) → LineIn format → Type 0
-HasShortNumbers format line = AreShort (numbers_in format line)
+abbrev pub IsShortLine : (format : LogFormat) → LineIn format → Type 0
+IsShortLine format line = AreShort (numbers_in format line)
 
 -- the text, without LF, is that of the line of the format's grammar
 abbrev pub IsLineIn : (format : LogFormat) → List ℕ → LineIn format → Type 0
@@ -56,9 +56,9 @@ text_line_in format line = record { text = body_in format line; ended = true }
 -- a text begins with the first line of a log of the format and these lines of its grammar, and this is left of it
 pub record BeginsIn (format : LogFormat) (text : List ℕ) (lines : List (LineIn format)) (left : List ℕ) : Type 0 where
   pub spelled : text ≡ head_text_in format ++ (texts_in format lines ++ left)
-  pub numbers : All (HasShortNumbers format) lines
+  pub numbers : All (IsShortLine format) lines
 
 -- what is left of a text begins with a line of the format's grammar with its LF, and this is left after it
 pub record NextIn (format : LogFormat) (text : List ℕ) (line : LineIn format) (left : List ℕ) : Type 0 where
   pub spelled : text ≡ text_in format line ++ left
-  pub numbers : HasShortNumbers format line
+  pub numbers : IsShortLine format line

@@ -18,8 +18,8 @@ use Rattle.bound_log.specs.Rules.{LineRule, is_displacement, line_rules}
 -- ---- a line where cuts are named
 
 -- the cut of a number, where these are named, one after another from 0 on
-abbrev pub cut_at : List CutTextOf → ℕ → CutTextOf
-cut_at cuts number = get_or cuts number (record { limit = 0; pairs = [] })
+abbrev pub cut_named : List CutTextOf → ℕ → CutTextOf
+cut_named cuts number = get_or cuts number (record { limit = 0; pairs = [] })
 
 -- the number is that of a cut that is named
 abbrev pub is_named : List CutTextOf → ℕ → Bool
@@ -27,7 +27,7 @@ is_named cuts number = ltb number (length cuts)
 
 -- the share that a use of a cut stands for
 abbrev pub share_used : List CutTextOf → ℕ × ℕ → ℕ × CutTextOf
-share_used cuts one = (one.0, cut_at cuts one.1)
+share_used cuts one = (one.0, cut_named cuts one.1)
 
 -- a use with its cut, where that is named; and a share with its cut
 abbrev pub found_use : List CutTextOf → ℕ × ℕ → ℕ × Option CutTextOf
@@ -49,7 +49,7 @@ named_meaning cuts Cost = standing (log_line.Leaf log_leaf.Cost)
 named_meaning cuts (Pivot limit) = standing (log_line.Leaf (log_leaf.Pivot limit))
 named_meaning cuts (Named cut) = naming cut
 named_meaning cuts (UseCut number) =
-    if is_named cuts number then standing (log_line.Leaf (log_leaf.Cut (cut_at cuts number))) else lacking
+    if is_named cuts number then standing (log_line.Leaf (log_leaf.Cut (cut_named cuts number))) else lacking
 named_meaning cuts (UseDual divisor uses) =
     if list_all (λ one. is_named cuts one.1) uses
     then standing (log_line.Leaf (log_leaf.Dual divisor (map (share_used cuts) uses))) else lacking
@@ -111,10 +111,10 @@ abbrev pub may_name : NetworkOf → List CutTextOf → CutTextOf → Bool
 may_name network cuts cut = ltb (length cuts) 65536 && is_cut_in_range network cut
 
 -- the rules of a line at a node: a name and a line of the tree each have their own, and a cut that is used is to be named
-abbrev pub rules_of : NetworkOf → List CutTextOf → Node → Meaning → List LineRule
-rules_of network cuts node (naming cut) = record { kept = may_name network cuts cut; kind = Range } ∷ []
-rules_of network cuts node (standing line) = line_rules network node line
-rules_of network cuts node lacking = record { kept = false; kind = Range } ∷ []
+abbrev pub meaning_rules : NetworkOf → List CutTextOf → Node → Meaning → List LineRule
+meaning_rules network cuts node (naming cut) = record { kept = may_name network cuts cut; kind = Range } ∷ []
+meaning_rules network cuts node (standing line) = line_rules network node line
+meaning_rules network cuts node lacking = record { kept = false; kind = Range } ∷ []
 
 -- the cuts that a log of the network names: at most 65536, with their numbers in their ranges
 pub record AreNames (network : NetworkOf) (cuts : List CutTextOf) : Type 0 where

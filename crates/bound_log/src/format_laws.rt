@@ -8,10 +8,10 @@ ghost use Rattle.cut_pool.specs.Cut.{CutOf};
 ghost use Rattle.cut_pool.specs.declared.share.Share.{Share as ShareOf};
 ghost use Rattle.lent_parts.specs.Pieces.{lines_of};
 ghost use Rattle.bound_log.specs.CutText.{CutTextOf, text_of_cut};
-ghost use Rattle.bound_log.specs.Formats.{HasShortNumbers, LineIn, text_line_in, texts_in};
+ghost use Rattle.bound_log.specs.Formats.{IsShortLine, LineIn, text_line_in, texts_in};
 ghost use Rattle.bound_log.specs.LogText.{line_end, log_text};
 ghost use Rattle.bound_log.specs.LogTree.{IsBrokenBy, IsDualLineAt};
-ghost use Rattle.bound_log.specs.Meanings.{cut_at, cuts_named, found_share, found_use, is_cut_in_range, joined_nodes, lacking, meaning_in, named_meaning, nodes_in, rules_of, share_used, standing};
+ghost use Rattle.bound_log.specs.Meanings.{cut_named, cuts_named, found_share, found_use, is_cut_in_range, joined_nodes, lacking, meaning_in, named_meaning, nodes_in, meaning_rules, share_used, standing};
 ghost use Rattle.bound_log.specs.NamedText.{IsNamedLine, named_body, named_numbers, named_text};
 ghost use Rattle.bound_log.specs.Numbers.{AreShort};
 ghost use Rattle.bound_log.specs.Rules.{first_unkept};
@@ -36,7 +36,7 @@ pub fn a_text_is_one_named_line()
 pub fn named_lines_are_read()
     ensures ended { (line : NamedOf) → named_text line ≡ named_body line ++ line_end }
     ensures read { (line : NamedOf) → AreShort (named_numbers line) → IsNamedLine (named_body line) line }
-    ensures cut { (lines : List NamedOf) → All (HasShortNumbers log_format.Second) lines → lines_of (texts_in log_format.Second lines) ≡ map (text_line_in log_format.Second) lines }
+    ensures cut { (lines : List NamedOf) → All (IsShortLine log_format.Second) lines → lines_of (texts_in log_format.Second lines) ≡ map (text_line_in log_format.Second) lines }
 {}
 
 /// What `put_named`, `put_use` and `put_dual2` append is read back as the same line.
@@ -84,11 +84,11 @@ pub fn lines_stand_one_after_another()
 /// wants of a line that spells these cuts.
 pub fn named_lines_are_allowed_by_their_kinds()
     ensures name { (network : NetworkOf) (node : Node) (cuts : List CutTextOf) (cut : CutTextOf)
-        → (first_unkept (rules_of network cuts node (named_meaning cuts (named_line.Named cut))) ≡ None) ↔ ((length cuts < 65536) × (is_cut_in_range network cut ≡ true)) }
+        → (first_unkept (meaning_rules network cuts node (named_meaning cuts (named_line.Named cut))) ≡ None) ↔ ((length cuts < 65536) × (is_cut_in_range network cut ≡ true)) }
     ensures cut { (network : NetworkOf) (node : Node) (cuts : List CutTextOf) (number : ℕ)
-        → (first_unkept (rules_of network cuts node (named_meaning cuts (named_line.UseCut number))) ≡ None) ↔ ((number < length cuts) × IsBrokenBy network node (cut_at cuts number)) }
+        → (first_unkept (meaning_rules network cuts node (named_meaning cuts (named_line.UseCut number))) ≡ None) ↔ ((number < length cuts) × IsBrokenBy network node (cut_named cuts number)) }
     ensures dual { (network : NetworkOf) (node : Node) (cuts : List CutTextOf) (divisor : ℕ) (uses : List (ℕ × ℕ))
-        → (first_unkept (rules_of network cuts node (named_meaning cuts (named_line.UseDual divisor uses))) ≡ None) ↔ (All (λ one. one.1 < length cuts) uses × IsDualLineAt network node divisor (map (share_used cuts) uses)) }
+        → (first_unkept (meaning_rules network cuts node (named_meaning cuts (named_line.UseDual divisor uses))) ≡ None) ↔ (All (λ one. one.1 < length cuts) uses × IsDualLineAt network node divisor (map (share_used cuts) uses)) }
 {}
 
 /// A text is of at most one format, names at most one list of cuts, and spells at most one tree.
@@ -100,6 +100,6 @@ pub fn a_text_spells_one_tree()
 /// In format 1 one text spells a tree whose numbers have at most 19 digits: the first line of a log
 /// and the lines of the tree. It names no cut.
 pub fn a_tree_has_one_first_text()
-    ensures { (text : List ℕ) (cuts : List CutTextOf) (tree : Tree) → All (HasShortNumbers log_format.First) (tree_lines tree)
+    ensures { (text : List ℕ) (cuts : List CutTextOf) (tree : Tree) → All (IsShortLine log_format.First) (tree_lines tree)
         → SpellsIn log_format.First text cuts tree ↔ ((text ≡ log_text tree) × (cuts ≡ [])) }
 {}

@@ -10,9 +10,9 @@ use Rattle.bound_log.specs.declared.log_format.LogFormat.TheVariants.{First, Sec
 use Rattle.bound_log.specs.declared.log_kind.LogKind.{LogKind}
 use Rattle.bound_log.specs.declared.log_kind.LogKind.TheVariants.{Extra, Form, Short}
 use Rattle.bound_log.specs.CutText.{CutTextOf}
-use Rattle.bound_log.specs.Formats.{BeginsIn, HasShortNumbers, IsLineIn, LineIn, head_body_in}
+use Rattle.bound_log.specs.Formats.{BeginsIn, IsShortLine, IsLineIn, LineIn, head_body_in}
 use Rattle.bound_log.specs.LogTree.{root_of, IsLog}
-use Rattle.bound_log.specs.Meanings.{Meaning, cuts_named, meaning_in, named_in, rules_of}
+use Rattle.bound_log.specs.Meanings.{Meaning, cuts_named, meaning_in, named_in, meaning_rules}
 use Rattle.bound_log.specs.Rules.{first_unkept}
 use Rattle.bound_log.specs.Tree.{Tree}
 use Rattle.bound_log.proofs.Decisions.{Decided, line_or_none_in, same_text}
@@ -47,9 +47,9 @@ some_node node rest same = absurd (cc)
 
 -- what a line says keeps all rules, or breaks one first
 keeps_or_breaks : (network : NetworkOf) (cuts : List CutTextOf) (node : Node) (said : Meaning) → KeepsRules network cuts node said ⊎ ((kind : LogKind) × BreaksFirst network cuts node said kind)
-keeps_or_breaks network cuts node said = by_rule (first_unkept (rules_of network cuts node said)) refl
+keeps_or_breaks network cuts node said = by_rule (first_unkept (meaning_rules network cuts node said)) refl
   where
-    by_rule : (found : Option LogKind) → first_unkept (rules_of network cuts node said) ≡ found → KeepsRules network cuts node said ⊎ ((kind : LogKind) × BreaksFirst network cuts node said kind)
+    by_rule : (found : Option LogKind) → first_unkept (meaning_rules network cuts node said) ≡ found → KeepsRules network cuts node said ⊎ ((kind : LogKind) × BreaksFirst network cuts node said kind)
     by_rule None is = inl is
     by_rule (Some kind) is = inr (kind, is)
 
@@ -160,6 +160,6 @@ pub has_verdict : (network : NetworkOf) (text : List ℕ) → HasVerdict network
 has_verdict network text = elim (headed (lines_of text)) [
   | inl is ↦
       let next = next_line text (head_line is.format) is.more is.is in
-      from_here network is.format text is.more [] next.left (root_of network ∷ []) next.walked refl (record { spelled = next.spelled; numbers = All-nil (HasShortNumbers is.format) })
+      from_here network is.format text is.more [] next.left (root_of network ∷ []) next.walked refl (record { spelled = next.spelled; numbers = All-nil (IsShortLine is.format) })
   | inr other ↦ inr (record { line = 1; kind = Form }, fault_headless network text (λ format rest is. other (record { format = format; more = rest; is = is })))
 ]

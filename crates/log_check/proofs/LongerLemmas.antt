@@ -10,7 +10,7 @@ use Rattle.geo_model.specs.Network.{NetworkOf}
 use Rattle.bound_log.specs.declared.log_format.LogFormat.{LogFormat}
 use Rattle.bound_log.specs.declared.log_format.LogFormat.TheVariants.{First, Second}
 use Rattle.bound_log.specs.declared.log_kind.LogKind.{LogKind}
-use Rattle.bound_log.specs.Formats.{BeginsIn, HasShortNumbers, LineIn, NextIn, body_in, head_body_in, head_text_in, text_in, text_line_in, texts_in}
+use Rattle.bound_log.specs.Formats.{BeginsIn, IsShortLine, LineIn, NextIn, body_in, head_body_in, head_text_in, text_in, text_line_in, texts_in}
 use Rattle.bound_log.specs.LogText.{line_end}
 use Rattle.bound_log.proofs.FormatLemmas.{begins_more_in, lines_of-text_in}
 use Rattle.bound_log.proofs.GrammarLemmas.{line_body-no_feed}
@@ -38,23 +38,23 @@ feeds-none (x ∷ xs) lacks =
     let rest : feeds xs ≡ 0 = feeds-none xs (All-tail NoFeed x xs lacks) in
     sum_by-cons (λ c. cond {A = ℕ} (is_line_feed c) 1 0) x xs ∙ ap (λ (n : ℕ). n + feeds xs) one ∙ zero-add (feeds xs) ∙ rest
 
-body_lacks : (format : LogFormat) (line : LineIn format) → HasShortNumbers format line → All NoFeed (body_in format line)
+body_lacks : (format : LogFormat) (line : LineIn format) → IsShortLine format line → All NoFeed (body_in format line)
 body_lacks First line small = line_body-no_feed line small
 body_lacks Second line small = named_body-no_feed line small
 
-feeds-line : (format : LogFormat) (line : LineIn format) → HasShortNumbers format line → feeds (text_in format line) ≡ 1
+feeds-line : (format : LogFormat) (line : LineIn format) → IsShortLine format line → feeds (text_in format line) ≡ 1
 feeds-line format line small =
     let both : feeds (text_in format line) ≡ feeds (body_in format line) + feeds line_end = feeds-append (body_in format line) line_end in
     let none : feeds (body_in format line) ≡ 0 = feeds-none (body_in format line) (body_lacks format line small) in
     both ∙ ap (λ n. n + 1) none
 
 -- each line has one
-pub feeds-lines : (format : LogFormat) (lines : List (LineIn format)) → All (HasShortNumbers format) lines → feeds (texts_in format lines) ≡ length lines
+pub feeds-lines : (format : LogFormat) (lines : List (LineIn format)) → All (IsShortLine format) lines → feeds (texts_in format lines) ≡ length lines
 feeds-lines format [] small = refl
 feeds-lines format (line ∷ lines) small =
     let both : feeds (text_in format line ++ texts_in format lines) ≡ feeds (text_in format line) + feeds (texts_in format lines) = feeds-append (text_in format line) (texts_in format lines) in
-    let one : feeds (text_in format line) ≡ 1 = feeds-line format line (All-head (HasShortNumbers format) line lines small) in
-    let more : feeds (texts_in format lines) ≡ length lines = feeds-lines format lines (All-tail (HasShortNumbers format) line lines small) in
+    let one : feeds (text_in format line) ≡ 1 = feeds-line format line (All-head (IsShortLine format) line lines small) in
+    let more : feeds (texts_in format lines) ≡ length lines = feeds-lines format lines (All-tail (IsShortLine format) line lines small) in
     both ∙ omega arith
 
 -- the first line has one

@@ -8,14 +8,14 @@ use Rattle.whole_algebra.specs.Matrices.{at}
 use Rattle.geo_model.specs.Network.{NetworkOf}
 use Rattle.geo_model.specs.Row.{IsNarrow}
 use Rattle.bound_log.specs.CutText.{CutTextOf, displaced_by, moves_from}
-use Rattle.bound_log.specs.Meanings.{AreNames, naming, cut_at, is_cut_in_range, may_name}
+use Rattle.bound_log.specs.Meanings.{AreNames, naming, cut_named, is_cut_in_range, may_name}
 use Rattle.bound_log.specs.Rules.{first_unkept, is_displacement, is_move, are_moves}
 use Rattle.bound_log.specs.declared.log_kind.LogKind.TheVariants.{Range}
 use Rattle.geo_model.specs.declared.plan.Node.{Node}
 use Rattle.log_check.specs.FirstFault.{BreaksFirst, KeepsRules}
 use Rattle.bound_log.proofs.MoveLemmas.{displaced-moves}
 use Rattle.log_check.specs.declared.named_cuts.StoredCut.{StoredCut}
-use Rattle.log_check.specs.Naming.{AreStored, IsStored, text_of_stored}
+use Rattle.log_check.specs.Naming.{AreNamesKept, IsStored, text_of_stored}
 use Rattle.log_check.proofs.MoveLemmas.{and_left, and_right, before_moves, moves_one, place_of, size_of}
 
 -- ---- pairs are told by their displacement
@@ -95,7 +95,7 @@ added_spells cuts one cut is = map-append text_of_stored cuts (one ∷ []) ∙ a
 pub kept_narrow : (x moves : List ℤ) → IsNarrow (at x) → ((i : ℕ) → at moves i ≡ at x i) → IsNarrow (at moves)
 kept_narrow x moves narrow same i = subst (λ (z : ℤ). unsigned_abs z ≤ 2 ^ 15) (sym (same i)) (narrow i)
 
-pub stored_more : (room more : ℕ) (cuts : List StoredCut) (one : StoredCut) → AreStored room cuts → room ≤ more → length cuts < 65536 → IsStored one → AreStored more (cuts ++ one ∷ [])
+pub stored_more : (room more : ℕ) (cuts : List StoredCut) (one : StoredCut) → AreNamesKept room cuts → room ≤ more → length cuts < 65536 → IsStored one → AreNamesKept more (cuts ++ one ∷ [])
 stored_more room more cuts one are grown few is = record {
   room = omega (arith, are.room, grown);
   few = omega (arith, few, length-append cuts (one ∷ []));
@@ -108,7 +108,7 @@ abbrev no_text : CutTextOf
 no_text = record { limit = 0; pairs = [] }
 
 -- the cut of a number is what is kept at its place
-pub text_at : (cuts : List StoredCut) (named : List CutTextOf) (number : ℕ) (one : StoredCut) → map text_of_stored cuts ≡ named → number < length cuts → one ≡ get_or cuts number one → text_of_stored one ≡ cut_at named number
+pub text_at : (cuts : List StoredCut) (named : List CutTextOf) (number : ℕ) (one : StoredCut) → map text_of_stored cuts ≡ named → number < length cuts → one ≡ get_or cuts number one → text_of_stored one ≡ cut_named named number
 text_at cuts named number one view inside is =
     sym (ap (λ (l : List CutTextOf). get_or l number no_text) (sym view)
     ∙ get_or-mapped cuts number one inside
@@ -145,10 +145,10 @@ pub record CutInRange (network : NetworkOf) (cut : CutTextOf) : Type 0 where
   pub within : cut.limit < length network.limits
   pub displacement : is_displacement (length network.unknowns) cut.pairs ≡ true
 
-pub in_range_at : (network : NetworkOf) (cuts : List CutTextOf) (number : ℕ) → AreNames network cuts → number < length cuts → CutInRange network (cut_at cuts number)
+pub in_range_at : (network : NetworkOf) (cuts : List CutTextOf) (number : ℕ) → AreNames network cuts → number < length cuts → CutInRange network (cut_named cuts number)
 in_range_at network cuts number names inside =
-    let is : is_cut_in_range network (cut_at cuts number) ≡ true = All-get_or (λ cut. is_cut_in_range network cut ≡ true) cuts number no_text inside names.each in
-    let cut : CutTextOf = cut_at cuts number in
+    let is : is_cut_in_range network (cut_named cuts number) ≡ true = All-get_or (λ cut. is_cut_in_range network cut ≡ true) cuts number no_text inside names.each in
+    let cut : CutTextOf = cut_named cuts number in
     record {
       within = ltb-true cut.limit (length network.limits) (and_left (ltb cut.limit (length network.limits)) (is_displacement (length network.unknowns) cut.pairs) is);
       displacement = and_right (ltb cut.limit (length network.limits)) (is_displacement (length network.unknowns) cut.pairs) is;

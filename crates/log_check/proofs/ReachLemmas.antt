@@ -16,7 +16,7 @@ use Rattle.bound_log.specs.declared.log_line.LogLine.{LogLine}
 use Rattle.bound_log.specs.Bound.{lesser}
 use Rattle.bound_log.specs.Counted.{counts_of, counts_with}
 use Rattle.bound_log.specs.CutText.{CutTextOf}
-use Rattle.bound_log.specs.Formats.{BeginsIn, HasShortNumbers, IsLineIn, LineIn, NextIn, body_in, head_body_in, head_text_in, text_in, text_line_in}
+use Rattle.bound_log.specs.Formats.{BeginsIn, IsShortLine, IsLineIn, LineIn, NextIn, body_in, head_body_in, head_text_in, text_in, text_line_in}
 use Rattle.bound_log.specs.LogText.{line_end}
 use Rattle.bound_log.specs.Lines.{kind_of}
 use Rattle.bound_log.specs.LogTree.{root_of}
@@ -105,7 +105,7 @@ pub line_spelled : (format : LogFormat) (text : List ℕ) (line : LineIn format)
 line_spelled First text line is = is.spelled
 line_spelled Second text line is = is.spelled
 
-pub line_short : (format : LogFormat) (text : List ℕ) (line : LineIn format) → IsLineIn format text line → HasShortNumbers format line
+pub line_short : (format : LogFormat) (text : List ℕ) (line : LineIn format) → IsLineIn format text line → IsShortLine format line
 line_short First text line is = is.numbers
 line_short Second text line is = is.numbers
 
@@ -155,7 +155,7 @@ taken_head network front line before now taken head =
       format = format;
       formed = λ some. refl;
       lines = [];
-      front = begun (record { spelled = ap (λ (t : List ℕ). t ++ line_bytes line) none.text_none ∙ bytes ∙ sym (append-nil (head_text_in format)); numbers = All-nil (HasShortNumbers format) }) head.numbered;
+      front = begun (record { spelled = ap (λ (t : List ℕ). t ++ line_bytes line) none.text_none ∙ bytes ∙ sym (append-nil (head_text_in format)); numbers = All-nil (IsShortLine format) }) head.numbered;
       goes = leads;
       nodes = [];
       stand = refl;

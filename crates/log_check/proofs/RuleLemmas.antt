@@ -105,11 +105,11 @@ cut_rules network node cut within moving owned breaking =
     ordered (true && ((within && true) && (moving && true))) true (owned && true) true (breaking && true)
 
 -- .. at the limit that the number names
-cut_at : (network : NetworkOf) (node : Node) (cut : CutTextOf) (limit : LimitOf) → slice_get network.limits cut.limit ≡ Some limit →
+cut_named : (network : NetworkOf) (node : Node) (cut : CutTextOf) (limit : LimitOf) → slice_get network.limits cut.limit ≡ Some limit →
     first_unkept (line_rules network node (Leaf (Cut cut)))
     ≡ first_unkept (cut_rules network node cut true (is_displacement (length network.unknowns) cut.pairs) (owner_test node limit) (breaking_test network node cut limit))
 unfolding line_rules
-cut_at network node cut limit named =
+cut_named network node cut limit named =
     ap (λ b. first_unkept (ordered (true && ((b && true) && (is_displacement (length network.unknowns) cut.pairs && true))) true (is_owned network node (Leaf (Cut cut))) true (is_breaking network node (Leaf (Cut cut)))))
     (lt-ltb cut.limit (length network.limits) (slice_get_within network.limits cut.limit limit named))
     ∙ ap (λ o. first_unkept (ordered (true && (true && (is_displacement (length network.unknowns) cut.pairs && true))) true (limit_passes (owner_test node) o && true) true (limit_passes (breaking_test network node cut) o && true))) named
@@ -121,19 +121,19 @@ cut_out_of_range network node cut past =
 
 pub moves_broken : (network : NetworkOf) (node : Node) (cut : CutTextOf) (limit : LimitOf) → slice_get network.limits cut.limit ≡ Some limit → is_displacement (length network.unknowns) cut.pairs ≡ false → IsFirstBroken network node (Leaf (Cut cut)) Range
 moves_broken network node cut limit named other =
-    cut_at network node cut limit named
+    cut_named network node cut limit named
     ∙ ap (λ b. first_unkept (cut_rules network node cut true b (owner_test node limit) (breaking_test network node cut limit))) other
 
 pub cut_owner_broken : (network : NetworkOf) (node : Node) (cut : CutTextOf) (limit : LimitOf) → slice_get network.limits cut.limit ≡ Some limit → is_displacement (length network.unknowns) cut.pairs ≡ true → (IsInForce limit node.inside → ⊥) → IsFirstBroken network node (Leaf (Cut cut)) Owner
 cut_owner_broken network node cut limit named moving not_chosen =
-    cut_at network node cut limit named
+    cut_named network node cut limit named
     ∙ ap (λ b. first_unkept (cut_rules network node cut true b (owner_test node limit) (breaking_test network node cut limit))) moving
     ∙ ap (λ b. first_unkept (cut_rules network node cut true true b (breaking_test network node cut limit)))
     (not_true (chooses_if_any node.inside limit.owner) (λ is. not_chosen (owner_chosen node.inside limit.owner is)))
 
 pub cut_holds : (network : NetworkOf) (node : Node) (cut : CutTextOf) (limit : LimitOf) → slice_get network.limits cut.limit ≡ Some limit → is_displacement (length network.unknowns) cut.pairs ≡ true → IsInForce limit node.inside → (Breaks network node.upper limit (displaced_by cut.pairs) → ⊥) → IsFirstBroken network node (Leaf (Cut cut)) CutHolds
 cut_holds network node cut limit named moving chosen other =
-    cut_at network node cut limit named
+    cut_named network node cut limit named
     ∙ ap (λ b. first_unkept (cut_rules network node cut true b (owner_test node limit) (breaking_test network node cut limit))) moving
     ∙ ap (λ b. first_unkept (cut_rules network node cut true true b (breaking_test network node cut limit))) (chooses_owner node.inside limit.owner chosen)
     ∙ ap (λ b. first_unkept (cut_rules network node cut true true true b))

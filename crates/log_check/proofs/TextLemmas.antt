@@ -2,7 +2,7 @@
 use Rattle.std.proofs.Common.{◌≡◌, ℕ, List, [], ◌∷◌, ◌++◌, All, refl, ap₂, sym, ◌∙◌, append_assoc}
 use Rattle.std.proofs.lemmas.List.Elements.{All-head, All-tail}
 use Rattle.bound_log.specs.declared.log_format.LogFormat.{LogFormat}
-use Rattle.bound_log.specs.Formats.{HasShortNumbers, LineIn, NextIn, text_in, texts_in}
+use Rattle.bound_log.specs.Formats.{IsShortLine, LineIn, NextIn, text_in, texts_in}
 use Rattle.bound_log.proofs.FormatLemmas.{SameStartIn, same_start_in, some_text_in}
 
 pub one_beginning : (format : LogFormat) (text : List ℕ) (a b : LineIn format) (x y : List ℕ) → NextIn format text a x → NextIn format text b y → SameStartIn format a b x y
@@ -23,13 +23,13 @@ one_more format a b xs ys x y is (same lines texts) = same (ap₂ (λ (l : LineI
 one_more format a b xs ys x y is (further line more left lines begins) = further line more left (ap₂ (λ (l : LineIn format) (ls : List (LineIn format)). l ∷ ls) (sym is) lines) begins
 one_more format a b xs ys x y is (behind line more left lines begins) = behind line more left (ap₂ (λ (l : LineIn format) (ls : List (LineIn format)). l ∷ ls) is lines) begins
 
-pub order : (format : LogFormat) (xs ys : List (LineIn format)) (x y : List ℕ) → All (HasShortNumbers format) xs → All (HasShortNumbers format) ys → texts_in format xs ++ x ≡ texts_in format ys ++ y → Order format xs ys x y
+pub order : (format : LogFormat) (xs ys : List (LineIn format)) (x y : List ℕ) → All (IsShortLine format) xs → All (IsShortLine format) ys → texts_in format xs ++ x ≡ texts_in format ys ++ y → Order format xs ys x y
 order format [] [] x y small also is = same refl is
 order format [] (b ∷ ys) x y small also is =
-    further b ys (texts_in format ys ++ y) refl (record { spelled = is ∙ append_assoc (text_in format b) (texts_in format ys) y; numbers = All-head (HasShortNumbers format) b ys also })
+    further b ys (texts_in format ys ++ y) refl (record { spelled = is ∙ append_assoc (text_in format b) (texts_in format ys) y; numbers = All-head (IsShortLine format) b ys also })
 order format (a ∷ xs) [] x y small also is =
-    behind a xs (texts_in format xs ++ x) refl (record { spelled = sym is ∙ append_assoc (text_in format a) (texts_in format xs) x; numbers = All-head (HasShortNumbers format) a xs small })
+    behind a xs (texts_in format xs ++ x) refl (record { spelled = sym is ∙ append_assoc (text_in format a) (texts_in format xs) x; numbers = All-head (IsShortLine format) a xs small })
 order format (a ∷ xs) (b ∷ ys) x y small also is =
-    let start = same_start_in format a b (texts_in format xs ++ x) (texts_in format ys ++ y) (All-head (HasShortNumbers format) a xs small) (All-head (HasShortNumbers format) b ys also)
+    let start = same_start_in format a b (texts_in format xs ++ x) (texts_in format ys ++ y) (All-head (IsShortLine format) a xs small) (All-head (IsShortLine format) b ys also)
     (sym (append_assoc (text_in format a) (texts_in format xs) x) ∙ is ∙ append_assoc (text_in format b) (texts_in format ys) y) in
-    one_more format a b xs ys x y start.line (order format xs ys x y (All-tail (HasShortNumbers format) a xs small) (All-tail (HasShortNumbers format) b ys also) start.rest)
+    one_more format a b xs ys x y start.line (order format xs ys x y (All-tail (IsShortLine format) a xs small) (All-tail (IsShortLine format) b ys also) start.rest)

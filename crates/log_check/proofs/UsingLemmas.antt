@@ -14,7 +14,7 @@ use Rattle.bound_log.specs.declared.log_line.LogLine.TheVariants.{Leaf}
 use Rattle.bound_log.specs.declared.named_line.NamedLine.TheVariants.{UseCut, UseDual}
 use Rattle.bound_log.specs.CutText.{CutTextOf}
 use Rattle.bound_log.specs.LogTree.{IsDualLineAt, IsWeight}
-use Rattle.bound_log.specs.Meanings.{AreNames, Meaning, lacking, standing, cut_at, is_named, named_meaning, rules_of, share_used}
+use Rattle.bound_log.specs.Meanings.{AreNames, Meaning, lacking, standing, cut_named, is_named, named_meaning, meaning_rules, share_used}
 use Rattle.bound_log.specs.Rules.{are_few, first_unkept, is_in_range, is_owned, is_weight, line_rules}
 use Rattle.bound_log.proofs.AllowedLemmas.{dual_at, weight_passed}
 use Rattle.log_check.specs.Naming.{is_use_in_range}
@@ -25,11 +25,11 @@ use Rattle.log_check.proofs.ShareLemmas.{owners_are, ranges_are, shares_decide}
 
 -- ---- what a number stands for
 
-pub use_is : (cuts : List CutTextOf) (number : ℕ) → number < length cuts → named_meaning cuts (UseCut number) ≡ standing (Leaf (Cut (cut_at cuts number)))
-use_is cuts number inside = ap (λ (b : Bool). if b then standing (Leaf (Cut (cut_at cuts number))) else lacking) (lt-ltb number (length cuts) inside)
+pub use_is : (cuts : List CutTextOf) (number : ℕ) → number < length cuts → named_meaning cuts (UseCut number) ≡ standing (Leaf (Cut (cut_named cuts number)))
+use_is cuts number inside = ap (λ (b : Bool). if b then standing (Leaf (Cut (cut_named cuts number))) else lacking) (lt-ltb number (length cuts) inside)
 
 pub use_is_not : (cuts : List CutTextOf) (number : ℕ) → length cuts ≤ number → named_meaning cuts (UseCut number) ≡ lacking
-use_is_not cuts number past = ap (λ (b : Bool). if b then standing (Leaf (Cut (cut_at cuts number))) else lacking) (le-ltb number (length cuts) past)
+use_is_not cuts number past = ap (λ (b : Bool). if b then standing (Leaf (Cut (cut_named cuts number))) else lacking) (le-ltb number (length cuts) past)
 
 abbrev pub are_named : List CutTextOf → List (ℕ × ℕ) → Bool
 are_named cuts uses = list_all (λ one. is_named cuts one.1) uses
@@ -42,11 +42,11 @@ uses_are_not cuts divisor uses lacks = ap (λ (b : Bool). if b then standing (Le
 
 -- ---- the rules of a use of one cut
 
-pub use_missing : (network : NetworkOf) (cuts : List CutTextOf) (node : Node) (number : ℕ) → length cuts ≤ number → first_unkept (rules_of network cuts node (named_meaning cuts (UseCut number))) ≡ Some Range
-use_missing network cuts node number past = ap (λ (said : Meaning). first_unkept (rules_of network cuts node said)) (use_is_not cuts number past)
+pub use_missing : (network : NetworkOf) (cuts : List CutTextOf) (node : Node) (number : ℕ) → length cuts ≤ number → first_unkept (meaning_rules network cuts node (named_meaning cuts (UseCut number))) ≡ Some Range
+use_missing network cuts node number past = ap (λ (said : Meaning). first_unkept (meaning_rules network cuts node said)) (use_is_not cuts number past)
 
-pub use_rules : (network : NetworkOf) (cuts : List CutTextOf) (node : Node) (number : ℕ) → number < length cuts → first_unkept (line_rules network node (Leaf (Cut (cut_at cuts number)))) ≡ first_unkept (rules_of network cuts node (named_meaning cuts (UseCut number)))
-use_rules network cuts node number inside = ap (λ (said : Meaning). first_unkept (rules_of network cuts node said)) (sym (use_is cuts number inside))
+pub use_rules : (network : NetworkOf) (cuts : List CutTextOf) (node : Node) (number : ℕ) → number < length cuts → first_unkept (line_rules network node (Leaf (Cut (cut_named cuts number)))) ≡ first_unkept (meaning_rules network cuts node (named_meaning cuts (UseCut number)))
+use_rules network cuts node number inside = ap (λ (said : Meaning). first_unkept (meaning_rules network cuts node said)) (sym (use_is cuts number inside))
 
 -- ---- the rules of uses of several
 
@@ -79,7 +79,7 @@ uses_named cuts uses is = ranges_named cuts uses is
 -- of a cut that is named the limit and the displacement are in their ranges
 share_range : (network : NetworkOf) (cuts : List CutTextOf) (one : ℕ × ℕ) → AreNames network cuts → is_named cuts one.1 ≡ true → is_share_in_range network (share_used cuts one) ≡ is_use_in_range (length cuts) one
 share_range network cuts one names named =
-    let cut : CutTextOf = cut_at cuts one.1 in
+    let cut : CutTextOf = cut_named cuts one.1 in
     let range = in_range_at network cuts one.1 names (ltb-true one.1 (length cuts) named) in
     ap (λ b. is_weight one.0 && b) (ap₂ (λ a b. a && b) (lt-ltb cut.limit (length network.limits) range.within) range.displacement ∙ sym named)
 
@@ -105,12 +105,12 @@ range_is network cuts divisor uses names named =
 
 -- where one of these fails, the first rule that is broken is that of the ranges
 pub uses_out_of_range : (network : NetworkOf) (cuts : List CutTextOf) (node : Node) (divisor : ℕ) (uses : List (ℕ × ℕ)) → AreNames network cuts → (is_weight divisor && (are_few (length uses) && list_all (UseRange cuts) uses)) ≡ false
-    → first_unkept (rules_of network cuts node (named_meaning cuts (UseDual divisor uses))) ≡ Some Range
+    → first_unkept (meaning_rules network cuts node (named_meaning cuts (UseDual divisor uses))) ≡ Some Range
 uses_out_of_range network cuts node divisor uses names fails = elim (cases_Bool (are_named cuts uses)) [
   | inl named ↦
-      ap (λ (said : Meaning). first_unkept (rules_of network cuts node said)) (uses_are cuts divisor uses named)
+      ap (λ (said : Meaning). first_unkept (meaning_rules network cuts node said)) (uses_are cuts divisor uses named)
       ∙ dual_out_of_range network node divisor (map (share_used cuts) uses) (range_is network cuts divisor uses names named ∙ fails)
-  | inr lacks ↦ ap (λ (said : Meaning). first_unkept (rules_of network cuts node said)) (uses_are_not cuts divisor uses lacks)
+  | inr lacks ↦ ap (λ (said : Meaning). first_unkept (meaning_rules network cuts node said)) (uses_are_not cuts divisor uses lacks)
 ]
 
 pub fails_weight : (a b : Bool) → a ≡ false → (a && b) ≡ false
@@ -129,24 +129,24 @@ fails_later a b c one two three = ap (λ x. x && (b && c)) one ∙ ap (λ x. x &
 pub holds_all : (a b c : Bool) → a ≡ true → b ≡ true → c ≡ true → (a && (b && c)) ≡ true
 holds_all a b c one two three = ap (λ x. x && (b && c)) one ∙ ap (λ x. x && c) two ∙ three
 
-owners_used : (network : NetworkOf) (cuts : List CutTextOf) (node : Node) (divisor : ℕ) (uses : List (ℕ × ℕ)) → is_owned network node (Leaf (Dual divisor (map (share_used cuts) uses))) ≡ list_all (λ one. is_owned_at network node (cut_at cuts one.1).limit) uses
+owners_used : (network : NetworkOf) (cuts : List CutTextOf) (node : Node) (divisor : ℕ) (uses : List (ℕ × ℕ)) → is_owned network node (Leaf (Dual divisor (map (share_used cuts) uses))) ≡ list_all (λ one. is_owned_at network node (cut_named cuts one.1).limit) uses
 owners_used network cuts node divisor uses =
     owners_are network node divisor (map (share_used cuts) uses) ∙ list_all-map (λ (share : Share). is_owned_at network node share.1.limit) (share_used cuts) uses
 
-pub uses_not_owned : (network : NetworkOf) (cuts : List CutTextOf) (node : Node) (divisor : ℕ) (uses : List (ℕ × ℕ)) → AreNames network cuts → is_weight divisor ≡ true → are_few (length uses) ≡ true → list_all (UseRange cuts) uses ≡ true → list_all (λ one. is_owned_at network node (cut_at cuts one.1).limit) uses ≡ false
-    → first_unkept (rules_of network cuts node (named_meaning cuts (UseDual divisor uses))) ≡ Some Owner
+pub uses_not_owned : (network : NetworkOf) (cuts : List CutTextOf) (node : Node) (divisor : ℕ) (uses : List (ℕ × ℕ)) → AreNames network cuts → is_weight divisor ≡ true → are_few (length uses) ≡ true → list_all (UseRange cuts) uses ≡ true → list_all (λ one. is_owned_at network node (cut_named cuts one.1).limit) uses ≡ false
+    → first_unkept (meaning_rules network cuts node (named_meaning cuts (UseDual divisor uses))) ≡ Some Owner
 uses_not_owned network cuts node divisor uses names weight few range other =
     let named = ranges_named cuts uses range in
-    ap (λ (said : Meaning). first_unkept (rules_of network cuts node said)) (uses_are cuts divisor uses named)
+    ap (λ (said : Meaning). first_unkept (meaning_rules network cuts node said)) (uses_are cuts divisor uses named)
     ∙ dual_owner_broken network node divisor (map (share_used cuts) uses)
     (range_is network cuts divisor uses names named ∙ holds_all (is_weight divisor) (are_few (length uses)) (list_all (UseRange cuts) uses) weight few range)
     (owners_used network cuts node divisor uses ∙ other)
 
-pub uses_kept : (network : NetworkOf) (cuts : List CutTextOf) (node : Node) (divisor : ℕ) (uses : List (ℕ × ℕ)) → AreNames network cuts → is_weight divisor ≡ true → are_few (length uses) ≡ true → list_all (UseRange cuts) uses ≡ true → list_all (λ one. is_owned_at network node (cut_at cuts one.1).limit) uses ≡ true
-    → first_unkept (rules_of network cuts node (named_meaning cuts (UseDual divisor uses))) ≡ None
+pub uses_kept : (network : NetworkOf) (cuts : List CutTextOf) (node : Node) (divisor : ℕ) (uses : List (ℕ × ℕ)) → AreNames network cuts → is_weight divisor ≡ true → are_few (length uses) ≡ true → list_all (UseRange cuts) uses ≡ true → list_all (λ one. is_owned_at network node (cut_named cuts one.1).limit) uses ≡ true
+    → first_unkept (meaning_rules network cuts node (named_meaning cuts (UseDual divisor uses))) ≡ None
 uses_kept network cuts node divisor uses names weight few range owned =
     let named = ranges_named cuts uses range in
-    ap (λ (said : Meaning). first_unkept (rules_of network cuts node said)) (uses_are cuts divisor uses named)
+    ap (λ (said : Meaning). first_unkept (meaning_rules network cuts node said)) (uses_are cuts divisor uses named)
     ∙ dual_kept network node divisor (map (share_used cuts) uses)
     (range_is network cuts divisor uses names named ∙ holds_all (is_weight divisor) (are_few (length uses)) (list_all (UseRange cuts) uses) weight few range)
     (owners_used network cuts node divisor uses ∙ owned)
@@ -172,26 +172,26 @@ named_each cuts (one ∷ uses) named =
     second true b is = is
     second false b is = absurd (false≢true is)
 
-pub keeping_uses : (network : NetworkOf) (cuts : List CutTextOf) (node : Node) (divisor : ℕ) (uses : List (ℕ × ℕ)) → first_unkept (rules_of network cuts node (named_meaning cuts (UseDual divisor uses))) ≡ None → UsesKeep network cuts node divisor uses
+pub keeping_uses : (network : NetworkOf) (cuts : List CutTextOf) (node : Node) (divisor : ℕ) (uses : List (ℕ × ℕ)) → first_unkept (meaning_rules network cuts node (named_meaning cuts (UseDual divisor uses))) ≡ None → UsesKeep network cuts node divisor uses
 keeping_uses network cuts node divisor uses keeps = elim (cases_Bool (are_named cuts uses)) [
   | inl named ↦
       let said = uses_are cuts divisor uses named in
       record {
         named = named_each cuts uses named;
         said = said;
-        dual = dual_at network node divisor (map (share_used cuts) uses) (sym (ap (λ (m : Meaning). first_unkept (rules_of network cuts node m)) said) ∙ keeps);
+        dual = dual_at network node divisor (map (share_used cuts) uses) (sym (ap (λ (m : Meaning). first_unkept (meaning_rules network cuts node m)) said) ∙ keeps);
       }
   | inr lacks ↦
-      let same : Some Range ≡ None = sym (ap (λ (m : Meaning). first_unkept (rules_of network cuts node m)) (uses_are_not cuts divisor uses lacks)) ∙ keeps in
+      let same : Some Range ≡ None = sym (ap (λ (m : Meaning). first_unkept (meaning_rules network cuts node m)) (uses_are_not cuts divisor uses lacks)) ∙ keeps in
       absurd (cc)
 ]
 
 -- .. a cut that is used is named
-pub keeping_use : (network : NetworkOf) (cuts : List CutTextOf) (node : Node) (number : ℕ) → first_unkept (rules_of network cuts node (named_meaning cuts (UseCut number))) ≡ None → named_meaning cuts (UseCut number) ≡ standing (Leaf (Cut (cut_at cuts number)))
+pub keeping_use : (network : NetworkOf) (cuts : List CutTextOf) (node : Node) (number : ℕ) → first_unkept (meaning_rules network cuts node (named_meaning cuts (UseCut number))) ≡ None → named_meaning cuts (UseCut number) ≡ standing (Leaf (Cut (cut_named cuts number)))
 keeping_use network cuts node number keeps = elim (cases_Bool (is_named cuts number)) [
-  | inl named ↦ ap (λ (b : Bool). if b then standing (Leaf (Cut (cut_at cuts number))) else lacking) named
+  | inl named ↦ ap (λ (b : Bool). if b then standing (Leaf (Cut (cut_named cuts number))) else lacking) named
   | inr lacks ↦
-      let none : named_meaning cuts (UseCut number) ≡ lacking = ap (λ (b : Bool). if b then standing (Leaf (Cut (cut_at cuts number))) else lacking) lacks in
-      let same : Some Range ≡ None = sym (ap (λ (m : Meaning). first_unkept (rules_of network cuts node m)) none) ∙ keeps in
+      let none : named_meaning cuts (UseCut number) ≡ lacking = ap (λ (b : Bool). if b then standing (Leaf (Cut (cut_named cuts number))) else lacking) lacks in
+      let same : Some Range ≡ None = sym (ap (λ (m : Meaning). first_unkept (meaning_rules network cuts node m)) none) ∙ keeps in
       absurd (cc)
 ]

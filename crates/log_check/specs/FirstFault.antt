@@ -10,7 +10,7 @@ use Rattle.bound_log.specs.declared.log_line.LogLine.{LogLine}
 use Rattle.bound_log.specs.CutText.{CutTextOf}
 use Rattle.bound_log.specs.Formats.{BeginsIn, LineIn, NextIn}
 use Rattle.bound_log.specs.LogTree.{root_of, IsAllowed}
-use Rattle.bound_log.specs.Meanings.{AreNames, Meaning, cuts_named, meaning_in, names_last, nodes_in, rules_of}
+use Rattle.bound_log.specs.Meanings.{AreNames, Meaning, cuts_named, meaning_in, names_last, nodes_in, meaning_rules}
 use Rattle.bound_log.specs.Placed.{placed}
 use Rattle.bound_log.specs.Rules.{first_unkept}
 use Rattle.bound_log.specs.Tree.{Tree, tree_lines}
@@ -52,11 +52,11 @@ pub record StandsNext (network : NetworkOf) (format : LogFormat) (lines : List (
 
 -- what a line says breaks no rule at a node, where these cuts are named
 abbrev pub KeepsRules : NetworkOf → List CutTextOf → Node → Meaning → Type 0
-KeepsRules network cuts node said = first_unkept (rules_of network cuts node said) ≡ None
+KeepsRules network cuts node said = first_unkept (meaning_rules network cuts node said) ≡ None
 
 -- .. or this kind of rule is the first that it breaks
 abbrev pub BreaksFirst : NetworkOf → List CutTextOf → Node → Meaning → LogKind → Type 0
-BreaksFirst network cuts node said kind = first_unkept (rules_of network cuts node said) ≡ Some kind
+BreaksFirst network cuts node said kind = first_unkept (meaning_rules network cuts node said) ≡ Some kind
 
 -- ---- the text after them
 

@@ -17,7 +17,7 @@ pub record IsStored (cut : StoredCut) : Type 0 where
   pub narrow : IsNarrow (at cut.moves)
 
 -- there is room for 65536 cuts, and there are no more
-pub record AreStored (places : ℕ) (cuts : List StoredCut) : Type 0 where
+pub record AreNamesKept (places : ℕ) (cuts : List StoredCut) : Type 0 where
   pub room : 65536 ≤ places
   pub few : length cuts ≤ 65536
   pub each : All IsStored cuts

@@ -5,7 +5,7 @@ ghost use Rattle.geo_model.specs.Dual.{dual_bound, reduced_price};
 ghost use Rattle.geo_model.specs.Prices.{prices_of};
 ghost use Rattle.bound_log.specs.DualText.{weighed_text};
 ghost use Rattle.bound_log.specs.LogTree.{IsDualLineAt};
-ghost use Rattle.bound_log.specs.Meanings.{AreNames, cut_at, share_used};
+ghost use Rattle.bound_log.specs.Meanings.{AreNames, cut_named, share_used};
 ghost use Rattle.log_check.specs.Groups.{AreReduced};
 ghost use Rattle.log_check.specs.LineRoom.{IsLineRoom};
 ghost use Rattle.log_check.specs.Places.{HasEntries};
@@ -81,9 +81,9 @@ fn weigh_use(
     requires multiplier { multiplier ≤ 2 ^ 44 }
     requires number { number < length cuts.now }
     requires small { (i : ℕ) → unsigned_abs (at room.old.reduced.items i) ≤ 2 ^ 75 }
-    ensures paid { result ≡ multiplier * (weighed_text network.now (multiplier, cut_at cuts.now number)).cover.bound }
+    ensures paid { result ≡ multiplier * (weighed_text network.now (multiplier, cut_named cuts.now number)).cover.bound }
     ensures paid_size { result ≤ 2 ^ 68 }
-    ensures taken { (i : ℕ) → at room.new.reduced.items i ≡ at room.old.reduced.items i -ℤ pos (multiplier * get_or (weighed_text network.now (multiplier, cut_at cuts.now number)).cover.coefficients i 0) }
+    ensures taken { (i : ℕ) → at room.new.reduced.items i ≡ at room.old.reduced.items i -ℤ pos (multiplier * get_or (weighed_text network.now (multiplier, cut_named cuts.now number)).cover.coefficients i 0) }
     ensures near { (i : ℕ) → unsigned_abs (at room.new.reduced.items i) ≤ unsigned_abs (at room.old.reduced.items i) + 2 ^ 68 }
     ensures kept { IsLineRoom network.now room.new }
 {

@@ -3,7 +3,7 @@ ghost use Rattle.std.specs.Prelude.{◌≡◌, ◌+◌, ◌<◌, ◌≤◌, ◌+
 ghost use Rattle.whole_algebra.specs.Matrices.{at};
 ghost use Rattle.geo_model.specs.Row.{IsNarrow};
 ghost use Rattle.bound_log.specs.CutText.{CutTextOf, displaced_by};
-ghost use Rattle.bound_log.specs.Meanings.{cut_at};
+ghost use Rattle.bound_log.specs.Meanings.{cut_named};
 ghost use Rattle.bound_log.specs.Rules.{is_displacement};
 
 use geo_base::NoMemory;
@@ -34,13 +34,13 @@ pub struct NamedCuts {
 impl Model for NamedCuts {
     ghost use Rattle.std.specs.Prelude.{List, map, vec_capacity};
     ghost use Rattle.bound_log.specs.CutText.{CutTextOf};
-    ghost use Rattle.log_check.specs.Naming.{AreStored, text_of_stored};
+    ghost use Rattle.log_check.specs.Naming.{AreNamesKept, text_of_stored};
 
     ghost Value = { List CutTextOf };
 
     ghost view = { λ named. map text_of_stored named.cuts.items };
 
-    ghost invariant = { λ named. AreStored (vec_capacity named.cuts) named.cuts.items };
+    ghost invariant = { λ named. AreNamesKept (vec_capacity named.cuts) named.cuts.items };
 }
 
 impl NamedCuts {
@@ -80,7 +80,7 @@ impl NamedCuts {
     /// The number of the limit of a cut.
     pub fn limit(&self, number: u64) -> u32
         requires { number < length self.now }
-        ensures { result ≡ (cut_at self.now number).limit }
+        ensures { result ≡ (cut_named self.now number).limit }
     {
         self.cuts[number as usize].limit
     }
@@ -89,8 +89,8 @@ impl NamedCuts {
     pub fn write(&self, number: u64, x: &mut Displacement)
         requires number { number < length self.now }
         requires few { length x.old ≤ 64 }
-        requires displacement { is_displacement (length x.old) (cut_at self.now number).pairs ≡ true }
-        ensures written { (i : ℕ) → displaced_by (cut_at self.now number).pairs i ≡ at x.new i }
+        requires displacement { is_displacement (length x.old) (cut_named self.now number).pairs ≡ true }
+        ensures written { (i : ℕ) → displaced_by (cut_named self.now number).pairs i ≡ at x.new i }
         ensures long { length x.new ≡ length x.old }
     {
         let cut = &self.cuts[number as usize];

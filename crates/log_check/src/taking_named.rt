@@ -76,12 +76,7 @@ fn take_named(
 }
 
 // Whether a further cut may be named. Where it may, its displacement is written.
-fn may_name(
-    network: &Network,
-    room: &mut LineRoom,
-    cuts: &NamedCuts,
-    cut: &CutText<'_>,
-) -> bool
+fn may_name(network: &Network, room: &mut LineRoom, cuts: &NamedCuts, cut: &CutText<'_>) -> bool
     requires { IsLineRoom network.now room.old }
     ensures may { result ≡ may_name network.now cuts.now cut.now }
     ensures written { result ≡ true → (i : ℕ) → displaced_by cut.now.pairs i ≡ at room.new.moves i }

@@ -1,7 +1,7 @@
 //! The rules of leaves that use cuts by their numbers.
 ghost use Rattle.std.specs.Prelude.{◌≡◌, ℕ, true, length};
 ghost use Rattle.std.specs.List.{list_all};
-ghost use Rattle.bound_log.specs.Meanings.{AreNames, cut_at, is_named, named_meaning, rules_of};
+ghost use Rattle.bound_log.specs.Meanings.{AreNames, cut_named, is_named, named_meaning, meaning_rules};
 ghost use Rattle.bound_log.specs.Rules.{first_unkept};
 ghost use Rattle.bound_log.specs.declared.named_line.NamedLine.TheVariants as named_line;
 ghost use Rattle.log_check.specs.LineRoom.{IsLineRoom};
@@ -27,7 +27,7 @@ pub fn broken_by_use(
     requires room { IsLineRoom network.now room.old }
     requires node { HasEntries (length network.now.candidates) node.now }
     requires names { AreNames network.now cuts.now }
-    ensures rule { result ≡ first_unkept (rules_of network.now cuts.now node.now (named_meaning cuts.now (named_line.UseCut number))) }
+    ensures rule { result ≡ first_unkept (meaning_rules network.now cuts.now node.now (named_meaning cuts.now (named_line.UseCut number))) }
     ensures kept { IsLineRoom network.now room.new }
 {
     // The network's bounds, for the proof.
@@ -49,7 +49,7 @@ pub fn broken_by_uses(
 ) -> Option<LogKind>
     requires node { HasEntries (length network.now.candidates) node.now }
     requires names { AreNames network.now cuts.now }
-    ensures { result ≡ first_unkept (rules_of network.now cuts.now node.now (named_meaning cuts.now (named_line.UseDual divisor uses.now))) }
+    ensures { result ≡ first_unkept (meaning_rules network.now cuts.now node.now (named_meaning cuts.now (named_line.UseDual divisor uses.now))) }
 {
     if !is_weight(divisor) {
         return Some(LogKind::Range);
@@ -83,7 +83,7 @@ fn uses_in_range(count: u64, uses: &Uses<'_>) -> bool
 fn uses_owned(network: &Network, node: &Node, cuts: &NamedCuts, uses: &Uses<'_>) -> bool
     requires node { HasEntries (length network.now.candidates) node.now }
     requires named { list_all (λ one. is_named cuts.now one.1) uses.now ≡ true }
-    ensures { result ≡ list_all (λ one. is_owned_at network.now node.now (cut_at cuts.now one.1).limit) uses.now }
+    ensures { result ≡ list_all (λ one. is_owned_at network.now node.now (cut_named cuts.now one.1).limit) uses.now }
 {
     let mut left = uses.pairs();
     'uses: while let Some((_, number)) = left.next() {

@@ -1,6 +1,6 @@
 use Rattle.std.proofs.Common.{length, sym, ◌∙◌, ap, subst}
 use Rattle.geo_model.specs.declared.plan.Node.{Node}
-use Rattle.bound_log.specs.Meanings.{Meaning, cut_at, named_meaning}
+use Rattle.bound_log.specs.Meanings.{Meaning, cut_named, named_meaning}
 use Rattle.bound_log.specs.declared.named_line.NamedLine.TheVariants.{UseCut}
 use Rattle.log_check.specs.FirstFault.{BreaksFirst, KeepsRules}
 use Rattle.log_check.specs.Places.{HasEntries}
@@ -42,5 +42,5 @@ returns-clause-taken c =
       top = top.is;
       keeps = keeps;
       does = subst (λ (m : Meaning). Does network top.first top.rest m before c.end_at_cut.new.self) (sym (keeping_use network before.cuts top.first c.args.number keeps))
-          (used_taken network top.first top.rest (cut_at before.cuts c.args.number) before _ (c.end_at_cut.ensures (cut_at before.cuts c.args.number) top.first top.rest top.is));
+          (used_taken network top.first top.rest (cut_named before.cuts c.args.number) before _ (c.end_at_cut.ensures (cut_named before.cuts c.args.number) top.first top.rest top.is));
     }

@@ -1,5 +1,5 @@
 use Rattle.std.proofs.Common.{◌≡◌, ◌<◌, ◌≤◌, length, true, arith, ap, sym, ◌∙◌, subst}
-use Rattle.bound_log.specs.Meanings.{cut_at}
+use Rattle.bound_log.specs.Meanings.{cut_named}
 use Rattle.bound_log.specs.Rules.{is_displacement}
 use Rattle.log_check.proofs.NamingLemmas.{in_range_at}
 use Rattle.log_check.proofs.UsingLemmas.{use_missing, use_rules}
@@ -14,7 +14,7 @@ pub write-requires-clause-displacement : goal.write-requires-clause-displacement
 write-requires-clause-displacement c =
     let cuts = c.args.cuts.now in
     let inside : c.args.number < length cuts = omega (arith, c.count.ensures, c.if-number-count.false) in
-    ap (λ n. is_displacement n (cut_at cuts c.args.number).pairs) c.requires.room.moves ∙ (in_range_at c.args.network.now cuts c.args.number c.requires.names inside).displacement
+    ap (λ n. is_displacement n (cut_named cuts c.args.number).pairs) c.requires.room.moves ∙ (in_range_at c.args.network.now cuts c.args.number c.requires.names inside).displacement
 
 pub broken_by_moves-requires-clause-limit : goal.broken_by_moves-requires-clause-limit
 broken_by_moves-requires-clause-limit c =
@@ -26,5 +26,5 @@ pub returns-clause-rule : goal.returns-clause-rule
 returns-clause-rule c =
     let cuts = c.args.cuts.now in
     let inside : c.args.number < length cuts = omega (arith, c.count.ensures, c.if-number-count.false) in
-    c.broken_by_moves.ensures (cut_at cuts c.args.number) (sym c.limit.ensures) (in_range_at c.args.network.now cuts c.args.number c.requires.names inside).displacement c.write.ensures.written
+    c.broken_by_moves.ensures (cut_named cuts c.args.number) (sym c.limit.ensures) (in_range_at c.args.network.now cuts c.args.number c.requires.names inside).displacement c.write.ensures.written
     ∙ use_rules c.args.network.now cuts c.args.node.now c.args.number inside

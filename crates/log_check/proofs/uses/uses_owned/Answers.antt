@@ -2,7 +2,7 @@ use Rattle.std.proofs.Common.{◌≡◌, ◌&&◌, ◌<◌, ◌∙◌, ℕ, Bool
 use Rattle.std.specs.List.{list_all}
 use Rattle.std.proofs.lemmas.Bool.{ltb-true}
 use Rattle.bound_log.specs.CutText.{CutTextOf}
-use Rattle.bound_log.specs.Meanings.{cut_at, is_named}
+use Rattle.bound_log.specs.Meanings.{cut_named, is_named}
 use Rattle.log_check.specs.Weighing.{is_owned_at}
 use Rattle.log_check.proofs.MoveLemmas.{and_left, and_right}
 use Rattle.log_check.proofs.ShareLemmas.{fails_at, holds_at}
@@ -24,7 +24,7 @@ returns-then-not-is_owned_at c =
     let network = c.args.network.now in
     let node = c.args.node.now in
     let cuts = c.args.cuts.now in
-    let test = λ (one : ℕ × ℕ). is_owned_at network node (cut_at cuts one.1).limit in
+    let test = λ (one : ℕ × ℕ). is_owned_at network node (cut_named cuts one.1).limit in
     sym (fails_at test c.args.uses.now c.next.new.self (c.in-Some.field-0-0, c.in-Some.number)
     (c.uses.invariant.passed ∙ ap (list_all test) c.in-Some.ensures.steps)
     (sym (c.if-not-is_owned_at.ensures ∙ ap (is_owned_at network node) (c.from.ensures ∙ c.limit.ensures))))
@@ -34,7 +34,7 @@ uses-preserved c =
     let network = c.args.network.now in
     let node = c.args.node.now in
     let cuts = c.args.cuts.now in
-    let test = λ (one : ℕ × ℕ). is_owned_at network node (cut_at cuts one.1).limit in
+    let test = λ (one : ℕ × ℕ). is_owned_at network node (cut_named cuts one.1).limit in
     record {
       passed = holds_at test c.args.uses.now c.next.new.self (c.in-Some.field-0-0, c.in-Some.number)
           (c.uses.invariant.passed ∙ ap (list_all test) c.in-Some.ensures.steps)
@@ -47,4 +47,4 @@ returns c =
     let network = c.args.network.now in
     let node = c.args.node.now in
     let cuts = c.args.cuts.now in
-    sym (c.uses.invariant.passed ∙ ap (list_all (λ (one : ℕ × ℕ). is_owned_at network node (cut_at cuts one.1).limit)) c.in_default.ensures.steps.0)
+    sym (c.uses.invariant.passed ∙ ap (list_all (λ (one : ℕ × ℕ). is_owned_at network node (cut_named cuts one.1).limit)) c.in_default.ensures.steps.0)
