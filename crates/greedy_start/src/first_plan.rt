@@ -1,5 +1,6 @@
 ghost use Rattle.std.specs.Prelude.{◌≡◌, Ok, None, true, length, replicate, IfOk, IfSome};
 ghost use Rattle.pivot_chain.specs.Certified.{IsCertified};
+ghost use Rattle.pivot_chain.specs.Room.{IsRoomOf};
 
 use crate::deletion::take_out_each;
 use crate::offer::dearest_first;
@@ -9,6 +10,24 @@ use geo_model::{Network, Plan};
 use pivot_chain::ChainRoom;
 use std::alloc::Global;
 
+/// The plan of all candidates, where it is certified.
+fn certified_whole(
+    alloc: Global,
+    room: &mut ChainRoom,
+    network: &Network,
+) -> Result<Option<Plan>, NoMemory>
+    requires room { IsRoomOf network.now room.old }
+    ensures certified { IfOk result (λ found. IfSome found (λ plan. IsCertified network.now plan)) }
+    ensures none { result ≡ Ok None → IsCertified network.now (replicate (length network.now.candidates) true) → ⊥ }
+    ensures room { IsRoomOf network.now room.new }
+{
+    let plan = Plan::full(alloc, network.candidates().len() as u32)?;
+    if unmet_limit(room, network, &plan, None).is_some() {
+        return Ok(None);
+    }
+    Ok(Some(plan))
+}
+
 /// A certified plan to start a search with: the plan of all candidates, of which one after the other
 /// is taken out, the dearest first, where the plan stays certified. There is none only where the plan
 /// of all candidates isn't certified. Refused for want of memory alone.
@@ -17,10 +36,9 @@ pub fn start(alloc: Global, network: &Network) -> Result<Option<Plan>, NoMemory>
     ensures none { result ≡ Ok None → IsCertified network.now (replicate (length network.now.candidates) true) → ⊥ }
 {
     let mut room = ChainRoom::new(alloc, network)?;
-    let mut plan = Plan::full(alloc, network.candidates().len() as u32)?;
-    if unmet_limit(&mut room, network, &plan, None).is_some() {
+    let Some(mut plan) = certified_whole(alloc, &mut room, network)? else {
         return Ok(None);
-    }
+    };
     let offers = dearest_first(alloc, network)?;
     take_out_each(&mut room, network, &mut plan, offers.as_slice());
     Ok(Some(plan))
