@@ -169,13 +169,13 @@ def instructions(program, text):
 
 
 def print_instructions(program):
-    print("| network | unknowns | 100.0 mm | 0.1 mm |\n|---|---|---|---|")
+    print("Millions of instructions a verdict.\n\n| network | unknowns | 100.0 mm | 0.1 mm |\n|---|---|---|---|")
     for network in (levelling_line(64), random_levels(64), random_distances(32), dense_angles(16), dense_angles(32)):
         cells = []
         for limit in LIMITS:
-            many, told = instructions(program, input_text(network, limit, 6))
+            twice, told = instructions(program, input_text(network, limit, 2))
             once, _told = instructions(program, input_text(network, limit, 1))
-            cells.append("%.4f" % ((many - once) / 5 / told))
+            cells.append("%.4f" % ((twice - once) / told))
         print("| %s | %d | %s |" % (network.title, filled_count(network)[0], " | ".join(cells)), flush=True)
 
 
@@ -185,15 +185,15 @@ def print_stacks(program):
     count = len(network.candidates)
     full = "1" * count
     without = [full[:i] + "0" + full[i + 1:] for i in range(0, count, 8)]
+    walk = [full] + [plan for other in without for plan in (other, full)]
     for limit in LIMITS:
-        walk = [full] + [plan for other in without for plan in (other, full)]
-        walked, _told = instructions(program, input_text(network, limit, 0, walk))
-        begun, told = instructions(program, input_text(network, limit, 0, [full]))
-        anew, _told = instructions(program, input_text(network, limit, 1, [full] + without))
-        once, _told = instructions(program, input_text(network, limit, 1, [full]))
-        change, verdict = [(spent) / len(without) / told for spent in (walked - begun, anew - once)]
-        row = (limit, change, verdict, change / verdict)
-        print("%s mm: a change and its undo %.4f, a verdict anew %.4f million instructions: %.2f" % row, flush=True)
+        texts = [input_text(network, limit, times, plans)
+                 for times, plans in ((0, walk), (0, [full]), (1, [full] + without), (1, [full]))]
+        runs = [[processor_time(program, text)[0] for text in texts] for _ in range(3)]
+        walked, begun, anew, once = [min(run[k] for run in runs) for k in range(4)]
+        changed, judged = [1e6 * spent / len(without) / len(network.new) for spent in (walked - begun, anew - once)]
+        row = (limit, changed, judged, changed / judged)
+        print("%s mm: a change and its undo %.0f, a verdict anew %.0f microseconds: %.2f" % row, flush=True)
 
 
 # A step takes a product and a quotient in 128 bits for each pair of the rows below it.
