@@ -1,6 +1,7 @@
 //! The reports of a search and of a replay.
 ghost use Rattle.std.specs.Prelude.{◌≡◌, ◌++◌, length, IfOk, OnOk};
 ghost use Rattle.candidate_tables.specs.CandidateTable.{candidate_names};
+ghost use Rattle.pivot_chain.specs.Room.{IsRoomOf};
 ghost use Rattle.plan_report.specs.Reported.{IsNetworkFor, IsAnswerFor, IsReport, IsReported};
 ghost use Rattle.plan_report.specs.ReportText.{take_text, takes_text, price_text, choice_text, end_text, plan_text, no_plan_text, undecided_text, count_text, counts_text, bound_text, checked_text};
 
@@ -97,6 +98,25 @@ fn put_end(text: &mut Vec<u8>, reported: &Reported<'_>, counts: &Counts) -> Resu
     Ok(())
 }
 
+/// The report of a plan that meets the limits, over a room for verdicts.
+fn found_text(
+    alloc: Global,
+    room: &mut ChainRoom,
+    reported: &Reported<'_>,
+    counts: &Counts,
+) -> Result<Vec<u8>, NoMemory>
+    requires reported { IsReported reported.now }
+    requires room { IsRoomOf reported.now.network.now room.old }
+    ensures { IfOk result (λ text. text.items ≡ plan_text reported.now.points.now (candidate_names reported.now.candidates.now) reported.now.q reported.now.network.now reported.now.plan.now counts.now) }
+{
+    let mut text = Vec::from_slice(alloc, b"plan\n")?;
+    put_choice(&mut text, reported)?;
+    put_points(&mut text, room, reported)?;
+    put_redundancies(&mut text, room, reported)?;
+    put_end(&mut text, reported, counts)?;
+    Ok(text)
+}
+
 /// The report of a plan that meets the limits.
 fn found_report(
     alloc: Global,
@@ -107,12 +127,7 @@ fn found_report(
     ensures { IfOk result (λ text. text.items ≡ plan_text reported.now.points.now (candidate_names reported.now.candidates.now) reported.now.q reported.now.network.now reported.now.plan.now counts.now) }
 {
     let mut room = ChainRoom::new(alloc, reported.network)?;
-    let mut text = Vec::from_slice(alloc, b"plan\n")?;
-    put_choice(&mut text, reported)?;
-    put_points(&mut text, &mut room, reported)?;
-    put_redundancies(&mut text, &mut room, reported)?;
-    put_end(&mut text, reported, counts)?;
-    Ok(text)
+    found_text(alloc, &mut room, reported, counts)
 }
 
 /// The report of a plan that is not decided, with the line of its open limit.

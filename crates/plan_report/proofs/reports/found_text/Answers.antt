@@ -4,7 +4,7 @@ use Rattle.candidate_tables.specs.CandidateTable.{candidate_names}
 use Rattle.plan_report.specs.RowsText.{numbered}
 use Rattle.plan_report.specs.ReportText.{choice_text, point_lines, chosen_text, end_text, plan_text}
 use Rattle.plan_report.proofs.ReportLines.{five_pieces}
-use Rattle.plan_report.proofs.reports.found_report.Goals as goal
+use Rattle.plan_report.proofs.reports.found_text.Goals as goal
 
 pub returns : goal.returns
 unfolding plan_text
