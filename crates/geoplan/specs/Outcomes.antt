@@ -9,7 +9,7 @@ use Rattle.covariance_words.specs.Meaning.{HoldsAndIsPrecise}
 use Rattle.geo_model.specs.Network.{IsNetwork}
 use Rattle.geo_model.specs.declared.answer.Counts.{Counts}
 use Rattle.bound_log.specs.declared.bound.Bound.TheVariants.{NoPlan, AtLeast}
-use Rattle.bound_log.specs.LogTree.{IsLog}
+use Rattle.bound_log.specs.LogTree.{IsLog, root_of}
 use Rattle.bound_log.specs.Placed.{placed}
 use Rattle.bound_log.specs.Sound.{IsLowerBound}
 use Rattle.bound_log.specs.Tree.{Tree}
