@@ -46,7 +46,8 @@ verb_of word =
     else (if bytes_eq word (codes "check") then Some verb.Check
     else (if bytes_eq word (codes "trial") then Some verb.Trial
     else (if bytes_eq word (codes "gen") then Some verb.Gen
-    else None))))
+    else (if bytes_eq word (codes "bench") then Some verb.Bench
+    else None)))))
 
 -- what its further words stand for
 abbrev pub roles_of : Verb → List RoleOf
@@ -55,6 +56,7 @@ roles_of verb.Rows = file_role kind.Points ∷ file_role kind.Candidates ∷ []
 roles_of verb.Check = file_role kind.Points ∷ file_role kind.Candidates ∷ redundancy_role ∷ file_role kind.Log ∷ []
 roles_of verb.Trial = file_role kind.Points ∷ file_role kind.Candidates ∷ redundancy_role ∷ file_role kind.Script ∷ []
 roles_of verb.Gen = seed_role ∷ file_role kind.Points ∷ file_role kind.Candidates ∷ []
+roles_of verb.Bench = seed_role ∷ []
 
 -- the files that it reads, in this order
 abbrev pub reads : Verb → List FileKind
@@ -63,6 +65,7 @@ reads verb.Rows = kind.Points ∷ kind.Candidates ∷ []
 reads verb.Check = kind.Points ∷ kind.Candidates ∷ kind.Log ∷ []
 reads verb.Trial = kind.Points ∷ kind.Candidates ∷ kind.Script ∷ []
 reads verb.Gen = []
+reads verb.Bench = []
 
 -- the files that it may write
 abbrev pub writes : Verb → List FileKind
@@ -71,6 +74,7 @@ writes verb.Rows = []
 writes verb.Check = []
 writes verb.Trial = []
 writes verb.Gen = kind.Points ∷ kind.Candidates ∷ []
+writes verb.Bench = []
 
 -- the most bytes of a file that is read
 abbrev pub most_of : FileKind → ℕ

@@ -13,6 +13,7 @@ abbrev pub roles_for : WordShape → List RoleOf
 roles_for shape.Tables = file_role kind.Points ∷ file_role kind.Candidates ∷ []
 roles_for (shape.Job last) = file_role kind.Points ∷ file_role kind.Candidates ∷ redundancy_role ∷ file_role last ∷ []
 roles_for shape.SeedAndTables = seed_role ∷ file_role kind.Points ∷ file_role kind.Candidates ∷ []
+roles_for shape.Seed = seed_role ∷ []
 
 abbrev pub sources_view : Sources → SourcesOf
 sources_view sources = record { points = sources.points.now; candidates = sources.candidates.now; redundancy = sources.redundancy; log = sources.log.now; script = sources.script.now; seed = sources.seed }

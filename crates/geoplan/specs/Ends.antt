@@ -5,6 +5,7 @@ use Rattle.shelf_io.specs.States.{ShelfState}
 use Rattle.geoplan.specs.declared.verb.Verb.{Verb}
 use Rattle.geoplan.specs.declared.verb.Verb.TheVariants as verb
 use Rattle.geoplan.specs.CommandOf.{SourcesOf, CommandOf, files_read, OnCommand}
+use Rattle.geoplan.specs.Benches.{ShowsPlan, ShowsOpen}
 use Rattle.geoplan.specs.Input.{InputOf, no_input, too_long_input, refused_input, built_input, input_of}
 use Rattle.geoplan.specs.Outcomes.{FindsPlan, FindsNone, LeavesOpen, BeganLog, FailsToWrite, ListsRows, AcceptsLog, RefusesLog, IsCheckStatus, RefusesWords, RefusesTable, RefusesLength, FailsToRead}
 use Rattle.geoplan.specs.Tables.{TablesOf}
@@ -115,12 +116,24 @@ gen_ends sources = record {
   answers = λ files status. (status ≡ 0) ⊎ (status ≡ 7);
 }
 
+abbrev pub bench_ends : SourcesOf → EndsOf
+bench_ends sources = record {
+  completes = ShowsPlan sources.seed;
+  finds_none = λ before now text. ⊥;
+  leaves_open = ShowsOpen sources.seed;
+  refuses_log = λ before now text. ⊥;
+  fails_to_write = λ before now. ⊥;
+  began = λ before now. ⊥;
+  answers = λ files status. (status ≡ 0) ⊎ ((status ≡ 4) ⊎ (status ≡ 7));
+}
+
 abbrev pub ends_of : Verb → SourcesOf → EndsOf
 ends_of verb.Plan sources = on_tables (record { verb = verb.Plan; sources = sources }) (plan_ends sources)
 ends_of verb.Rows sources = on_tables (record { verb = verb.Rows; sources = sources }) (λ tables. completing (ListsRows tables))
 ends_of verb.Check sources = on_tables (record { verb = verb.Check; sources = sources }) (check_ends sources)
 ends_of verb.Trial sources = on_tables (record { verb = verb.Trial; sources = sources }) (trial_ends sources)
 ends_of verb.Gen sources = gen_ends sources
+ends_of verb.Bench sources = bench_ends sources
 
 abbrev pub Completes : CommandOf → ShelfState → ShelfState → List ℕ → Type 0
 Completes command before now text = (ends_of command.verb command.sources).completes before now text

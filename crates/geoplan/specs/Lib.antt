@@ -1,5 +1,5 @@
 -- What the contract of the top call says, in the order of reading: CommandOf, Input, Tables, Texts, Outcomes, Trials,
--- WrittenTables, Ends, Printing, Promises, and Checked for the law beside it. The other modules are for private clauses and proofs.
+-- WrittenTables, Benches, Ends, Printing, Promises, and Checked for the law beside it. The other modules are for private clauses and proofs.
 pub mod CommandOf
 pub mod Tables
 pub mod Input
@@ -7,6 +7,7 @@ pub mod Texts
 pub mod Outcomes
 pub mod Trials
 pub mod WrittenTables
+pub mod Benches
 pub mod Ends
 pub mod Printing
 pub mod Promises

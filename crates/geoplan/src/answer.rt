@@ -13,6 +13,7 @@ use crate::plan::answer_plan;
 use crate::refusal::refuse;
 use crate::rows::answer_rows;
 use crate::script::answer_script;
+use crate::seed_search::answer_bench;
 use crate::verb::Verb;
 use shelf_io::Shelf;
 use std::alloc::Global;
@@ -34,7 +35,7 @@ fn answer_tables<H: Shelf>(alloc: Global, command: &Command<'_>, shelf: &mut H) 
         Verb::Rows => answer_rows(alloc, &tables),
         Verb::Check => answer_check(alloc, &tables, shelf, log),
         Verb::Trial => answer_script(alloc, &tables, shelf, &command.sources),
-        Verb::Gen => unreachable!(),
+        Verb::Gen | Verb::Bench => unreachable!(),
     }
 }
 
@@ -45,6 +46,7 @@ pub fn answer<H: Shelf>(alloc: Global, command: &Command<'_>, shelf: &mut H) -> 
 {
     match command.verb {
         Verb::Gen => answer_gen(alloc, &command.sources, shelf),
+        Verb::Bench => answer_bench(alloc, command.sources.seed),
         Verb::Plan | Verb::Rows | Verb::Check | Verb::Trial => {
             answer_tables(alloc, command, shelf)
         }

@@ -71,7 +71,13 @@ fn sources_of<'a>(shape: WordShape, words: &'a Words) -> Option<Sources<'a>>
             if words.len() != 5 {
                 return None;
             }
-            Sources::of_seed(words.get(2), words.get(3), words.get(4))
+            Sources::of_seed_and_tables(words.get(2), words.get(3), words.get(4))
+        }
+        WordShape::Seed => {
+            if words.len() != 3 {
+                return None;
+            }
+            Sources::of_seed(words.get(2))
         }
     }
 }

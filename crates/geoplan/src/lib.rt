@@ -20,6 +20,7 @@ mod refused_table;
 mod rows;
 mod run;
 mod script;
+mod seed_search;
 mod shape;
 mod solve;
 mod sources;

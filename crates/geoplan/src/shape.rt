@@ -9,4 +9,6 @@ pub enum WordShape {
     Job(FileKind),
     /// A seed, and the two tables that are generated from it.
     SeedAndTables,
+    /// A seed.
+    Seed,
 }

@@ -49,8 +49,27 @@ impl<'a> Sources<'a> {
         Some(Sources::named(points, candidates))
     }
 
+    /// A seed of 1 to 6 digits.
+    pub fn of_seed(seed: &str) -> Option<Sources<'a>>
+        ensures sources { option_map sources_view result ≡ sources_from (roles_for shape.Seed) (seed.now ∷ []) }
+        ensures within { IfSome result HasShortNumbers }
+    {
+        match read_digits(seed.as_bytes(), 6) {
+            None => None,
+            Some(seed) => {
+                let mut given = Sources::named("", "");
+                given.seed = seed as u32;
+                Some(given)
+            }
+        }
+    }
+
     /// A seed of 1 to 6 digits, and two tables, by their names.
-    pub fn of_seed(seed: &str, points: &'a str, candidates: &'a str) -> Option<Sources<'a>>
+    pub fn of_seed_and_tables(
+        seed: &str,
+        points: &'a str,
+        candidates: &'a str,
+    ) -> Option<Sources<'a>>
         ensures sources { option_map sources_view result
             ≡ sources_from (roles_for shape.SeedAndTables) (seed.now ∷ points.entry.now ∷ candidates.entry.now ∷ []) }
         ensures within { IfSome result HasShortNumbers }

@@ -24,7 +24,9 @@ pub fn geoplan<H: Shelf, O: Sink>(alloc: Global, words: &Words, shelf: &mut H, o
     // for all whole-number displacements, and every plan that meets them costs at least as much, which
     // the log proves. Of `check`: the text under the log's name is a log of the network, and every plan
     // that meets the limits costs at least its bound. Of `rows`: unknowns and rows. Of `trial`: the
-    // answers to the script. Of `gen`: both tables of the seed stand under their names.
+    // answers to the script. Of `gen`: both tables of the seed stand under their names. Of `bench`: the
+    // printed price is that of a certified plan of the seed's network, and no plan that meets its
+    // limits costs less.
     ensures done { result ≡ 0 → OnCommand words.now (λ command. PrintsAll
         (Completes command (H.state shelf.old) (H.state shelf.new)) (O.state out.old) (O.state out.new)) }
 
@@ -43,7 +45,8 @@ pub fn geoplan<H: Shelf, O: Sink>(alloc: Global, words: &Words, shelf: &mut H, o
         (RefusesTable command (H.state shelf.old) (H.state shelf.new)) (O.state out.old) (O.state out.new)) }
 
     // 4: the printed plan costs no more than any that meets the limits, which the log proves. It is
-    // not decided: the interval of the printed limit contains 0.
+    // not decided: the interval of the printed limit contains 0. Of `bench`: the same of the plan that
+    // has the printed price.
     ensures undecided { result ≡ 4 → OnCommand words.now (λ command. PrintsAll
         (EndsOpen command (H.state shelf.old) (H.state shelf.new)) (O.state out.old) (O.state out.new)) }
 

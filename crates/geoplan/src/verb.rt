@@ -20,6 +20,8 @@ pub enum Verb {
     Trial,
     /// Writes the two tables of a seed.
     Gen,
+    /// Searches the network of a seed, and shows how the search went.
+    Bench,
 }
 
 impl Verb {
@@ -37,6 +39,8 @@ impl Verb {
             Some(Verb::Trial)
         } else if is_same(word, "gen") {
             Some(Verb::Gen)
+        } else if is_same(word, "bench") {
+            Some(Verb::Bench)
         } else {
             None
         }
@@ -51,6 +55,7 @@ impl Verb {
             Verb::Rows => WordShape::Tables,
             Verb::Trial => WordShape::Job(FileKind::Script),
             Verb::Gen => WordShape::SeedAndTables,
+            Verb::Bench => WordShape::Seed,
         }
     }
 
@@ -59,7 +64,7 @@ impl Verb {
         ensures { more_kinds self ≡ listed result }
     {
         match self {
-            Verb::Plan | Verb::Rows | Verb::Gen => None,
+            Verb::Plan | Verb::Rows | Verb::Gen | Verb::Bench => None,
             Verb::Check => Some(FileKind::Log),
             Verb::Trial => Some(FileKind::Script),
         }

@@ -1,6 +1,7 @@
 //! Tables that are generated from a seed, and the search of their network.
 use crate::fixtures::{HEIGHTS, OLD_LOG, ONE_LEVEL, expect, failing_shelf, run, shelf_with};
 use shelf_io::{MemShelf, MemSink};
+use std::alloc::Global;
 use std::process::Abort;
 use std::test::Fail;
 
@@ -110,5 +111,38 @@ fn tables_are_whole_where_the_put_fails(rt: HostRuntime) -> Result<(), Fail> {
     assert_eq!(rt; out.bytes(), b"writ".as_slice());
     assert_eq!(rt; held(&shelf, "p.csv"), POINTS.as_bytes());
     assert_eq!(rt; held(&shelf, "c.csv"), CANDIDATES.as_bytes());
+    Ok(())
+}
+
+// The summary of the seed 7 before and behind the counts of the lines of its log, by another program.
+const SUMMARY: &[u8] =
+    b"seed 7\ncandidates 28\nunknowns 17\nrows 48\nlimits 58\nplan\ncost 487\nlog,";
+
+const SUMMARY_END: &[u8] = b"\nbound 487\n";
+
+/// What `bench` prints over an empty shelf.
+fn benched(rt: &impl Abort, alloc: Global, line: &str) -> Result<MemSink, Fail> {
+    let mut shelf = MemShelf::new(alloc, Vec::new(alloc));
+    let mut out = MemSink::new(alloc, Vec::new(alloc));
+    assert_eq!(rt; run(rt, alloc, &mut shelf, line, &mut out), 0);
+    Ok(out)
+}
+
+// Whichever log the search chooses, it has lines of cuts and of dual bounds.
+#[test]
+fn a_bench_says_the_same_twice(rt: HostRuntime) -> Result<(), Fail> {
+    let alloc = rt.alloc();
+    let first = benched(&rt, alloc, "geoplan bench 7")?;
+    let second = benched(&rt, alloc, "geoplan bench 007")?;
+    assert_eq!(rt; first.bytes(), second.bytes());
+    assert!(rt; first.bytes().starts_with(SUMMARY));
+    assert!(rt; first.bytes().ends_with(SUMMARY_END));
+    let counts = first.bytes().split(|byte| *byte == b',').skip(4);
+    let mut lines = 0;
+    for count in counts {
+        assert!(rt; !count.starts_with(b"0"));
+        lines += 1;
+    }
+    assert_eq!(rt; lines, 2);
     Ok(())
 }

@@ -4,7 +4,7 @@ use geoplan::Words;
 use shelf_io::MemSink;
 use std::test::Fail;
 
-const REFUSED: [&str; 22] = [
+const REFUSED: [&str; 26] = [
     "geoplan",
     "geoplan plan --help",
     "geoplan plan p.csv c.csv 1000 l.log",
@@ -27,6 +27,10 @@ const REFUSED: [&str; 22] = [
     "geoplan gen 7a p.csv c.csv",
     "geoplan gen -7 p.csv c.csv",
     "geoplan gen p.csv c.csv 7",
+    "geoplan bench",
+    "geoplan bench 7 8",
+    "geoplan bench 0000007",
+    "geoplan bench +7",
 ];
 
 #[test]

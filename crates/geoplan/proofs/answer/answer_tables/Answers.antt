@@ -1,5 +1,5 @@
 use Rattle.geoplan.specs.CommandView.{sources_view, command_view}
-use Rattle.geoplan.proofs.GenFacts.{never_tables}
+use Rattle.geoplan.proofs.CommandFacts.{never_reads}
 use Rattle.geoplan.proofs.StandLemmas.{IsOutcomeOf-refused}
 use Rattle.geoplan.proofs.PlanOutcome.{IsOutcomeOf-plan}
 use Rattle.geoplan.proofs.RowsOutcome.{IsOutcomeOf-rows}
@@ -37,4 +37,4 @@ returns-in-Trial g c =
     c.answer_script.result.status c.answer_script.result.text.items c.in-Trial.is c.in-Ok.ensures.loaded c.answer_script.ensures
 
 pub unreachable-requires : goal.unreachable-requires
-unreachable-requires g c = never_tables c.args.command.now.verb c.in-Gen.is c.requires.tables
+unreachable-requires g c = never_reads c.args.command.now.verb c.in-Gen.is c.requires.tables

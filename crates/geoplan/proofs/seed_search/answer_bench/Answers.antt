@@ -1,0 +1,11 @@
+use Rattle.std.proofs.Common.{inr, ◌∙◌}
+use Rattle.geoplan.proofs.BenchOutcome.{Benches-shown}
+use Rattle.geoplan.proofs.seed_search.answer_bench.Goals as goal
+
+pub returns-in-Ok : goal.returns-in-Ok
+returns-in-Ok c =
+    Benches-shown c.args.seed c.in-Ok.shown.is_decided c.in-Ok.shown.text.items c.of.result.text.items c.of.result.status
+    c.in-Ok.ensures c.of.ensures.text (c.of.ensures.status ∙ c.bench_status.ensures)
+
+pub returns-in-Err-NoMemory : goal.returns-in-Err-NoMemory
+returns-in-Err-NoMemory c = inr (inr (c.silent.ensures.status, c.silent.ensures.text))
