@@ -1,18 +1,19 @@
 -- The facts of `check`.
-use Rattle.std.proofs.Common.{◌≡◌, inl, inr, ℕ, List, [], refl, sym, subst, Some}
+use Rattle.std.proofs.Common.{◌≡◌, inl, inr, ℕ, List, [], refl, sym, subst, Some, Option, None}
+use Rattle.std.specs.Prelude.{option_map}
 use Rattle.shelf_io.specs.Files.{Files, bytes_of}
 use Rattle.shelf_io.specs.States.{ShelfState}
 use Rattle.log_check.proofs.VerdictLemmas.{logs_have_no_fault}
 use Rattle.geoplan.specs.declared.file_kind.FileKind.{FileKind}
 use Rattle.geoplan.specs.declared.file_kind.FileKind.TheVariants as kind
 use Rattle.geoplan.specs.declared.verb.Verb.TheVariants as verb
-use Rattle.geoplan.specs.CommandOf.{SourcesOf, reads, names_written}
-use Rattle.geoplan.specs.Ends.{OnBytes, ends_of}
+use Rattle.geoplan.specs.CommandOf.{SourcesOf, reads, behind_tables}
+use Rattle.geoplan.specs.Ends.{OnBytes, check_ends}
 use Rattle.geoplan.specs.Input.{judged_input}
-use Rattle.geoplan.specs.Loading.{tables_input}
+use Rattle.geoplan.specs.Loading.{ReadsTables, tables_input}
 use Rattle.geoplan.specs.Outcomes.{AcceptsLog, RefusesLog, IsRightLog, IsWrongLog, IsCheckStatus}
 use Rattle.geoplan.specs.Tables.{TablesOf}
-use Rattle.geoplan.proofs.OwedFacts.{EndsKeep, EndsAnswer, OwedFacts, reading_keeps, reading_answers}
+use Rattle.geoplan.proofs.OwedFacts.{EndsKeep, TablesAnswer, OwedFacts, reading_keeps, reading_answers, tables_keep, tables_answer}
 
 -- a text that is accepted has no first fault
 right_log : (tables : TablesOf) (log : List ℕ) (before now : ShelfState) (text : List ℕ) → AcceptsLog tables log before now text → IsRightLog tables log
@@ -53,15 +54,23 @@ module _ (sources : SourcesOf) (tables : TablesOf) where
   refused_answers files before now text told (log, is, refused) =
       inr (inl (refl, subst (λ bytes. IsWrongLog tables bytes) (sym (is files told)) (wrong_log tables log before now text refused)))
 
-  keeps : EndsKeep (ends_of verb.Check sources tables) (names_written (record { verb = verb.Check; sources = sources }))
+  keeps : EndsKeep (check_ends sources tables) []
   keeps = reading_keeps Accepts Refuses Answers [] accepted_held refused_held
 
-  answers : EndsAnswer (ends_of verb.Check sources tables)
+  answers : TablesAnswer (check_ends sources tables)
   answers = reading_answers Accepts Refuses Answers (λ files. inr (inr refl)) accepted_answers refused_answers
 
-judged : (redundancy : ℕ) (bytes : FileKind → List ℕ) → judged_input redundancy bytes (reads verb.Check) ≡ tables_input redundancy (bytes kind.Points) (bytes kind.Candidates)
+judged : (redundancy : ℕ) (bytes : FileKind → List ℕ) (stations : Option (List ℕ)) → judged_input redundancy bytes (behind_tables (reads verb.Check) stations)
+    ≡ tables_input redundancy (bytes kind.Points) (bytes kind.Candidates) (option_map (λ name. bytes kind.Stations) stations)
 unfolding judged_input tables_input
-judged redundancy bytes = refl
+judged redundancy bytes None = refl
+judged redundancy bytes (Some name) = refl
+
+pub reads_tables : ReadsTables verb.Check
+reads_tables = record { first = refl; judged = judged }
 
 pub facts : OwedFacts verb.Check
-facts = record { reads_tables = record { first = refl; judged = judged }; keeps = keeps; answers = answers }
+facts = record {
+  keeps = λ sources. tables_keep (record { verb = verb.Check; sources = sources }) (check_ends sources) [] (keeps sources);
+  answers = λ sources. tables_answer (record { verb = verb.Check; sources = sources }) (check_ends sources) (answers sources);
+}

@@ -13,6 +13,7 @@ use Rattle.geoplan.specs.Reporting.{ReportsReplay}
 use Rattle.geoplan.specs.Standing.{IsOutcomeOf}
 use Rattle.geoplan.specs.Tables.{TablesOf}
 use Rattle.geoplan.proofs.LoadLemmas.{ReadsAll-none, ReadsAll-one, FailsLoad-after, Loads-all}
+use Rattle.geoplan.proofs.CheckFacts.{reads_tables}
 use Rattle.geoplan.proofs.StandLemmas.{out_loaded, IsOutcomeOf-refused}
 
 -- the log was replayed
@@ -47,11 +48,11 @@ module _ (sources : SourcesOf) (tables : TablesOf) (log : List ℕ) (before now 
 -- the log was read and replayed, or was not read
 IsOutcomeOf-checked : (sources : SourcesOf) (tables : TablesOf) (before middle now : ShelfState) → LoadsTables (record { verb = verb.Check; sources = sources }) tables before middle → (ends : Status) (text : List ℕ) → Checks tables.network sources.log middle now ends text → IsOutcomeOf (record { verb = verb.Check; sources = sources }) before now ends text
 IsOutcomeOf-checked sources tables before middle now has ends text (inl (log, read, replayed)) =
-    let all = Loads-all (record { verb = verb.Check; sources = sources }) tables before middle now has (ReadsAll-one [] (log_file sources.log) log middle middle now (ReadsAll-none middle) read) in
+    let all = Loads-all (record { verb = verb.Check; sources = sources }) reads_tables tables before middle now has (ReadsAll-one [] (log_file sources.log) log middle middle now (ReadsAll-none middle) read) in
     IsOutcomeOf-replayed sources tables log before now all (λ files told. sym (read.has.1 files (has.read.held ∙ told))) ends text replayed
 IsOutcomeOf-checked sources tables before middle now has ends text (inr (why, fails, said)) =
     IsOutcomeOf-refused (record { verb = verb.Check; sources = sources }) why before now ends text
-    (FailsLoad-after (record { verb = verb.Check; sources = sources }) before middle now has.read why (record { file = log_file sources.log; one = refl; fails = fails })) said
+    (FailsLoad-after (record { verb = verb.Check; sources = sources }) reads_tables before middle now has.read why (record { file = log_file sources.log; one = refl; fails = fails })) said
 
 -- .. of the command that it is known to be
 pub IsOutcomeOf-check : (which : Verb) (sources : SourcesOf) (tables : TablesOf) (before middle now : ShelfState) (ends : Status) (text : List ℕ) → which ≡ verb.Check →

@@ -1,26 +1,26 @@
 -- How the clauses on failed writes and on what stays follow from a run.
-use Rattle.std.proofs.Common.{◌≡◌, ◌⊎◌, inl, inr, ℕ, List, [], ◌∷◌, ◌++◌, length, refl, sym, ap, ◌∙◌, subst, arith, Some, is_some}
+use Rattle.std.proofs.Common.{◌≡◌, ◌⊎◌, inl, inr, ℕ, List, [], ◌∷◌, ◌++◌, length, refl, sym, ap, ◌∙◌, subst, arith, false, true, Option, None, Some, is_some}
 use Rattle.std.specs.Prelude.{Contains}
 use Rattle.std.specs.FinMap.{get}
-use Rattle.shelf_io.specs.Files.{Files}
+use Rattle.std.specs.List.{AllByRecursion}
+use Rattle.shelf_io.specs.Files.{Files, with_bytes}
 use Rattle.shelf_io.specs.Written.{with_written}
 use Rattle.shelf_io.proofs.FileLaws.{is_some-with_bytes, KeepsOthers-with_bytes}
 use Rattle.shelf_io.proofs.WrittenLaws.{with_written-nothing, is_some-with_written}
 use Rattle.shelf_io.specs.States.{SinkState, ShelfState}
 use Rattle.geoplan.specs.Codes.{code_of, after_failed_put}
 use Rattle.geoplan.specs.CommandOf.{CommandOf, names_written, written_for, written_by, OnCommand}
-use Rattle.geoplan.specs.Ends.{AreHeldTables, ends_of, Began, HasReport}
+use Rattle.geoplan.specs.Ends.{ends_of, Began, HasReport}
 use Rattle.geoplan.specs.Printing.{WritesPrefix, WritesAll, IsCutShort}
 use Rattle.geoplan.specs.Promises.{WhereHeld, IsUnwritten, OthersStay}
 use Rattle.geoplan.specs.Running.{Prints, Answered, IsRun}
 use Rattle.geoplan.specs.Standing.{IsOutcomeOf}
-use Rattle.geoplan.specs.Tables.{TablesOf}
 use Rattle.geoplan.specs.declared.status.Status.{Status}
 use Rattle.geoplan.specs.declared.status.Status.TheVariants as status
 use Rattle.geoplan.proofs.AnswerLemmas.{by_command}
 use Rattle.geoplan.proofs.CodeLemmas.{from_code}
 use Rattle.geoplan.proofs.CommandFacts.{facts_of}
-use Rattle.geoplan.proofs.OwedFacts.{KeptBy, HeldOrPiece, EndsKeep}
+use Rattle.geoplan.proofs.OwedFacts.{with_pieces, HoldsPieces, EndsKeep}
 
 -- ---- what is printed
 
@@ -48,64 +48,82 @@ module _ (command : CommandOf) (before now : ShelfState) where
   abbrev Kept : Type 0
   Kept = (now.held ≡ before.held) ⊎ Began command before.held now.held
 
-  kept_on : (tables : TablesOf) → AreHeldTables command before.held tables → KeptBy (ends_of command.verb command.sources tables) before now → Kept
-  kept_on tables are (inl same) = inl same
-  kept_on tables are (inr began) = inr (tables, are, began)
-
-  keeps_of : (tables : TablesOf) → EndsKeep (ends_of command.verb command.sources tables) (names_written command)
-  keeps_of tables = (facts_of command.verb).keeps command.sources tables
+  keeps_of : EndsKeep (ends_of command.verb command.sources) (names_written command)
+  keeps_of = (facts_of command.verb).keeps command.sources
 
   pub stands_keep : (begun : Status) (text : List ℕ) → IsOutcomeOf command before now begun text → Kept
-  stands_keep status.Found text (tables, are, ends) = kept_on tables are ((keeps_of tables).completed before now text ends)
-  stands_keep status.NoPlan text (tables, are, ends) = kept_on tables are ((keeps_of tables).none before now text ends)
+  stands_keep status.Found text ends = keeps_of.completed before now text ends
+  stands_keep status.NoPlan text ends = keeps_of.none before now text ends
   stands_keep status.WordsRefused text never = absurd never
   stands_keep status.TableRefused text refused = inl refused.refuses.held
-  stands_keep status.Undecided text (tables, are, ends) = kept_on tables are ((keeps_of tables).undecided before now text ends)
+  stands_keep status.Undecided text ends = keeps_of.undecided before now text ends
   stands_keep status.ReadFault text unread = inl unread.held
-  stands_keep status.WriteFault text ((tables, are, ends), none) = kept_on tables are ((keeps_of tables).unwritten before now ends)
+  stands_keep status.WriteFault text (ends, none) = keeps_of.unwritten before now ends
   stands_keep status.NoMemory text out = out.held
-  stands_keep status.LogRefused text (tables, are, ends) = kept_on tables are ((keeps_of tables).log_refused before now text ends)
+  stands_keep status.LogRefused text ends = keeps_of.log_refused before now text ends
   stands_keep status.FileTooLong text refused = inl refused.refuses.held
 
+-- ---- pieces under names
+
+-- whether the files are told stays
+told_pieces : (held : Option Files) (pieces : List (List ℕ × List ℕ)) → is_some (with_pieces held pieces) ≡ is_some held
+told_pieces held [] = refl
+told_pieces held (piece ∷ later) = told_pieces (with_bytes held piece.0 piece.1) later ∙ is_some-with_bytes held piece.0 piece.1
+
+-- a name other than theirs holds what it held
+module _ (names : List (List ℕ)) (name : List ℕ) (other : Contains names name → ⊥) where
+  others_one : (piece : List ℕ × List ℕ) → Contains names piece.0 → (held : Option Files) (files after : Files) → held ≡ Some files → (middle : Option Files) → middle ≡ with_bytes held piece.0 piece.1
+      → ((between : Files) → middle ≡ Some between → get after name ≡ get between name) → get after name ≡ get files name
+  others_one piece one held files after told None written later = absurd (let e : false ≡ true = ap is_some written ∙ is_some-with_bytes held piece.0 piece.1 ∙ ap is_some told in cc)
+  others_one piece one held files after told (Some between) written later =
+      later between refl
+      ∙ (KeepsOthers-with_bytes piece.0 piece.1 held (Some between) written).others files between told refl name (λ same. other (subst (λ n. Contains names n) (sym same) one))
+
+  others_pieces : (pieces : List (List ℕ × List ℕ)) → AllByRecursion (λ piece. Contains names piece.0) pieces → (held now : Option Files) (files after : Files) → held ≡ Some files → now ≡ Some after → now ≡ with_pieces held pieces → get after name ≡ get files name
+  others_pieces [] named held now files after told told_now is =
+      let e : Some after ≡ Some files = sym told_now ∙ is ∙ told in
+      let same : after ≡ files = cc in ap (λ m. get m name) same
+  others_pieces (piece ∷ later) (one, rest) held now files after told told_now is =
+      others_one piece one held files after told (with_bytes held piece.0 piece.1) refl
+      (λ between is_between. others_pieces later rest (with_bytes held piece.0 piece.1) now between after is_between told_now is)
+
+none_named : (names : List (List ℕ)) (name : List ℕ) → names ≡ [] → Contains names name → ⊥
+none_named names name none (k, below, is) = let e : length names ≡ 0 = ap length none in omega (arith, e, below)
+
+-- with no names there are no pieces
+no_pieces : (names : List (List ℕ)) (held : Option Files) (pieces : List (List ℕ × List ℕ)) → names ≡ [] → AllByRecursion (λ piece. Contains names piece.0) pieces → with_pieces held pieces ≡ held
+no_pieces names held [] none named = refl
+no_pieces names held (piece ∷ later) none (one, rest) = absurd (none_named names piece.0 none one)
+
+-- nothing is a piece
+held_pieces : (names : List (List ℕ)) (before now : Option Files) → now ≡ before → HoldsPieces names before now
+held_pieces names before now same = record { pieces = []; named = tt; held = same }
+
 module _ (words : List (List ℕ)) (before now : ShelfState) where
-  command_held : (command : CommandOf) → (now.held ≡ before.held) ⊎ Began command before.held now.held → HeldOrPiece (names_written command) before.held now.held
-  command_held command (inl same) = inl same
-  command_held command (inr (tables, are, began)) = (keeps_of command before now tables).piece before.held now.held began
+  command_held : (command : CommandOf) → (now.held ≡ before.held) ⊎ Began command before.held now.held → HoldsPieces (names_written command) before.held now.held
+  command_held command (inl same) = held_pieces (names_written command) before.held now.held same
+  command_held command (inr began) = (keeps_of command before now).pieces before.held now.held began
 
-  held_answered : (begun : Status) (text : List ℕ) → Answered words before now begun text → HeldOrPiece (written_by words) before.held now.held
+  held_answered : (begun : Status) (text : List ℕ) → Answered words before now begun text → HoldsPieces (written_by words) before.held now.held
   held_answered begun text (inl (command, of, stands)) =
-      subst (λ c. HeldOrPiece (written_for c) before.held now.held) (sym of) (command_held command (stands_keep command before now begun text stands))
-  held_answered begun text (inr (none, refused)) = inl (ap (λ (s : ShelfState). s.held) refused.same)
-
-  told_held : HeldOrPiece (written_by words) before.held now.held → is_some now.held ≡ is_some before.held
-  told_held (inl same) = ap is_some same
-  told_held (inr (name, piece, named, written)) = ap is_some written ∙ is_some-with_bytes before.held name piece
-
-  some_same : (files after : Files) → before.held ≡ Some files → now.held ≡ Some after → now.held ≡ before.held → after ≡ files
-  some_same files after told told_now same = let e : Some after ≡ Some files = sym told_now ∙ same ∙ told in cc
-
-  others_held : HeldOrPiece (written_by words) before.held now.held → WhereHeld before.held now.held (OthersStay words)
-  others_held (inl same) files after told told_now name other = ap (λ m. get m name) (some_same files after told told_now same)
-  others_held (inr (own, piece, named, written)) files after told told_now name other =
-      (KeepsOthers-with_bytes own piece before.held now.held written).others files after told told_now name
-      (λ is. other (subst (λ n. Contains (written_by words) n) (sym is) named))
-
-  none_named : (names : List (List ℕ)) (name : List ℕ) → names ≡ [] → Contains names name → ⊥
-  none_named names name none (k, below, is) = let e : length names ≡ 0 = ap length none in omega (arith, e, below)
-
-  untouched_held : HeldOrPiece (written_by words) before.held now.held → written_by words ≡ [] → now.held ≡ before.held
-  untouched_held (inl same) none = same
-  untouched_held (inr (name, piece, named, written)) none = absurd (none_named (written_by words) name none named)
+      subst (λ c. HoldsPieces (written_for c) before.held now.held) (sym of) (command_held command (stands_keep command before now begun text stands))
+  held_answered begun text (inr (none, refused)) = held_pieces (written_by words) before.held now.held (ap (λ (s : ShelfState). s.held) refused.same)
 
 module _ (words : List (List ℕ)) (ended : Status) (before now : ShelfState) (sink sink_now : SinkState) where
   pub shelf_told-of : IsRun words ended before now sink sink_now → is_some now.held ≡ is_some before.held
-  shelf_told-of runs = told_held words before now (held_answered words before now runs.begun runs.text runs.answered)
+  shelf_told-of runs =
+      let holds = held_answered words before now runs.begun runs.text runs.answered in
+      ap is_some holds.held ∙ told_pieces before.held holds.pieces
 
   pub others-of : IsRun words ended before now sink sink_now → WhereHeld before.held now.held (OthersStay words)
-  others-of runs = others_held words before now (held_answered words before now runs.begun runs.text runs.answered)
+  others-of runs files after told told_now name other =
+      let holds = held_answered words before now runs.begun runs.text runs.answered in
+      others_pieces (written_by words) name other holds.pieces holds.named before.held now.held files after told told_now holds.held
 
   pub untouched-of : IsRun words ended before now sink sink_now → written_by words ≡ [] → now.held ≡ before.held
-  untouched-of runs = untouched_held words before now (held_answered words before now runs.begun runs.text runs.answered)
+  untouched-of runs none =
+      let holds = held_answered words before now runs.begun runs.text runs.answered in
+      holds.held ∙ no_pieces (written_by words) before.held holds.pieces none holds.named
 
   -- ---- status 6
 

@@ -4,6 +4,7 @@ pub mod PlanFacts
 pub mod RowsFacts
 pub mod CheckFacts
 pub mod TrialFacts
+pub mod GenFacts
 pub mod CommandFacts
 pub mod InputLemmas
 pub mod LoadLemmas
@@ -14,6 +15,8 @@ pub mod PlanOutcome
 pub mod RowsOutcome
 pub mod CheckOutcome
 pub mod TrialOutcome
+pub mod WriteLemmas
+pub mod GenOutcome
 pub mod PrintLemmas
 pub mod CodeLemmas
 pub mod AnswerLemmas

@@ -1,6 +1,6 @@
 -- The facts of `plan`.
-use Rattle.std.proofs.Common.{◌≡◌, inl, inr, ℕ, List, [], ◌∷◌, refl, sym, ◌∙◌, arith}
-use Rattle.std.specs.Prelude.{Contains}
+use Rattle.std.proofs.Common.{◌≡◌, inl, inr, ℕ, List, [], ◌∷◌, refl, sym, ◌∙◌, arith, Option, None, Some}
+use Rattle.std.specs.Prelude.{Contains, option_map}
 use Rattle.std.proofs.lemmas.List.{append-nil}
 use Rattle.shelf_io.specs.States.{ShelfState}
 use Rattle.bound_log.proofs.SpellLemmas.{spelled_text}
@@ -8,13 +8,13 @@ use Rattle.log_check.specs.declared.replaying.Replayed.{Replayed}
 use Rattle.geoplan.specs.declared.file_kind.FileKind.{FileKind}
 use Rattle.geoplan.specs.declared.file_kind.FileKind.TheVariants as kind
 use Rattle.geoplan.specs.declared.verb.Verb.TheVariants as verb
-use Rattle.geoplan.specs.CommandOf.{SourcesOf, reads, names_written}
-use Rattle.geoplan.specs.Ends.{ends_of}
+use Rattle.geoplan.specs.CommandOf.{SourcesOf, reads, behind_tables, names_written}
+use Rattle.geoplan.specs.Ends.{plan_ends}
 use Rattle.geoplan.specs.Input.{judged_input}
-use Rattle.geoplan.specs.Loading.{tables_input}
+use Rattle.geoplan.specs.Loading.{ReadsTables, tables_input}
 use Rattle.geoplan.specs.Outcomes.{LeavesLog, BeganLog}
 use Rattle.geoplan.specs.Tables.{TablesOf}
-use Rattle.geoplan.proofs.OwedFacts.{EndsKeep, EndsAnswer, OwedFacts}
+use Rattle.geoplan.proofs.OwedFacts.{EndsKeep, TablesAnswer, OwedFacts, tables_keep, tables_answer}
 
 -- a whole log is a beginning of a log
 pub whole_began : (tables : TablesOf) (name : List ℕ) (done : Replayed) (before now : ShelfState) → LeavesLog tables name done before now → BeganLog tables name before.held now.held
@@ -30,17 +30,17 @@ whole_began tables name done before now leaves = record {
 only_one : (name : List ℕ) → Contains (name ∷ []) name
 only_one name = (0, omega arith, refl)
 
-keeps : (sources : SourcesOf) (tables : TablesOf) → EndsKeep (ends_of verb.Plan sources tables) (names_written (record { verb = verb.Plan; sources = sources }))
+keeps : (sources : SourcesOf) (tables : TablesOf) → EndsKeep (plan_ends sources tables) (names_written (record { verb = verb.Plan; sources = sources }))
 keeps sources tables = record {
   completed = λ before now text found. inr (whole_began tables sources.log _ before now found.leaves);
   none = λ before now text found. inr (whole_began tables sources.log _ before now found.leaves);
   undecided = λ before now text left. inr (whole_began tables sources.log _ before now left.leaves);
   log_refused = λ before now text never. absurd never;
   unwritten = λ before now failed. failed.held;
-  piece = λ before now began. inr (sources.log, began.piece, only_one sources.log, began.written);
+  pieces = λ before now began. record { pieces = (sources.log, began.piece) ∷ []; named = (only_one sources.log, tt); held = began.written };
 }
 
-answers : (sources : SourcesOf) (tables : TablesOf) → EndsAnswer (ends_of verb.Plan sources tables)
+answers : (sources : SourcesOf) (tables : TablesOf) → TablesAnswer (plan_ends sources tables)
 answers sources tables = record {
   memory = λ files. inr (inr (inr refl));
   completed = λ files before now text told found. inl refl;
@@ -50,9 +50,17 @@ answers sources tables = record {
   unwritten = λ before now failed. failed.rose;
 }
 
-judged : (redundancy : ℕ) (bytes : FileKind → List ℕ) → judged_input redundancy bytes (reads verb.Plan) ≡ tables_input redundancy (bytes kind.Points) (bytes kind.Candidates)
+judged : (redundancy : ℕ) (bytes : FileKind → List ℕ) (stations : Option (List ℕ)) → judged_input redundancy bytes (behind_tables (reads verb.Plan) stations)
+    ≡ tables_input redundancy (bytes kind.Points) (bytes kind.Candidates) (option_map (λ name. bytes kind.Stations) stations)
 unfolding judged_input tables_input
-judged redundancy bytes = refl
+judged redundancy bytes None = refl
+judged redundancy bytes (Some name) = refl
+
+pub reads_tables : ReadsTables verb.Plan
+reads_tables = record { first = refl; judged = judged }
 
 pub facts : OwedFacts verb.Plan
-facts = record { reads_tables = record { first = refl; judged = judged }; keeps = keeps; answers = answers }
+facts = record {
+  keeps = λ sources. tables_keep (record { verb = verb.Plan; sources = sources }) (plan_ends sources) (names_written (record { verb = verb.Plan; sources = sources })) (keeps sources);
+  answers = λ sources. tables_answer (record { verb = verb.Plan; sources = sources }) (plan_ends sources) (answers sources);
+}

@@ -42,7 +42,7 @@ use Rattle.plan_report.specs.Reported.{IsAnswerFor, IsNetworkFor, IsReport}
 use Rattle.plan_report.specs.ReportText.{no_plan_text}
 use Rattle.geoplan.specs.Texts.{tables_plan_text, tables_undecided_text}
 use Rattle.geoplan.proofs.LoadLemmas.{keeps, ReadsAll-none, Loads-all}
-use Rattle.geoplan.proofs.PlanFacts.{whole_began}
+use Rattle.geoplan.proofs.PlanFacts.{reads_tables, whole_began}
 
 -- ---- a search and its report
 
@@ -260,5 +260,5 @@ pub IsOutcomeOf-plan : (which : Verb) (sources : SourcesOf) (tables : TablesOf) 
 IsOutcomeOf-plan which sources tables before middle now ends text is has plans =
     let known : LoadsTables (record { verb = verb.Plan; sources = sources }) tables before middle =
     subst (λ v. LoadsTables (record { verb = v; sources = sources }) tables before middle) is has in
-    let all = Loads-all (record { verb = verb.Plan; sources = sources }) tables before middle middle known (ReadsAll-none middle) in
+    let all = Loads-all (record { verb = verb.Plan; sources = sources }) reads_tables tables before middle middle known (ReadsAll-none middle) in
     subst (λ v. IsOutcomeOf (record { verb = v; sources = sources }) before now ends text) (sym is) (IsOutcomeOf-planned sources tables before middle now all ends text plans)

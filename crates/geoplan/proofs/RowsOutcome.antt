@@ -12,6 +12,7 @@ use Rattle.geoplan.specs.Standing.{IsOutcomeOf}
 use Rattle.geoplan.specs.Tables.{TablesOf}
 use Rattle.geoplan.specs.Texts.{tables_rows_text}
 use Rattle.geoplan.proofs.LoadLemmas.{ReadsAll-none, Loads-all}
+use Rattle.geoplan.proofs.RowsFacts.{reads_tables}
 use Rattle.geoplan.proofs.StandLemmas.{out_loaded}
 
 pub IsOutcomeOf-listed : (sources : SourcesOf) (tables : TablesOf) (before now : ShelfState) → Loads (record { verb = verb.Rows; sources = sources }) tables before now → (ends : Status) (text : List ℕ) → Ends status.Found (tables_rows_text tables) ends text → IsOutcomeOf (record { verb = verb.Rows; sources = sources }) before now ends text
@@ -25,5 +26,5 @@ pub IsOutcomeOf-rows : (which : Verb) (sources : SourcesOf) (tables : TablesOf) 
 IsOutcomeOf-rows which sources tables before now ends text is has listed =
     let known : LoadsTables (record { verb = verb.Rows; sources = sources }) tables before now =
     subst (λ v. LoadsTables (record { verb = v; sources = sources }) tables before now) is has in
-    let all = Loads-all (record { verb = verb.Rows; sources = sources }) tables before now now known (ReadsAll-none now) in
+    let all = Loads-all (record { verb = verb.Rows; sources = sources }) reads_tables tables before now now known (ReadsAll-none now) in
     subst (λ v. IsOutcomeOf (record { verb = v; sources = sources }) before now ends text) (sym is) (IsOutcomeOf-listed sources tables before now all ends text listed)

@@ -12,12 +12,13 @@ use Rattle.geoplan.specs.Tables.{TablesOf}
 use Rattle.geoplan.specs.Trying.{Tries}
 use Rattle.geoplan.proofs.LoadLemmas.{ReadsAll-none, ReadsAll-one, FailsLoad-after, Loads-all}
 use Rattle.geoplan.proofs.StandLemmas.{out_loaded, IsOutcomeOf-refused}
+use Rattle.geoplan.proofs.TrialFacts.{reads_tables}
 
 module _ (sources : SourcesOf) (tables : TablesOf) (before middle now : ShelfState) (has : LoadsTables (record { verb = verb.Trial; sources = sources }) tables before middle) (ends : Status) (text : List ℕ) where
   -- the script was read after the tables
   all_read : (script : List ℕ) → ReadsFile (file_of sources kind.Script) script middle now → Loads (record { verb = verb.Trial; sources = sources }) tables before now
   all_read script read =
-      Loads-all (record { verb = verb.Trial; sources = sources }) tables before middle now has
+      Loads-all (record { verb = verb.Trial; sources = sources }) reads_tables tables before middle now has
       (ReadsAll-one [] (file_of sources kind.Script) script middle middle now (ReadsAll-none middle) read)
 
   -- .. and answered, or was not read
@@ -32,7 +33,7 @@ module _ (sources : SourcesOf) (tables : TablesOf) (before middle now : ShelfSta
   IsOutcomeOf-tried (inl (script, read, inr out)) = out_loaded (record { verb = verb.Trial; sources = sources }) tables before now (all_read script read) ends text out
   IsOutcomeOf-tried (inr (why, fails, said)) =
       IsOutcomeOf-refused (record { verb = verb.Trial; sources = sources }) why before now ends text
-      (FailsLoad-after (record { verb = verb.Trial; sources = sources }) before middle now has.read why (record { file = file_of sources kind.Script; one = refl; fails = fails })) said
+      (FailsLoad-after (record { verb = verb.Trial; sources = sources }) reads_tables before middle now has.read why (record { file = file_of sources kind.Script; one = refl; fails = fails })) said
 
 -- .. of the command that it is known to be
 pub IsOutcomeOf-trial : (which : Verb) (sources : SourcesOf) (tables : TablesOf) (before middle now : ShelfState) (ends : Status) (text : List ℕ) → which ≡ verb.Trial →

@@ -1,11 +1,12 @@
--- What the contract of the top call says, in the order of reading: CommandOf, Input, Tables, Texts, Outcomes, Trials, Ends,
--- Printing, Promises, and Checked for the law beside it. The other modules are for private clauses and proofs.
+-- What the contract of the top call says, in the order of reading: CommandOf, Input, Tables, Texts, Outcomes, Trials,
+-- WrittenTables, Ends, Printing, Promises, and Checked for the law beside it. The other modules are for private clauses and proofs.
 pub mod CommandOf
 pub mod Tables
 pub mod Input
 pub mod Texts
 pub mod Outcomes
 pub mod Trials
+pub mod WrittenTables
 pub mod Ends
 pub mod Printing
 pub mod Promises
@@ -18,4 +19,5 @@ pub mod Solving
 pub mod Reporting
 pub mod Parts
 pub mod Trying
+pub mod Writing
 pub mod Running

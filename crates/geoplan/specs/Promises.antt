@@ -5,7 +5,7 @@ use Rattle.shelf_io.specs.Files.{Files}
 use Rattle.shelf_io.specs.States.{SinkState, ShelfState}
 use Rattle.geoplan.specs.CommandOf.{CommandOf, written_by, OnCommand}
 use Rattle.geoplan.specs.Ends.{ends_of, EndsUnwritten, Began, HasReport, HasText}
-use Rattle.geoplan.specs.Input.{InputOf, too_long_input, refused_input, built_input, input_of}
+use Rattle.geoplan.specs.Input.{InputOf, no_input, too_long_input, refused_input, built_input}
 use Rattle.geoplan.specs.Printing.{WritesPrefix, FailsToPut}
 
 -- What the top call promises besides the outcomes. This project's own.
@@ -39,19 +39,14 @@ OthersStay words files after = (name : List ℕ) → (Contains (written_by words
 
 -- ---- which status comes
 
--- the status that the files give, or want of memory
-abbrev pub IsStatusOf : CommandOf → InputOf → Files → ℕ → Type 0
-IsStatusOf command (too_long_input name) files status = (status ≡ 9) ⊎ (status ≡ 7)
-IsStatusOf command (refused_input fault) files status = (status ≡ 3) ⊎ (status ≡ 7)
-IsStatusOf command (built_input tables) files status = (ends_of command.verb command.sources tables).answers files status
-
--- the status of accepted words where no fault was counted: by what the files give
+-- the status of accepted words where no fault was counted
 abbrev pub IsComplete : CommandOf → Files → ℕ → Type 0
-IsComplete command files status = IsStatusOf command (input_of command files) files status
+IsComplete command files status = (ends_of command.verb command.sources).answers files status
 
 -- the status of accepted words whatever faults were counted: a file that is too long or a table with a fault is refused,
 -- but for a failed read and want of memory
 abbrev pub IsRefusedBy : InputOf → ℕ → Type 0
+IsRefusedBy no_input status = Unit {0}
 IsRefusedBy (too_long_input name) status = (status ≡ 9) ⊎ ((status ≡ 5) ⊎ (status ≡ 7))
 IsRefusedBy (refused_input fault) status = (status ≡ 3) ⊎ ((status ≡ 5) ⊎ (status ≡ 7))
 IsRefusedBy (built_input tables) status = Unit {0}

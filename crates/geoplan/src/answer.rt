@@ -1,10 +1,12 @@
 //! The answer of a command, before anything is printed.
 ghost use Rattle.std.specs.Prelude.{◌≤◌};
-ghost use Rattle.geoplan.specs.CommandView.{command_view};
+ghost use Rattle.geoplan.specs.CommandView.{HasShortNumbers, command_view};
+ghost use Rattle.geoplan.specs.Loading.{ReadsTables};
 ghost use Rattle.geoplan.specs.Standing.{IsOutcomeOf};
 
 use crate::check::answer_check;
 use crate::command::Command;
+use crate::generate::answer_gen;
 use crate::load::load;
 use crate::outcome::Outcome;
 use crate::plan::answer_plan;
@@ -15,10 +17,11 @@ use crate::verb::Verb;
 use shelf_io::Shelf;
 use std::alloc::Global;
 
-/// The answer of a command: what its files give, and what it does with them. Its redundancy is at most
-/// 999.
-pub fn answer<H: Shelf>(alloc: Global, command: &Command<'_>, shelf: &mut H) -> Outcome
-    requires { command.now.sources.redundancy ≤ 999 }
+/// The answer of a command over two tables: what its files give, and what it does with them. Its
+/// redundancy is at most 999.
+fn answer_tables<H: Shelf>(alloc: Global, command: &Command<'_>, shelf: &mut H) -> Outcome
+    requires redundancy { command.now.sources.redundancy ≤ 999 }
+    requires tables { ReadsTables command.now.verb }
     ensures { IsOutcomeOf (command_view command.now) (H.state shelf.old) (H.state shelf.new) result.status result.text.items }
 {
     let tables = match load(alloc, command, shelf) {
@@ -31,5 +34,19 @@ pub fn answer<H: Shelf>(alloc: Global, command: &Command<'_>, shelf: &mut H) -> 
         Verb::Rows => answer_rows(alloc, &tables),
         Verb::Check => answer_check(alloc, &tables, shelf, log),
         Verb::Trial => answer_script(alloc, &tables, shelf, &command.sources),
+        Verb::Gen => unreachable!(),
+    }
+}
+
+/// The answer of a command.
+pub fn answer<H: Shelf>(alloc: Global, command: &Command<'_>, shelf: &mut H) -> Outcome
+    requires { HasShortNumbers command.now.sources }
+    ensures { IsOutcomeOf (command_view command.now) (H.state shelf.old) (H.state shelf.new) result.status result.text.items }
+{
+    match command.verb {
+        Verb::Gen => answer_gen(alloc, &command.sources, shelf),
+        Verb::Plan | Verb::Rows | Verb::Check | Verb::Trial => {
+            answer_tables(alloc, command, shelf)
+        }
     }
 }

@@ -1,7 +1,7 @@
 ghost use Rattle.std.specs.Prelude.{◌≡◌, ◌≤◌, length, option_map, drop, IfSome};
 ghost use Rattle.std.specs.List.{list_all};
 ghost use Rattle.geoplan.specs.CommandOf.{is_plain, command_from, command_of, sources_from};
-ghost use Rattle.geoplan.specs.CommandView.{roles_for, sources_view, command_view};
+ghost use Rattle.geoplan.specs.CommandView.{roles_for, sources_view, HasShortNumbers, command_view};
 
 use crate::shape::WordShape;
 use crate::sources::Sources;
@@ -16,11 +16,12 @@ pub struct Command<'a> {
 }
 
 impl<'a> Command<'a> {
-    /// The command of a command line, where its words are accepted. Its redundancy is at most 999.
+    /// The command of a command line, where its words are accepted. Its numbers have as few digits as
+    /// is said of them.
     #[tactic(auto, unfolding(crate::specs::CommandOf::command_of))]
     pub fn of(words: &'a Words) -> Option<Command<'a>>
         ensures command { option_map command_view result ≡ command_of words.now }
-        ensures within { IfSome result (λ command. command.sources.redundancy ≤ 999) }
+        ensures within { IfSome result (λ command. HasShortNumbers command.sources) }
     {
         if !are_plain(words) {
             return None;
@@ -31,7 +32,7 @@ impl<'a> Command<'a> {
     /// The command of words that are all plain.
     fn from_plain(words: &'a Words) -> Option<Command<'a>>
         ensures command { option_map command_view result ≡ command_from words.now }
-        ensures within { IfSome result (λ command. command.sources.redundancy ≤ 999) }
+        ensures within { IfSome result (λ command. HasShortNumbers command.sources) }
     {
         if words.len() < 2 {
             return None;
@@ -40,7 +41,7 @@ impl<'a> Command<'a> {
             Some(verb) => verb,
             None => return None,
         };
-        match sources_of(verb.shape(), words) {
+        match sources_of(verb.shape(words.len() - 2), words) {
             Some(sources) => Some(Command { verb, sources }),
             None => None,
         }
@@ -51,7 +52,7 @@ impl<'a> Command<'a> {
 fn sources_of<'a>(shape: WordShape, words: &'a Words) -> Option<Sources<'a>>
     requires { 2 ≤ length words.now }
     ensures sources { option_map sources_view result ≡ sources_from (roles_for shape) (drop 2 words.now) }
-    ensures within { IfSome result (λ sources. sources.redundancy ≤ 999) }
+    ensures within { IfSome result HasShortNumbers }
 {
     match shape {
         WordShape::Job(last) => {
@@ -60,11 +61,30 @@ fn sources_of<'a>(shape: WordShape, words: &'a Words) -> Option<Sources<'a>>
             }
             Sources::of_job(words.get(2), words.get(3), words.get(4), last, words.get(5))
         }
+        WordShape::JobWithStations(last) => {
+            if words.len() != 7 {
+                return None;
+            }
+            Sources::of_job_with_stations(
+                words.get(2),
+                words.get(3),
+                words.get(4),
+                last,
+                words.get(5),
+                words.get(6),
+            )
+        }
         WordShape::Tables => {
             if words.len() != 4 {
                 return None;
             }
             Sources::of_tables(words.get(2), words.get(3))
+        }
+        WordShape::SeedAndTables => {
+            if words.len() != 5 {
+                return None;
+            }
+            Sources::of_seed(words.get(2), words.get(3), words.get(4))
         }
     }
 }

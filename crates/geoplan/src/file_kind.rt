@@ -6,6 +6,7 @@ ghost use Rattle.geoplan.specs.CommandOf.{most_of};
 pub enum FileKind {
     Points,
     Candidates,
+    Stations,
     Log,
     Script,
 }
@@ -16,7 +17,8 @@ impl FileKind {
         ensures { result ≡ most_of self }
     {
         match self {
-            FileKind::Points | FileKind::Candidates | FileKind::Script => 1048576,
+            FileKind::Points | FileKind::Candidates | FileKind::Stations | FileKind::Script =>
+                1048576,
             FileKind::Log => 268435456,
         }
     }

@@ -1,23 +1,19 @@
 //! Reading the files of a command.
-ghost use Rattle.std.specs.Prelude.{◌≡◌, ◌≤◌, ℕ, List, All, IfOk, OnOk, IfErr};
-ghost use Rattle.point_tables.specs.Accepted.{IsAccepted};
-ghost use Rattle.candidate_tables.specs.Accepted.{AreCandidates};
+ghost use Rattle.std.specs.Prelude.{◌≡◌, ◌≤◌, ℕ, List, IfOk, OnOk, IfErr, option_map};
 ghost use Rattle.geoplan.specs.CommandOf.{file_of};
 ghost use Rattle.geoplan.specs.CommandView.{sources_view, command_view};
-ghost use Rattle.geoplan.specs.Input.{accepted_input, built_input};
-ghost use Rattle.geoplan.specs.Loading.{tables_input, IsRefusal, ReadsFile, FailsRead, ReadsAll, more_read, FailsMore, IsGoodNetwork, LoadsTables, FailsLoad};
+ghost use Rattle.geoplan.specs.Loading.{ReadsFile, FailsRead, ReadsAll, more_read, FailsMore, ReadsTables, ReadsStationBytes, FailsStations, ReadsTableBytes, LoadsTables, FailsLoad};
 ghost use Rattle.geoplan.specs.Parts.{log_file};
 
 use crate::command::Command;
 use crate::file_kind::FileKind;
+use crate::judge::judge;
 use crate::log_parts::LogParts;
 use crate::refused_table::RefusedTable;
 use crate::sources::Sources;
+use crate::table_bytes::TableBytes;
 use crate::tables::Tables;
-use candidate_tables::{Candidates, read_candidates};
 use geo_base::NoMemory;
-use net_build::build;
-use point_tables::{Points, TableAnswer, read_points};
 use shelf_io::{ReadAnswer, Shelf};
 use std::alloc::Global;
 
@@ -85,60 +81,33 @@ fn skip_more<'a, H: Shelf>(
     }
 }
 
-/// What two accepted tables give for a redundancy of at most 999.
-#[tactic(auto, unfolding(crate::specs::Input::accepted_input))]
-fn accept(
+/// The bytes of the table of stations of a command, where one is given.
+fn read_station_bytes<'a, H: Shelf>(
     alloc: Global,
-    redundancy: u32,
-    points: Points,
-    candidates: Candidates,
-) -> Result<Tables, TableAnswer>
-    requires redundancy { redundancy ≤ 999 }
-    requires points { All IsAccepted points }
-    requires accepted { AreCandidates points candidates }
-    ensures tables { IfOk result (λ tables. accepted_input redundancy points candidates ≡ built_input tables) }
-    ensures good { IfOk result IsGoodNetwork }
-    ensures refused { IfErr result (IsRefusal (accepted_input redundancy points candidates)) }
+    sources: &Sources<'a>,
+    shelf: &mut H,
+) -> Result<Option<Vec<u8>>, LoadFault<'a>>
+    ensures read { IfOk result (λ bytes. ReadsStationBytes (sources_view sources.now) (option_map (λ given. given.items) bytes)
+        (H.state shelf.old) (H.state shelf.new)) }
+    ensures fault { IfErr result (λ why. FailsStations (sources_view sources.now) why (H.state shelf.old) (H.state shelf.new)) }
 {
-    match build(alloc, &points, &candidates, redundancy) {
-        Ok(network) => Ok(Tables::new(points, candidates, redundancy, network)),
+    if sources.stations.is_none() {
+        return Ok(None);
+    }
+    match read_file(alloc, sources, FileKind::Stations, shelf) {
+        Ok(stations) => Ok(Some(stations)),
         Err(why) => Err(why),
     }
 }
 
-/// What the bytes of two tables give for a redundancy of at most 999.
-#[tactic(auto, unfolding(crate::specs::Loading::tables_input))]
-fn judge(
-    alloc: Global,
-    redundancy: u32,
-    points: &[u8],
-    candidates: &[u8],
-) -> Result<Tables, TableAnswer>
-    requires { redundancy ≤ 999 }
-    ensures tables { IfOk result (λ tables. tables_input redundancy points.now candidates.now ≡ built_input tables) }
-    ensures good { IfOk result IsGoodNetwork }
-    ensures refused { IfErr result (IsRefusal (tables_input redundancy points.now candidates.now)) }
-{
-    let points = match read_points(alloc, points) {
-        Ok(points) => points,
-        Err(why) => return Err(why),
-    };
-    let candidates = match read_candidates(alloc, candidates, &points) {
-        Ok(candidates) => candidates,
-        Err(why) => return Err(why),
-    };
-    accept(alloc, redundancy, points, candidates)
-}
-
-/// Reads the tables of a command in their order, and judges what they give. Where they are refused, the
-/// files after them were read too, since one of them may be what is refused. The redundancy is at most 999.
-pub fn load<'a, H: Shelf>(
+/// The bytes of the tables of a command, which are read in their order. The command reads tables.
+fn read_tables<'a, H: Shelf>(
     alloc: Global,
     command: &Command<'a>,
     shelf: &mut H,
-) -> Result<Tables, LoadFault<'a>>
-    requires { command.now.sources.redundancy ≤ 999 }
-    ensures loaded { IfOk result (λ tables. LoadsTables (command_view command.now) tables
+) -> Result<TableBytes, LoadFault<'a>>
+    requires { ReadsTables command.now.verb }
+    ensures read { IfOk result (λ bytes. ReadsTableBytes (command_view command.now) bytes
         (H.state shelf.old) (H.state shelf.new)) }
     ensures fault { IfErr result (λ why. FailsLoad (command_view command.now) why
         (H.state shelf.old) (H.state shelf.new)) }
@@ -152,15 +121,37 @@ pub fn load<'a, H: Shelf>(
         Ok(candidates) => candidates,
         Err(why) => return Err(why),
     };
-    let refused = match judge(
-        alloc,
-        sources.redundancy,
-        points.as_slice(),
-        candidates.as_slice(),
-    ) {
+    match read_station_bytes(alloc, sources, shelf) {
+        Ok(stations) => Ok(TableBytes::new(points, candidates, stations)),
+        Err(why) => Err(why),
+    }
+}
+
+/// Reads the tables of a command in their order, and judges what they give. Where they are refused, the
+/// files after them were read too, since one of them may be what is refused. The command reads tables,
+/// and its redundancy is at most 999.
+pub fn load<'a, H: Shelf>(
+    alloc: Global,
+    command: &Command<'a>,
+    shelf: &mut H,
+) -> Result<Tables, LoadFault<'a>>
+    requires redundancy { command.now.sources.redundancy ≤ 999 }
+    requires tables { ReadsTables command.now.verb }
+    ensures loaded { IfOk result (λ tables. LoadsTables (command_view command.now) tables
+        (H.state shelf.old) (H.state shelf.new)) }
+    ensures fault { IfErr result (λ why. FailsLoad (command_view command.now) why
+        (H.state shelf.old) (H.state shelf.new)) }
+{
+    let bytes = match read_tables(alloc, command, shelf) {
+        Ok(bytes) => bytes,
+        Err(why) => return Err(why),
+    };
+    let why = match judge(alloc, command.sources.redundancy, &bytes) {
         Ok(tables) => return Ok(tables),
-        Err(TableAnswer::Fault(fault)) => RefusedTable::of(fault),
-        Err(TableAnswer::NoMemory) => return Err(LoadFault::NoMemory),
+        Err(why) => why,
+    };
+    let Some(refused) = RefusedTable::judged(why) else {
+        return Err(LoadFault::NoMemory);
     };
     match skip_more(alloc, command, shelf) {
         Ok(()) => Err(LoadFault::Refused(refused)),

@@ -1,40 +1,74 @@
-ghost use Rattle.std.specs.Prelude.{◌≡◌, ◌≤◌, [], ◌∷◌, option_map, IfSome};
-ghost use Rattle.geoplan.specs.CommandOf.{name_of, sources_from, with_name};
-ghost use Rattle.geoplan.specs.CommandView.{roles_for, sources_view};
+ghost use Rattle.std.specs.Prelude.{◌≡◌, [], ◌∷◌, option_map, IfSome};
+ghost use Rattle.geoplan.specs.CommandOf.{name_of, no_sources, sources_from, with_name};
+ghost use Rattle.geoplan.specs.CommandView.{roles_for, sources_view, HasShortNumbers};
+ghost use Rattle.geoplan.specs.declared.file_kind.FileKind.TheVariants as kind;
 ghost use Rattle.geoplan.specs.declared.shape.WordShape.TheVariants as shape;
 
 use crate::file_kind::FileKind;
 use crate::words::is_same;
 use text_num::read_digits;
 
-/// What the further words of a command give: the names of its files, and the redundancy that is asked
-/// of each observation, in thousandths, at most 999. What none of them stands for is empty, or 0.
+/// What the further words of a command give: the names of its files, the redundancy that is asked
+/// of each observation, in thousandths, at most 999, the seed of a generated network, at most
+/// 999999, and the name of a table of stations, if one is given. What none of them stands for is
+/// empty, or 0.
 #[derive(Clone, Copy)]
 pub struct Sources<'a> {
     pub points: &'a str,
     pub candidates: &'a str,
     pub redundancy: u32,
+    pub stations: Option<&'a str>,
     pub log: &'a str,
     pub script: &'a str,
+    pub seed: u32,
 }
 
 impl<'a> Sources<'a> {
+    /// Two tables, by their names, and nothing else.
+    fn named(points: &'a str, candidates: &'a str) -> Sources<'a>
+        ensures sources { sources_view result ≡ with_name kind.Candidates candidates.entry.now (with_name kind.Points points.entry.now no_sources) }
+        ensures within { HasShortNumbers result }
+    {
+        Sources {
+            points,
+            candidates,
+            redundancy: 0,
+            stations: None,
+            log: "",
+            script: "",
+            seed: 0,
+        }
+    }
+
     /// Two tables, by their names.
     pub fn of_tables(points: &'a str, candidates: &'a str) -> Option<Sources<'a>>
         ensures sources { option_map sources_view result
             ≡ sources_from (roles_for shape.Tables) (points.entry.now ∷ candidates.entry.now ∷ []) }
-        ensures within { IfSome result (λ sources. sources.redundancy ≤ 999) }
+        ensures within { IfSome result HasShortNumbers }
     {
         if is_same(points, candidates) {
             return None;
         }
-        Some(Sources {
-            points,
-            candidates,
-            redundancy: 0,
-            log: "",
-            script: "",
-        })
+        Some(Sources::named(points, candidates))
+    }
+
+    /// A seed of 1 to 6 digits, and two tables, by their names.
+    pub fn of_seed(seed: &str, points: &'a str, candidates: &'a str) -> Option<Sources<'a>>
+        ensures sources { option_map sources_view result
+            ≡ sources_from (roles_for shape.SeedAndTables) (seed.now ∷ points.entry.now ∷ candidates.entry.now ∷ []) }
+        ensures within { IfSome result HasShortNumbers }
+    {
+        if is_same(points, candidates) {
+            return None;
+        }
+        match read_digits(seed.as_bytes(), 6) {
+            None => None,
+            Some(seed) => {
+                let mut given = Sources::named(points, candidates);
+                given.seed = seed as u32;
+                Some(given)
+            }
+        }
     }
 
     /// Two tables, a redundancy of 1 to 3 digits, and a file of a kind.
@@ -47,7 +81,7 @@ impl<'a> Sources<'a> {
     ) -> Option<Sources<'a>>
         ensures sources { option_map sources_view result ≡ sources_from (roles_for (shape.Job kind))
             (points.entry.now ∷ candidates.entry.now ∷ redundancy.now ∷ file.entry.now ∷ []) }
-        ensures within { IfSome result (λ sources. sources.redundancy ≤ 999) }
+        ensures within { IfSome result HasShortNumbers }
     {
         if is_same(points, candidates) || is_same(points, file) || is_same(candidates, file) {
             return None;
@@ -55,27 +89,46 @@ impl<'a> Sources<'a> {
         match read_digits(redundancy.as_bytes(), 3) {
             None => None,
             Some(redundancy) => {
-                let given = Sources {
-                    points,
-                    candidates,
-                    redundancy: redundancy as u32,
-                    log: "",
-                    script: "",
-                };
+                let mut given = Sources::named(points, candidates);
+                given.redundancy = redundancy as u32;
                 Some(given.with_name(kind, file))
             }
+        }
+    }
+
+    /// The same, and a table of stations.
+    pub fn of_job_with_stations(
+        points: &'a str,
+        candidates: &'a str,
+        redundancy: &str,
+        kind: FileKind,
+        file: &'a str,
+        stations: &'a str,
+    ) -> Option<Sources<'a>>
+        ensures sources { option_map sources_view result ≡ sources_from (roles_for (shape.JobWithStations kind))
+            (points.entry.now ∷ candidates.entry.now ∷ redundancy.now ∷ file.entry.now ∷ stations.entry.now ∷ []) }
+        ensures within { IfSome result HasShortNumbers }
+    {
+        if is_same(points, stations) || is_same(candidates, stations) || is_same(file, stations) {
+            return None;
+        }
+        match Sources::of_job(points, candidates, redundancy, kind, file) {
+            Some(given) => Some(given.with_name(FileKind::Stations, stations)),
+            None => None,
         }
     }
 
     /// With the name of a file.
     fn with_name(self, kind: FileKind, name: &'a str) -> Sources<'a>
         ensures sources { sources_view result ≡ with_name kind name.entry.now (sources_view self.entry) }
-        ensures same { result.redundancy ≡ self.entry.redundancy }
+        ensures redundancy { result.redundancy ≡ self.entry.redundancy }
+        ensures seed { result.seed ≡ self.entry.seed }
     {
         let mut given = self;
         match kind {
             FileKind::Points => given.points = name,
             FileKind::Candidates => given.candidates = name,
+            FileKind::Stations => given.stations = Some(name),
             FileKind::Log => given.log = name,
             FileKind::Script => given.script = name,
         }
@@ -89,6 +142,7 @@ impl<'a> Sources<'a> {
         match kind {
             FileKind::Points => self.points,
             FileKind::Candidates => self.candidates,
+            FileKind::Stations => self.stations.unwrap_or(""),
             FileKind::Log => self.log,
             FileKind::Script => self.script,
         }

@@ -15,8 +15,8 @@ use shelf_io::{Shelf, Sink};
 use std::alloc::Global;
 
 /// Does all that the program does: reads the words of a command line, the program's name first,
-/// reads the files that they name from `shelf`, writes the log to it, prints to `out`, and answers
-/// the exit status.
+/// reads the files that they name from `shelf`, writes the log or the tables of a seed to it, prints
+/// to `out`, and answers the exit status.
 pub fn geoplan<H: Shelf, O: Sink>(alloc: Global, words: &Words, shelf: &mut H, out: &mut O) -> u8
     ensures status { IsStatus result }
 
@@ -24,7 +24,7 @@ pub fn geoplan<H: Shelf, O: Sink>(alloc: Global, words: &Words, shelf: &mut H, o
     // for all whole-number displacements, and every plan that meets them costs at least as much, which
     // the log proves. Of `check`: the text under the log's name is a log of the network, and every plan
     // that meets the limits costs at least its bound. Of `rows`: unknowns and rows. Of `trial`: the
-    // answers to the script.
+    // answers to the script. Of `gen`: both tables of the seed stand under their names.
     ensures done { result ≡ 0 → OnCommand words.now (λ command. PrintsAll
         (Completes command (H.state shelf.old) (H.state shelf.new)) (O.state out.old) (O.state out.new)) }
 

@@ -1,5 +1,5 @@
 ghost use Rattle.std.specs.Prelude.{◌≡◌};
-ghost use Rattle.geoplan.specs.CommandOf.{verb_of, roles_of};
+ghost use Rattle.geoplan.specs.CommandOf.{verb_of, roles_by};
 ghost use Rattle.geoplan.specs.CommandView.{roles_for};
 ghost use Rattle.geoplan.specs.Loading.{more_kinds, listed};
 
@@ -18,6 +18,8 @@ pub enum Verb {
     Check,
     /// Answers a script of trials.
     Trial,
+    /// Writes the two tables of a seed.
+    Gen,
 }
 
 impl Verb {
@@ -33,18 +35,22 @@ impl Verb {
             Some(Verb::Check)
         } else if is_same(word, "trial") {
             Some(Verb::Trial)
+        } else if is_same(word, "gen") {
+            Some(Verb::Gen)
         } else {
             None
         }
     }
-    /// What its further words stand for.
-    pub fn shape(self) -> WordShape
-        ensures { roles_of self ≡ roles_for result }
+
+    /// What so many further words of it stand for.
+    pub fn shape(self, further: u32) -> WordShape
+        ensures { roles_by self further ≡ roles_for result }
     {
         match self {
-            Verb::Plan | Verb::Check => WordShape::Job(FileKind::Log),
+            Verb::Plan | Verb::Check => WordShape::job(FileKind::Log, further),
             Verb::Rows => WordShape::Tables,
-            Verb::Trial => WordShape::Job(FileKind::Script),
+            Verb::Trial => WordShape::job(FileKind::Script, further),
+            Verb::Gen => WordShape::SeedAndTables,
         }
     }
 
@@ -53,7 +59,7 @@ impl Verb {
         ensures { more_kinds self ≡ listed result }
     {
         match self {
-            Verb::Plan | Verb::Rows => None,
+            Verb::Plan | Verb::Rows | Verb::Gen => None,
             Verb::Check => Some(FileKind::Log),
             Verb::Trial => Some(FileKind::Script),
         }

@@ -20,6 +20,8 @@ mod files;
 #[cfg(test)]
 mod fixtures;
 #[cfg(test)]
+mod generated;
+#[cfg(test)]
 mod log_parts;
 #[cfg(test)]
 mod plan;
@@ -29,6 +31,8 @@ mod points;
 mod rows;
 #[cfg(test)]
 mod scripts;
+#[cfg(test)]
+mod stations;
 #[cfg(test)]
 mod wide_lines;
 #[cfg(test)]

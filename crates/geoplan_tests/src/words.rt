@@ -4,7 +4,7 @@ use geoplan::Words;
 use shelf_io::MemSink;
 use std::test::Fail;
 
-const REFUSED: [&str; 16] = [
+const REFUSED: [&str; 23] = [
     "geoplan",
     "geoplan plan --help",
     "geoplan plan p.csv c.csv 1000 l.log",
@@ -15,12 +15,19 @@ const REFUSED: [&str; 16] = [
     "geoplan plan p.csv p.csv 0 l.log",
     "geoplan plan p.csv c.csv 0 c.csv",
     "geoplan plan p.csv c.csv 0",
-    "geoplan plan p.csv c.csv 0 l.log x.csv",
+    "geoplan plan p.csv c.csv 0 l.log c.csv",
+    "geoplan plan p.csv c.csv 0 l.log s.csv x.csv",
     "geoplan Plan p.csv c.csv 0 l.log",
     "geoplan check p.csv c.csv 0 p.csv",
     "geoplan rows p.csv",
     "geoplan rows p.csv p.csv",
     "geoplan rows p.csv c.csv 0",
+    "geoplan gen 7 p.csv",
+    "geoplan gen 7 p.csv p.csv",
+    "geoplan gen 1000000 p.csv c.csv",
+    "geoplan gen 7a p.csv c.csv",
+    "geoplan gen -7 p.csv c.csv",
+    "geoplan gen p.csv c.csv 7",
 ];
 
 #[test]

@@ -21,5 +21,5 @@ mod rows;
 mod shown;
 
 pub use length_kind::LengthKind;
-pub use reports::{checked_report, report};
+pub use reports::{checked_report, put_bound, put_counts, put_price, report};
 pub use rows::rows_text;

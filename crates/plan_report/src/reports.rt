@@ -42,8 +42,8 @@ fn put_takes(text: &mut Vec<u8>, candidates: &Candidates, plan: &Plan) -> Result
     Ok(())
 }
 
-/// Appends the line of a price, after a word and a space.
-fn put_price(text: &mut Vec<u8>, word: &[u8], price: u64) -> Result<(), NoMemory>
+/// Appends the line of a price, after a word and a space. Refused for want of memory alone.
+pub fn put_price(text: &mut Vec<u8>, word: &[u8], price: u64) -> Result<(), NoMemory>
     ensures { OnOk result (text.new.items ≡ text.old.items ++ price_text word.now price) }
 {
     text.extend_from_slice(word)?;
@@ -60,9 +60,9 @@ fn put_counted(text: &mut Vec<u8>, count: u64) -> Result<(), NoMemory>
     put_count(text, count)
 }
 
-/// Appends the line of the numbers of lines of each kind.
+/// Appends the line of the numbers of lines of each kind of a log. Refused for want of memory alone.
 #[tactic(auto, unfolding(crate::specs::ReportText::counts_text))]
-fn put_counts(text: &mut Vec<u8>, counts: &Counts) -> Result<(), NoMemory>
+pub fn put_counts(text: &mut Vec<u8>, counts: &Counts) -> Result<(), NoMemory>
     ensures { OnOk result (text.new.items ≡ text.old.items ++ counts_text counts.now) }
 {
     text.extend_from_slice(b"log")?;
@@ -194,9 +194,9 @@ pub fn report(
     }
 }
 
-/// Appends the line of the bound of a log.
+/// Appends the line of the bound of a log. Refused for want of memory alone.
 #[tactic(auto, unfolding(crate::specs::ReportText::bound_text))]
-fn put_bound(text: &mut Vec<u8>, bound: Bound) -> Result<(), NoMemory>
+pub fn put_bound(text: &mut Vec<u8>, bound: Bound) -> Result<(), NoMemory>
     ensures { OnOk result (text.new.items ≡ text.old.items ++ bound_text bound) }
 {
     match bound {

@@ -1,36 +1,9 @@
-use Rattle.geoplan.specs.CommandView.{sources_view, command_view}
-use Rattle.geoplan.proofs.StandLemmas.{IsOutcomeOf-refused}
-use Rattle.geoplan.proofs.PlanOutcome.{IsOutcomeOf-plan}
-use Rattle.geoplan.proofs.RowsOutcome.{IsOutcomeOf-rows}
-use Rattle.geoplan.proofs.CheckOutcome.{IsOutcomeOf-check}
-use Rattle.geoplan.proofs.TrialOutcome.{IsOutcomeOf-trial}
+use Rattle.geoplan.specs.CommandView.{sources_view}
+use Rattle.geoplan.proofs.GenOutcome.{IsOutcomeOf-gen}
 use Rattle.geoplan.proofs.answer.answer.Goals as goal
 
-pub returns-in-Err : goal.returns-in-Err
-returns-in-Err g c =
-    IsOutcomeOf-refused (command_view c.args.command.now) c.in-Err.why (g.H.Shelf.state c.args.shelf.now) (g.H.Shelf.state c.load.new.shelf)
-    c.refuse.result.status c.refuse.result.text.items c.in-Err.ensures.fault c.refuse.ensures
-
-pub returns-in-Plan : goal.returns-in-Plan
-returns-in-Plan g c =
-    IsOutcomeOf-plan c.args.command.now.verb (sources_view c.args.command.now.sources) c.in-Ok.tables
-    (g.H.Shelf.state c.args.shelf.now) (g.H.Shelf.state c.load.new.shelf) (g.H.Shelf.state c.answer_plan.new.shelf)
-    c.answer_plan.result.status c.answer_plan.result.text.items c.in-Plan.is c.in-Ok.ensures.loaded c.answer_plan.ensures
-
-pub returns-in-Rows : goal.returns-in-Rows
-returns-in-Rows g c =
-    IsOutcomeOf-rows c.args.command.now.verb (sources_view c.args.command.now.sources) c.in-Ok.tables
-    (g.H.Shelf.state c.args.shelf.now) (g.H.Shelf.state c.load.new.shelf)
-    c.answer_rows.result.status c.answer_rows.result.text.items c.in-Rows.is c.in-Ok.ensures.loaded c.answer_rows.ensures
-
-pub returns-in-Check : goal.returns-in-Check
-returns-in-Check g c =
-    IsOutcomeOf-check c.args.command.now.verb (sources_view c.args.command.now.sources) c.in-Ok.tables
-    (g.H.Shelf.state c.args.shelf.now) (g.H.Shelf.state c.load.new.shelf) (g.H.Shelf.state c.answer_check.new.shelf)
-    c.answer_check.result.status c.answer_check.result.text.items c.in-Check.is c.in-Ok.ensures.loaded c.answer_check.ensures
-
-pub returns : goal.returns
-returns g c =
-    IsOutcomeOf-trial c.args.command.now.verb (sources_view c.args.command.now.sources) c.in-Ok.tables
-    (g.H.Shelf.state c.args.shelf.now) (g.H.Shelf.state c.load.new.shelf) (g.H.Shelf.state c.answer_script.new.shelf)
-    c.answer_script.result.status c.answer_script.result.text.items c.in-Trial.is c.in-Ok.ensures.loaded c.answer_script.ensures
+pub returns-in-Gen : goal.returns-in-Gen
+returns-in-Gen g c =
+    IsOutcomeOf-gen c.args.command.now.verb (sources_view c.args.command.now.sources)
+    (g.H.Shelf.state c.args.shelf.now) (g.H.Shelf.state c.answer_gen.new.shelf)
+    c.answer_gen.result.status c.answer_gen.result.text.items c.in-Gen.is c.answer_gen.ensures

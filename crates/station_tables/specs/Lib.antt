@@ -1,0 +1,2 @@
+pub mod StationTable
+pub mod Occupied
