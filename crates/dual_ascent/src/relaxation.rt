@@ -4,7 +4,7 @@ ghost use Rattle.std.specs.Prelude.{◌≡◌, ◌<◌, All, length};
 
 use crate::naming::is_named;
 use cut_pool::{Cut, CutPool};
-use dual_simplex::{CutMultiplier, RunEnd, Tableau};
+use dual_simplex::{RunEnd, CutMultiplier, Tableau};
 use fixed_point::{product, ratio};
 use geo_base::NoMemory;
 use geo_model::{Network, Node};
@@ -62,10 +62,9 @@ pub fn price_shift(network: &Network) -> u32
     (64 - (total >> PRICE_BITS).leading_zeros()).min(32)
 }
 
-// The price of each candidate over a power of two, in fixed point.
-fn scaled_prices(alloc: Global, network: &Network, shift: u32) -> Result<Vec<i64>, NoMemory>
-    requires { shift < 33 }
-{
+/// The price of each candidate over that power of two, in fixed point: what a tableau starts with.
+pub fn scaled_prices(alloc: Global, network: &Network) -> Result<Vec<i64>, NoMemory> {
+    let shift = price_shift(network);
     let mut prices = Vec::new(alloc);
     for candidate in network.candidates() {
         prices.push(candidate.price.wrapping_shl(32 - shift).min(1 << 60) as i64)?;
@@ -103,7 +102,7 @@ impl Relaxation {
         requires inside { length node.now.inside ≡ length network.now.candidates }
         requires upper { length node.now.upper ≡ length network.now.candidates }
     {
-        let prices = scaled_prices(alloc, network, price_shift(network))?;
+        let prices = scaled_prices(alloc, network)?;
         self.tableau.start(prices.as_slice())?;
         self.values.clear();
         self.values.resize(prices.len(), 0)?;
