@@ -1,5 +1,5 @@
-use Rattle.std.proofs.Common.{◌≡◌, ◌<◌, ℕ, zero, suc, Bool, true, false, List, [], ◌∷◌, length, arith, refl, ap, Some}
-use Rattle.std.specs.Prelude.{slice_get}
+use Rattle.std.proofs.Common.{◌≡◌, ◌<◌, ℕ, zero, suc, Bool, true, false, List, [], ◌∷◌, length, arith, refl, ap, Some, None}
+use Rattle.std.specs.Prelude.{slice_get, Option, IfNone}
 use Rattle.std.proofs.lemmas.Bool.{false≢true}
 use Rattle.geo_model.specs.Energy.{IsWithin}
 
@@ -15,3 +15,8 @@ same_plans (true ∷ inside) (true ∷ upper) within shut = ap (λ rest. true �
 same_plans (true ∷ inside) (false ∷ upper) within shut = absurd (false≢true (within.0 refl))
 same_plans (false ∷ inside) (true ∷ upper) within shut = absurd (shut zero (omega arith) refl refl)
 same_plans (false ∷ inside) (false ∷ upper) within shut = ap (λ rest. false ∷ rest) (same_plans inside upper within.1 (λ k below. shut (suc k) (omega arith)))
+
+-- what holds where there is none
+pub if_none : (P : Type 0) (found : Option ℕ) → ((x : ℕ) → found ≡ Some x → ⊥) → IfNone found P → P
+if_none P None not given = given
+if_none P (Some x) not given = absurd (not x refl)

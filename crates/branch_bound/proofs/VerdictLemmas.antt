@@ -1,5 +1,5 @@
 use Rattle.std.proofs.Common.{get_or, ◌≡◌, ◌↔◌, ◌<◌, ℕ, ℤ, Bool, true, IsTrue, List, length, refl, sym, ◌∙◌, subst, Some}
-use Rattle.std.specs.Prelude.{slice_get}
+use Rattle.std.specs.Prelude.{slice_get, IfOk, Result, Ok, Err}
 use Rattle.std.proofs.lemmas.Option.{slice_get_read, slice_get-get_or, get_or_from_slice_get}
 use Rattle.geo_model.specs.Limit.{LimitOf, IsInForce}
 use Rattle.geo_model.specs.Network.{NetworkOf}
@@ -26,15 +26,23 @@ open_by network plan number step lo hi in_force inside forced is exact =
     record { limit = named.0; named = named.1; in_force = (forced named.0 named.1).0 is; open_here = sym (exact named.0 named.1) }
 
 -- a limit refutes a node just where it is in force for the inner plan and the verdict on the upper one is Refuted
-pub refuted_when : (network : NetworkOf) (node : Node) (number : ℕ) (in_force result : Bool) (verdict : Verdict) → number < length network.limits →
+pub refuted_when : (network : NetworkOf) (node : Node) (number : ℕ) (in_force result : Bool) → number < length network.limits →
     ((l : LimitOf) → slice_get network.limits number ≡ Some l → IsTrue in_force ↔ IsInForce l node.inside) → in_force ≡ true →
-    ((l : LimitOf) → slice_get network.limits number ≡ Some l → verdict ≡ verdict_of network node.upper l) → (IsTrue result ↔ (verdict ≡ Refuted)) →
+    ((l : LimitOf) → slice_get network.limits number ≡ Some l → IsTrue result ↔ (verdict_of network node.upper l ≡ Refuted)) →
     IsTrue result ↔ IsNodeRefutedBy network node number
-refuted_when network node number in_force result verdict inside forced is exact tests =
+refuted_when network node number in_force result inside forced is exact =
     let named = limit_named network.limits number inside in (
-      λ yes. record { limit = named.0; named = named.1; owned = (forced named.0 named.1).0 is; refuted = sym (exact named.0 named.1) ∙ tests.0 yes },
-      λ refuted. tests.1 (exact refuted.limit refuted.named ∙ refuted.refuted),
+      λ yes. record { limit = named.0; named = named.1; owned = (forced named.0 named.1).0 is; refuted = (exact named.0 named.1).0 yes },
+      λ refuted. (exact refuted.limit refuted.named).1 refuted.refuted,
     )
+
+-- the same of an answer that may be refused
+pub refuted_by_verdict : {E : Type 0} (network : NetworkOf) (node : Node) (number : ℕ) (in_force : Bool) (result : Result Bool E) → number < length network.limits →
+    ((l : LimitOf) → slice_get network.limits number ≡ Some l → IsTrue in_force ↔ IsInForce l node.inside) → in_force ≡ true →
+    IfOk result (λ refuted. (l : LimitOf) → slice_get network.limits number ≡ Some l → IsTrue refuted ↔ (verdict_of network node.upper l ≡ Refuted)) →
+    IfOk result (λ refuted. IsTrue refuted ↔ IsNodeRefutedBy network node number)
+refuted_by_verdict network node number in_force (Ok refuted) inside forced is exact = refuted_when network node number in_force refuted inside forced is exact
+refuted_by_verdict network node number in_force (Err why) inside forced is exact = tt
 
 -- a node of one plan that is refuted has a limit that refutes it
 refuted_by : (network : NetworkOf) (node : Node) → node.inside ≡ node.upper → ((k : ℕ) → IsNodeRefutedBy network node k → ⊥) →

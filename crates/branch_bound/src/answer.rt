@@ -1,22 +1,22 @@
 //! The answer of a search that is over.
 ghost use Rattle.std.specs.Prelude.{◌≡◌};
-ghost use Rattle.pivot_chain.specs.Room.{IsRoomOf};
+ghost use Rattle.limit_stacks.specs.Kept.{IsVerdictsOf};
 ghost use Rattle.branch_bound.specs.Found.{IsTrueBest, IsAnswerOf};
 ghost use Rattle.branch_bound.specs.Searched.{IsUnsettled, IsFirstOpen};
 
 use crate::best::Best;
 use crate::limit_verdicts::{OpenLimit, open_limit};
 use geo_model::{Answer, Network, Plan};
-use pivot_chain::ChainRoom;
+use limit_stacks::SearchVerdicts;
 
 /// The first limit in force for an unsettled plan whose verdict is open.
-fn first_open(room: &mut ChainRoom, network: &Network, plan: &Plan) -> OpenLimit
-    requires room { IsRoomOf network.now room.old }
+fn first_open(verdicts: &mut SearchVerdicts, network: &Network, plan: &Plan) -> OpenLimit
+    requires verdicts { IsVerdictsOf network.now verdicts.old }
     requires unsettled { IsUnsettled network.now plan.now }
     ensures { IsFirstOpen network.now plan.now result.limit result.step result.lo result.hi }
 {
     for limit in 0..network.limits().len() as u32 {
-        if let Some(found) = open_limit(room, network, plan, limit) {
+        if let Some(found) = open_limit(verdicts, network, plan, limit) {
             return found;
         }
     }
@@ -24,8 +24,8 @@ fn first_open(room: &mut ChainRoom, network: &Network, plan: &Plan) -> OpenLimit
 }
 
 /// The answer that the best plan makes.
-pub fn answer_of(room: &mut ChainRoom, network: &Network, best: Best) -> Answer
-    requires room { IsRoomOf network.now room.old }
+pub fn answer_of(verdicts: &mut SearchVerdicts, network: &Network, best: Best) -> Answer
+    requires verdicts { IsVerdictsOf network.now verdicts.old }
     requires kept { IsTrueBest network.now best }
     ensures { IsAnswerOf network.now best result }
 {
@@ -33,7 +33,7 @@ pub fn answer_of(room: &mut ChainRoom, network: &Network, best: Best) -> Answer
         Best::NoPlan => Answer::NoPlan,
         Best::Certified(plan) => Answer::Best(plan),
         Best::Unsettled(plan) => {
-            let found = first_open(room, network, &plan);
+            let found = first_open(verdicts, network, &plan);
             Answer::Undecided {
                 plan,
                 limit: found.limit,

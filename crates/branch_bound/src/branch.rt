@@ -1,52 +1,63 @@
 //! The candidate on which a node is split. Any open one serves: the choice makes logs short.
-ghost use Rattle.std.specs.Prelude.{◌≡◌, ◌↔◌, ◌<◌, None, Some, true, false, slice_get, length, IsTrue, IfSome, IfNone};
-ghost use Rattle.pivot_chain.specs.Room.{IsRoomOf};
+ghost use Rattle.std.specs.Prelude.{◌≡◌, ◌↔◌, ◌<◌, None, Some, true, false, slice_get, length, IsTrue, IfOk, IfSome, IfNone};
+ghost use Rattle.limit_stacks.specs.Kept.{IsVerdictsOf};
 ghost use Rattle.bound_log.specs.LogTree.{IsOpenAt};
 ghost use Rattle.branch_bound.specs.Explored.{IsNode};
 
 use crate::choice::{Choice, better, is_open};
 use crate::missing::{Missing, unit_load};
-use geo_model::{Candidate, Limit, Network, Node, Row, Verdict};
-use pivot_chain::{ChainRoom, is_in_force, verdict};
+use geo_base::NoMemory;
+use geo_model::{Candidate, Limit, Network, Node, Row};
+use limit_stacks::SearchVerdicts;
+use pivot_chain::is_in_force;
 
 /// How much more a row counts at an unknown that the limit loads than elsewhere.
 const AT_LOADED: u128 = 1024;
 
 /// The owner of a limit, where the node leaves it open and the limit shuts it out: the upper plan is
 /// refuted on the limit.
-fn shut_owner(room: &mut ChainRoom, network: &Network, node: &Node, limit: u32) -> Option<u32>
-    requires room { IsRoomOf network.now room.old }
+fn shut_owner(
+    verdicts: &mut SearchVerdicts,
+    network: &Network,
+    node: &Node,
+    limit: u32,
+) -> Result<Option<u32>, NoMemory>
+    requires verdicts { IsVerdictsOf network.now verdicts.old }
     requires node { IsNode network.now node.now }
     requires limit { limit < length network.now.limits }
-    ensures open { IfSome result (λ candidate. IsOpenAt network.now node.now candidate) }
-    ensures room { IsRoomOf network.now room.new }
+    ensures open { IfOk result (λ found. IfSome found (λ candidate. IsOpenAt network.now node.now candidate)) }
+    ensures verdicts { IsVerdictsOf network.now verdicts.new }
 {
     let limited = &network.limits()[limit as usize];
     let Some(owner) = limited.owner else {
-        return None;
+        return Ok(None);
     };
     if !is_open(network, node, owner) {
-        return None;
+        return Ok(None);
     }
-    if verdict(room, network, &node.upper, limit) != Verdict::Refuted {
-        return None;
+    if !verdicts.is_refuted(network, &node.upper, limit)? {
+        return Ok(None);
     }
-    Some(owner)
+    Ok(Some(owner))
 }
 
 /// The first open candidate that a limit of its own shuts out of the node.
-fn shut_candidate(room: &mut ChainRoom, network: &Network, node: &Node) -> Option<u32>
-    requires room { IsRoomOf network.now room.old }
+fn shut_candidate(
+    verdicts: &mut SearchVerdicts,
+    network: &Network,
+    node: &Node,
+) -> Result<Option<u32>, NoMemory>
+    requires verdicts { IsVerdictsOf network.now verdicts.old }
     requires node { IsNode network.now node.now }
-    ensures open { IfSome result (λ candidate. IsOpenAt network.now node.now candidate) }
-    ensures room { IsRoomOf network.now room.new }
+    ensures open { IfOk result (λ found. IfSome found (λ candidate. IsOpenAt network.now node.now candidate)) }
+    ensures verdicts { IsVerdictsOf network.now verdicts.new }
 {
     for limit in 0..network.limits().len() as u32 {
-        if let Some(candidate) = shut_owner(room, network, node, limit) {
-            return Some(candidate);
+        if let Some(candidate) = shut_owner(verdicts, network, node, limit)? {
+            return Ok(Some(candidate));
         }
     }
-    None
+    Ok(None)
 }
 
 /// The better of a choice so far and those open candidates that bring energy where a limit misses it
@@ -152,31 +163,32 @@ fn weightiest(network: &Network, node: &Node, limit: &Limit) -> Option<u32>
 /// a missing energy for its price; or else, where no energy is missing at a displacement by 1 in one
 /// unknown, the one whose rows weigh most. There is none where the node has one plan alone.
 /// `none_shut` says that no limit shuts one out, where that is known, and is set where it is found so.
+/// Refused for want of memory alone.
 pub fn branch_candidate(
-    room: &mut ChainRoom,
+    verdicts: &mut SearchVerdicts,
     network: &Network,
     node: &Node,
     none_shut: &mut bool,
     limit: u32,
-) -> Option<u32>
-    requires room { IsRoomOf network.now room.old }
+) -> Result<Option<u32>, NoMemory>
+    requires verdicts { IsVerdictsOf network.now verdicts.old }
     requires node { IsNode network.now node.now }
     requires limit { limit < length network.now.limits }
-    ensures open { IfSome result (λ candidate. IsOpenAt network.now node.now candidate) }
-    ensures none { IfNone result (node.now.inside ≡ node.now.upper) }
-    ensures room { IsRoomOf network.now room.new }
+    ensures open { IfOk result (λ found. IfSome found (λ candidate. IsOpenAt network.now node.now candidate)) }
+    ensures none { IfOk result (λ found. IfNone found (node.now.inside ≡ node.now.upper)) }
+    ensures verdicts { IsVerdictsOf network.now verdicts.new }
 {
     // The child that takes a candidate which its own limit shuts out ends at once.
     if !*none_shut {
-        if let Some(candidate) = shut_candidate(room, network, node) {
-            return Some(candidate);
+        if let Some(candidate) = shut_candidate(verdicts, network, node)? {
+            return Ok(Some(candidate));
         }
         *none_shut = true;
     }
     // All limits at once, in place of the first that misses energy, take more nodes on generated
     // networks; the first unmet limit alone takes more on levelling and on distances.
     if let Some(candidate) = supplier(network, node) {
-        return Some(candidate);
+        return Ok(Some(candidate));
     }
-    weightiest(network, node, &network.limits()[limit as usize])
+    Ok(weightiest(network, node, &network.limits()[limit as usize]))
 }

@@ -2,7 +2,7 @@
 ghost use Rattle.std.specs.Prelude.{◌≡◌, ◌↔◌, ◌<◌, ℕ, length, IsTrue, IfSome, IfNone, IfOk};
 ghost use Rattle.geo_model.specs.Prices.{price_of};
 ghost use Rattle.geo_model.specs.Network.{IsNetwork};
-ghost use Rattle.pivot_chain.specs.Room.{IsRoomOf};
+ghost use Rattle.limit_stacks.specs.Kept.{IsVerdictsOf};
 ghost use Rattle.bound_log.specs.LogTree.{IsNodeRefutedBy};
 ghost use Rattle.branch_bound.specs.Cuts.{AreCutsFor, IsWritable, log_line_of};
 ghost use Rattle.branch_bound.specs.Explored.{IsNode, IsLineAt};
@@ -19,79 +19,79 @@ use crate::limit_verdicts::{is_owned_by, refutes};
 use crate::node_line::NodeLine;
 use geo_base::NoMemory;
 use geo_model::{Network, Node, Plan, cost};
-use pivot_chain::{ChainRoom, is_met};
+use limit_stacks::SearchVerdicts;
 use std::alloc::Global;
 
 /// Whether a limit refutes a node, where the node may inherit the candidate that owns each limit that does.
 fn refutes_now(
-    room: &mut ChainRoom,
+    verdicts: &mut SearchVerdicts,
     network: &Network,
     node: &Node,
     inherited: &Inherited,
     limit: u32,
-) -> bool
-    requires room { IsRoomOf network.now room.old }
+) -> Result<bool, NoMemory>
+    requires verdicts { IsVerdictsOf network.now verdicts.old }
     requires node { IsNode network.now node.now }
     requires inherited { IsInherited network.now node.now inherited.now }
     requires limit { limit < length network.now.limits }
-    ensures refuted { IsTrue result ↔ IsNodeRefutedBy network.now node.now limit }
-    ensures room { IsRoomOf network.now room.new }
+    ensures refuted { IfOk result (λ refuted. IsTrue refuted ↔ IsNodeRefutedBy network.now node.now limit) }
+    ensures verdicts { IsVerdictsOf network.now verdicts.new }
 {
     if let Some(candidate) = inherited.chosen {
         if !is_owned_by(network, limit, candidate) {
-            return false;
+            return Ok(false);
         }
     }
-    refutes(room, network, node, limit)
+    refutes(verdicts, network, node, limit)
 }
 
 /// The number of the first limit that refutes a node.
 fn refuting_limit(
-    room: &mut ChainRoom,
+    verdicts: &mut SearchVerdicts,
     network: &Network,
     node: &Node,
     inherited: &Inherited,
-) -> Option<u32>
-    requires room { IsRoomOf network.now room.old }
+) -> Result<Option<u32>, NoMemory>
+    requires verdicts { IsVerdictsOf network.now verdicts.old }
     requires node { IsNode network.now node.now }
     requires inherited { IsInherited network.now node.now inherited.now }
-    ensures found { IfSome result (λ limit. IsNodeRefutedBy network.now node.now limit) }
-    ensures none { IfNone result ((k : ℕ) → IsNodeRefutedBy network.now node.now k → ⊥) }
+    ensures found { IfOk result (λ found. IfSome found (λ limit. IsNodeRefutedBy network.now node.now limit)) }
+    ensures none { IfOk result (λ found. IfNone found ((k : ℕ) → IsNodeRefutedBy network.now node.now k → ⊥)) }
     ensures bounds { IsNetwork network.now }
-    ensures room { IsRoomOf network.now room.new }
+    ensures verdicts { IsVerdictsOf network.now verdicts.new }
 {
     for limit in 0..network.limits().len() as u32 {
-        if refutes_now(room, network, node, inherited, limit) {
-            return Some(limit);
+        if refutes_now(verdicts, network, node, inherited, limit)? {
+            return Ok(Some(limit));
         }
     }
-    None
+    Ok(None)
 }
 
 /// The number of a limit in force for a plan on which it isn't met: the one that is known already, or
 /// else the first one. There is none where the plan is certified.
 fn unmet_limit(
-    room: &mut ChainRoom,
+    verdicts: &mut SearchVerdicts,
     network: &Network,
     plan: &Plan,
     known: Option<u32>,
-) -> Option<u32>
-    requires room { IsRoomOf network.now room.old }
+) -> Result<Option<u32>, NoMemory>
+    requires verdicts { IsVerdictsOf network.now verdicts.old }
     requires plan { length plan.now ≡ length network.now.candidates }
     requires known { ForSome known (λ limit. IsUnmetAt network.now plan.now limit) }
-    ensures unmet { IfSome result (λ limit. IsUnmetAt network.now plan.now limit) }
-    ensures none { IfNone result (IsCertified network.now plan.now) }
-    ensures room { IsRoomOf network.now room.new }
+    ensures unmet { IfOk result (λ found. IfSome found (λ limit. IsUnmetAt network.now plan.now limit)) }
+    ensures none { IfOk result (λ found. IfNone found (IsCertified network.now plan.now)) }
+    ensures verdicts { IsVerdictsOf network.now verdicts.new }
 {
     if known.is_some() {
-        return known;
+        return Ok(known);
     }
     for limit in 0..network.limits().len() as u32 {
-        if !is_met(room, network, plan, limit) {
-            return Some(limit);
+        if !verdicts.is_met(network, plan, limit)? {
+            return Ok(Some(limit));
         }
     }
-    None
+    Ok(None)
 }
 
 /// Whether the best plan so far makes a certified plan of this price, or a higher one, needless: it
@@ -128,14 +128,14 @@ fn is_cheaper(network: &Network, plan: &Plan, best: &Best) -> bool
 /// and cheaper than the best one. `inherited` is what the node inherits, and takes what it finds besides.
 pub fn line_at(
     alloc: Global,
-    room: &mut ChainRoom,
+    verdicts: &mut SearchVerdicts,
     network: &Network,
     node: &Node,
     inherited: &mut Inherited,
     best: &mut Best,
     cuts: &mut Cuts,
 ) -> Result<NodeLine, NoMemory>
-    requires room { IsRoomOf network.now room.old }
+    requires verdicts { IsVerdictsOf network.now verdicts.old }
     requires node { IsNode network.now node.now }
     requires inherited { IsInherited network.now node.now inherited.old }
     requires kept { IsTrueBest network.now best.old }
@@ -143,7 +143,7 @@ pub fn line_at(
     ensures line { IfOk result (λ line. IsLineAt network.now node.now best.old best.new (log_line_of cuts.new line)) }
     ensures writable { IfOk result (IsWritable cuts.new) }
     ensures inherited { ForSome inherited.new.unmet (λ limit. IsUnmetAt network.now node.now.inside limit) }
-    ensures room { IsRoomOf network.now room.new }
+    ensures verdicts { IsVerdictsOf network.now verdicts.new }
     ensures cuts { cuts.new ≡ cuts.old }
 {
     // The price is asked first, since it needs no verdict. The log is no longer for it: both answers
@@ -160,10 +160,10 @@ pub fn line_at(
     if let Some(share) = cuts.dear_share(network, node, best) {
         return Ok(NodeLine::UnitDual(share));
     }
-    if let Some(limit) = refuting_limit(room, network, node, inherited) {
+    if let Some(limit) = refuting_limit(verdicts, network, node, inherited)? {
         return Ok(NodeLine::Pivot(limit));
     }
-    let Some(limit) = unmet_limit(room, network, &node.inside, inherited.unmet) else {
+    let Some(limit) = unmet_limit(verdicts, network, &node.inside, inherited.unmet)? else {
         *best = Best::Certified(node.inside.copy(alloc)?);
         return Ok(NodeLine::Cost);
     };
@@ -172,12 +172,12 @@ pub fn line_at(
         return Ok(NodeLine::Dual(dual));
     }
     if let Some(candidate) = branch_candidate(
-        room,
+        verdicts,
         network,
         node,
         &mut inherited.none_shut,
         limit,
-    ) {
+    )? {
         return Ok(NodeLine::Split(candidate));
     }
     // An unsettled plan is offered only where it is its node's only one. At equal price the first one

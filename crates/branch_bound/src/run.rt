@@ -1,7 +1,7 @@
 //! The search over the tree of nodes.
 ghost use Rattle.std.specs.Prelude.{◌≡◌, Some, OnOk, IfErr, IfOk};
 ghost use Rattle.geo_model.specs.Network.{IsNetwork};
-ghost use Rattle.pivot_chain.specs.Room.{IsRoomOf};
+ghost use Rattle.limit_stacks.specs.Kept.{IsVerdictsOf};
 ghost use Rattle.bound_log.specs.Counted.{no_counts};
 ghost use Rattle.bound_log.specs.LogText.{head_text};
 ghost use Rattle.branch_bound.specs.Cuts.{AreCutsFor};
@@ -21,41 +21,41 @@ use bound_log::put_head;
 use geo_base::NoMemory;
 use geo_model::{Counts, Network, Node, SearchDone};
 use greedy_start::start;
-use pivot_chain::ChainRoom;
+use limit_stacks::SearchVerdicts;
 use shelf_io::Shelf;
 use std::alloc::Global;
 
-/// What a search has found so far: the best plan and the lines counted, with room for the next line
-/// and for verdicts, and the cuts that it tries.
+/// What a search has found so far: the best plan and the lines counted, with room for the next line,
+/// and the verdicts and the cuts that it asks.
 #[derive(Drop)]
 struct Findings {
     best: Best,
     counts: Counts,
     buffer: Vec<u8>,
-    room: ChainRoom,
+    verdicts: SearchVerdicts,
     cuts: Cuts,
 }
 
 impl Findings {
     /// What a search begins with: a best plan, and no line.
-    fn new(alloc: Global, room: ChainRoom, cuts: Cuts, best: Best) -> Findings
+    fn new(alloc: Global, verdicts: SearchVerdicts, cuts: Cuts, best: Best) -> Findings
         ensures best { result.best ≡ best }
         ensures counts { result.counts ≡ no_counts }
-        ensures room { result.room ≡ room }
+        ensures verdicts { result.verdicts ≡ verdicts }
         ensures cuts { result.cuts ≡ cuts }
     {
         Findings {
             best,
             counts: Counts::none(),
             buffer: Vec::new(alloc),
-            room,
+            verdicts,
             cuts,
         }
     }
 
     /// The answer of a search that is over.
     fn done(self, network: &Network) -> SearchDone
-        requires room { IsRoomOf network.now self.room }
+        requires verdicts { IsVerdictsOf network.now self.verdicts }
         requires kept { IsTrueBest network.now self.best }
         ensures answer { IsAnswerOf network.now self.best result.answer }
         ensures counts { result.counts ≡ self.counts }
@@ -63,10 +63,10 @@ impl Findings {
         let Findings {
             best,
             counts,
-            mut room,
+            mut verdicts,
             ..
         } = self;
-        let answer = answer_of(&mut room, network, best);
+        let answer = answer_of(&mut verdicts, network, best);
         SearchDone { answer, counts }
     }
 }
@@ -84,14 +84,14 @@ fn explore<H: Shelf>(
     requires started { (H.state shelf.old).started ≡ Some name.now }
     requires node { IsNode network.now node.old }
     requires inherited { IsInherited network.now node.old inherited }
-    requires room { IsRoomOf network.now findings.old.room }
+    requires verdicts { IsVerdictsOf network.now findings.old.verdicts }
     requires kept { IsTrueBest network.now findings.old.best }
     requires cuts { AreCutsFor network.now findings.old.cuts }
     ensures explored { OnOk result (Explores network.now node.old name.now
         findings.old.best findings.new.best findings.old.counts findings.new.counts (H.state shelf.old)
         (H.state shelf.new)) }
     ensures node { OnOk result (node.new ≡ node.old) }
-    ensures room { OnOk result (IsRoomOf network.now findings.new.room) }
+    ensures verdicts { OnOk result (IsVerdictsOf network.now findings.new.verdicts) }
     ensures cuts { OnOk result (AreCutsFor network.now findings.new.cuts) }
     ensures refused { IfErr result (λ why. BreaksTree network.now node.old name.now why (H.state shelf.old)
         (H.state shelf.new)) }
@@ -99,7 +99,7 @@ fn explore<H: Shelf>(
     let mut inherited = inherited;
     let line = line_at(
         alloc,
-        &mut findings.room,
+        &mut findings.verdicts,
         network,
         node,
         &mut inherited,
@@ -153,6 +153,22 @@ fn first_plan(alloc: Global, network: &Network) -> Result<Best, NoMemory>
     }
 }
 
+/// The verdicts that a search begins with: its first plan is a witness of the limits in force for it.
+fn first_verdicts(
+    alloc: Global,
+    network: &Network,
+    first: &Best,
+) -> Result<SearchVerdicts, NoMemory>
+    requires { IsStart network.now first.now }
+    ensures { IfOk result (IsVerdictsOf network.now) }
+{
+    let mut verdicts = SearchVerdicts::new(alloc, network)?;
+    if let Best::Certified(plan) = first {
+        verdicts.keep_certified(network, plan)?;
+    }
+    Ok(verdicts)
+}
+
 /// Writes the first line of a log. `buffer` is room for its bytes.
 fn begin_log<H: Shelf>(shelf: &mut H, name: &str, buffer: &mut Vec<u8>) -> Result<(), SearchFault>
     requires { (H.state shelf.old).started ≡ Some name.now }
@@ -190,10 +206,10 @@ pub fn search<H: Shelf>(
     ensures refused { IfErr result (λ why. BreaksLog network.now name.now why (H.state shelf.old) (H.state shelf.new)) }
 {
     let mut node = Node::whole(alloc, network.candidates().len() as u32)?;
-    let room = ChainRoom::new(alloc, network)?;
     let cuts = Cuts::of_units(alloc, network)?;
     let first = first_plan(alloc, network)?;
-    let mut findings = Findings::new(alloc, room, cuts, first);
+    let verdicts = first_verdicts(alloc, network, &first)?;
+    let mut findings = Findings::new(alloc, verdicts, cuts, first);
     begin_log(shelf, name, &mut findings.buffer)?;
     let inherited = Inherited {
         chosen: None,

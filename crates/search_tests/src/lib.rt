@@ -27,6 +27,8 @@ mod plans;
 #[cfg(test)]
 mod replays;
 #[cfg(test)]
+mod search_verdicts;
+#[cfg(test)]
 mod searches;
 #[cfg(test)]
 mod stacks;

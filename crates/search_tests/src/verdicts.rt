@@ -23,7 +23,7 @@ fn judged(room: &mut ChainRoom, network: &Network, plan: &Plan, limit: u32) -> V
 }
 
 // The plan of so many candidates but for one, where one is left out.
-fn plan_without(
+pub fn plan_without(
     rt: &impl Abort,
     alloc: Global,
     count: u32,

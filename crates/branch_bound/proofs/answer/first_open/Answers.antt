@@ -9,7 +9,7 @@ returns-in-Some c =
 
 pub loop-limit-preserved : goal.loop-limit-preserved
 loop-limit-preserved c = record {
-  room = c.open_limit.ensures.room;
+  verdicts = c.open_limit.ensures.verdicts;
   none = below_more _ _ c.loop-limit.invariant.none c.in_default.ensures.none;
 }
 

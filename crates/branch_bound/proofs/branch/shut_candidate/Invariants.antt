@@ -1,5 +1,5 @@
-use Rattle.pivot_chain.specs.Room.{IsRoomOf}
+use Rattle.limit_stacks.specs.Kept.{IsVerdictsOf}
 use Rattle.branch_bound.proofs.branch.shut_candidate.Given as goal
 
 abbrev pub invariant-loop-limit : goal.invariant-loop-limit
-invariant-loop-limit l = IsRoomOf l.fn.network l.room
+invariant-loop-limit l = IsVerdictsOf l.fn.network l.verdicts

@@ -1,4 +1,4 @@
-use Rattle.std.proofs.Common.{refl, [], ◌∷◌}
+use Rattle.std.proofs.Common.{◌≡◌, ℕ, refl, [], ◌∷◌}
 use Rattle.std.proofs.lemmas.Bool.{iff_false}
 use Rattle.bound_log.specs.LogTree.{leaf_bound_for}
 use Rattle.std.specs.Prelude.{slice_get}
@@ -14,6 +14,10 @@ use Rattle.branch_bound.proofs.DearLemmas.{above_past, not_idle, unit_allowed, u
 use Rattle.branch_bound.specs.Cuts.{unit_text}
 use Rattle.branch_bound.proofs.VerdictLemmas.{unsettled_by}
 use Rattle.branch_bound.proofs.DoneLemmas.{IsDone-cut_off, IsDone-past, IsDone-broken, IsDone-refuted, IsDone-certified, IsDone-unsettled, IsDone-undercut}
+use Rattle.bound_log.specs.LogTree.{IsOpenAt, IsNodeRefutedBy}
+use Rattle.branch_bound.specs.Searched.{IsCertified}
+use Rattle.branch_bound.specs.Inherited.{IsUnmetAt}
+use Rattle.branch_bound.proofs.NodeLemmas.{if_none}
 use Rattle.branch_bound.proofs.node_judgements.line_at.Goals as goal
 
 pub returns-then-is_cut_off-clause-line : goal.returns-then-is_cut_off-clause-line
@@ -43,50 +47,64 @@ returns-in-Some-dear_share-clause-line c =
     }
 
 pub returns-in-Some-2-clause-line : goal.returns-in-Some-2-clause-line
+unfolding leaf_bound_for
 returns-in-Some-2-clause-line c =
-    let off = rw c.in-Some-2.is at c.in_ok-dual.ensures.found in
-    let past : CutsOff c.args.network.now c.args.node.now c.args.best.now c.first_broken.new.self.pool c.in-Some-2.dual.d c.in-Some-2.dual.shares.items = off in
+    let refuted : IsNodeRefutedBy c.args.network.now c.args.node.now c.in-Some-2.limit = rw c.in-Some-2.is at c.in_ok-limit.ensures.found in
     record {
-      allowed = past.allowed;
-      done = IsDone-past c.args.network.now c.args.node.now (Dual c.in-Some-2.dual.d (texts_of_shares c.first_broken.new.self.pool c.in-Some-2.dual.shares.items)) past.price c.args.best.now c.first_broken.ensures.bounds c.requires.kept past.allowed past.bound past.past;
+      allowed = pivot_allowed c.args.network.now c.args.node.now c.in-Some-2.limit refuted;
+      done = IsDone-refuted c.args.network.now c.args.node.now c.in-Some-2.limit c.args.best.now c.first_broken.ensures.bounds c.requires.kept refuted;
     }
 
-pub returns-in-Some-branch_candidate-clause-line : goal.returns-in-Some-branch_candidate-clause-line
-returns-in-Some-branch_candidate-clause-line c = (
-  c.in-Some-branch_candidate.ensures.open,
-  refl,
-  c.in_default-refuting_limit.ensures.none,
-  not_idle c.args.network.now c.args.node.now c.args.best.now (iff_false c.is_cut_off.ensures c.if-is_cut_off.false) c.in_default-refuting_limit.ensures.none c.in_default-dear_share.ensures.none,
-)
-
-pub returns-in-Some-refuting_limit-clause-line : goal.returns-in-Some-refuting_limit-clause-line
+pub returns-in_default-3-clause-line : goal.returns-in_default-3-clause-line
 unfolding leaf_bound_for
-returns-in-Some-refuting_limit-clause-line c = record {
-  allowed = pivot_allowed c.args.network.now c.args.node.now c.in-Some-refuting_limit.limit c.in-Some-refuting_limit.ensures.found;
-  done = IsDone-refuted c.args.network.now c.args.node.now c.in-Some-refuting_limit.limit c.args.best.now c.in-Some-refuting_limit.ensures.bounds c.requires.kept c.in-Some-refuting_limit.ensures.found;
-}
+returns-in_default-3-clause-line c =
+    let certified : IsCertified c.args.network.now c.args.node.now.inside = if_none (IsCertified c.args.network.now c.args.node.now.inside) c.in_ok-limit-2.field-0 c.in_default-3.not-Some c.in_ok-limit-2.ensures.none in
+    record {
+      allowed = cost_allowed c.args.network.now c.args.node.now;
+      done = IsDone-certified c.args.network.now c.args.node.now c.args.best.now c.in_ok-copy.field-0 c.in_ok-copy.ensures certified (iff_false c.is_cut_off.ensures c.if-is_cut_off.false);
+    }
 
-pub returns-in_default-unmet_limit-clause-line : goal.returns-in_default-unmet_limit-clause-line
-unfolding leaf_bound_for
-returns-in_default-unmet_limit-clause-line c = record {
-  allowed = cost_allowed c.args.network.now c.args.node.now;
-  done = IsDone-certified c.args.network.now c.args.node.now c.args.best.now c.in_ok-copy.field-0 c.in_ok-copy.ensures c.in_default-unmet_limit.ensures.none (iff_false c.is_cut_off.ensures c.if-is_cut_off.false);
-}
+pub returns-in-Some-4-clause-line : goal.returns-in-Some-4-clause-line
+returns-in-Some-4-clause-line c =
+    let off = rw c.in-Some-4.is at c.in_ok-dual.ensures.found in
+    let past : CutsOff c.args.network.now c.args.node.now c.args.best.now c.dear_share.new.self.pool c.in-Some-4.dual.d c.in-Some-4.dual.shares.items = off in
+    record {
+      allowed = past.allowed;
+      done = IsDone-past c.args.network.now c.args.node.now (Dual c.in-Some-4.dual.d (texts_of_shares c.dear_share.new.self.pool c.in-Some-4.dual.shares.items)) past.price c.args.best.now c.first_broken.ensures.bounds c.requires.kept past.allowed past.bound past.past;
+    }
+
+pub returns-in-Some-5-clause-line : goal.returns-in-Some-5-clause-line
+returns-in-Some-5-clause-line c =
+    let none : (k : ℕ) → IsNodeRefutedBy c.args.network.now c.args.node.now k → ⊥ = if_none ((k : ℕ) → IsNodeRefutedBy c.args.network.now c.args.node.now k → ⊥) c.in_ok-limit.field-0 c.in_default-2.not-Some c.in_ok-limit.ensures.none in
+    let is_open : IsOpenAt c.args.network.now c.args.node.now c.in-Some-5.candidate = rw c.in-Some-5.is at c.in_ok-candidate.ensures.open in (
+      is_open,
+      refl,
+      none,
+      not_idle c.args.network.now c.args.node.now c.args.best.now (iff_false c.is_cut_off.ensures c.if-is_cut_off.false) none c.in_default-dear_share.ensures.none,
+    )
 
 pub returns-clause-line : goal.returns-clause-line
 unfolding leaf_bound_for
-returns-clause-line c = record {
-  allowed = cost_allowed c.args.network.now c.args.node.now;
-  done = IsDone-unsettled c.args.network.now c.args.node.now c.args.best.now c.in_ok-copy-2.field-0 c.in_ok-copy-2.ensures c.in_default-branch_candidate.ensures.none
-      (unsettled_by c.args.network.now c.args.node.now c.in-Some-unmet_limit.limit c.requires.node c.in_default-branch_candidate.ensures.none c.in_default-refuting_limit.ensures.none c.in-Some-unmet_limit.ensures.unmet.unmet)
-      (iff_false c.is_cut_off.ensures c.if-is_cut_off.false);
-}
+returns-clause-line c =
+    let none : (k : ℕ) → IsNodeRefutedBy c.args.network.now c.args.node.now k → ⊥ = if_none ((k : ℕ) → IsNodeRefutedBy c.args.network.now c.args.node.now k → ⊥) c.in_ok-limit.field-0 c.in_default-2.not-Some c.in_ok-limit.ensures.none in
+    let unmet : IsUnmetAt c.args.network.now c.args.node.now.inside c.in-Some-3.limit = rw c.in-Some-3.is at c.in_ok-limit-2.ensures.unmet in
+    let one : c.args.node.now.inside ≡ c.args.node.now.upper = if_none (c.args.node.now.inside ≡ c.args.node.now.upper) c.in_ok-candidate.field-0 c.in_default-5.not-Some c.in_ok-candidate.ensures.none in
+    record {
+      allowed = cost_allowed c.args.network.now c.args.node.now;
+      done = IsDone-unsettled c.args.network.now c.args.node.now c.args.best.now c.in_ok-copy-2.field-0 c.in_ok-copy-2.ensures one
+          (unsettled_by c.args.network.now c.args.node.now c.in-Some-3.limit c.requires.node one none unmet.unmet)
+          (iff_false c.is_cut_off.ensures c.if-is_cut_off.false);
+    }
 
 pub returns-then-not-is_cheaper-clause-line : goal.returns-then-not-is_cheaper-clause-line
 unfolding leaf_bound_for
-returns-then-not-is_cheaper-clause-line c = record {
-  allowed = cost_allowed c.args.network.now c.args.node.now;
-  done = IsDone-undercut c.args.network.now c.args.node.now c.args.best.now c.requires.kept c.in_default-branch_candidate.ensures.none
-      (unsettled_by c.args.network.now c.args.node.now c.in-Some-unmet_limit.limit c.requires.node c.in_default-branch_candidate.ensures.none c.in_default-refuting_limit.ensures.none c.in-Some-unmet_limit.ensures.unmet.unmet)
-      (iff_false c.is_cheaper.ensures c.if-not-is_cheaper.true);
-}
+returns-then-not-is_cheaper-clause-line c =
+    let none : (k : ℕ) → IsNodeRefutedBy c.args.network.now c.args.node.now k → ⊥ = if_none ((k : ℕ) → IsNodeRefutedBy c.args.network.now c.args.node.now k → ⊥) c.in_ok-limit.field-0 c.in_default-2.not-Some c.in_ok-limit.ensures.none in
+    let unmet : IsUnmetAt c.args.network.now c.args.node.now.inside c.in-Some-3.limit = rw c.in-Some-3.is at c.in_ok-limit-2.ensures.unmet in
+    let one : c.args.node.now.inside ≡ c.args.node.now.upper = if_none (c.args.node.now.inside ≡ c.args.node.now.upper) c.in_ok-candidate.field-0 c.in_default-5.not-Some c.in_ok-candidate.ensures.none in
+    record {
+      allowed = cost_allowed c.args.network.now c.args.node.now;
+      done = IsDone-undercut c.args.network.now c.args.node.now c.args.best.now c.requires.kept one
+          (unsettled_by c.args.network.now c.args.node.now c.in-Some-3.limit c.requires.node one none unmet.unmet)
+          (iff_false c.is_cheaper.ensures c.if-not-is_cheaper.true);
+    }

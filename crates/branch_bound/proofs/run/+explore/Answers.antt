@@ -37,7 +37,7 @@ returns-in_default g t c = record {
       (g.H.Shelf.state c.write_line.new.shelf)
       (log_line_of c.line_at.new.cuts c.in_ok-line.line) c.in_ok-line.ensures.line (unsplit_line c.line_at.new.cuts c.in_ok-line.line c.in_default.ensures.none) c.in_ok-write_line.ensures.added c.in_ok-write_line.ensures.counted;
   node = refl;
-  room = c.in_ok-line.ensures.room;
+  verdicts = c.in_ok-line.ensures.verdicts;
   cuts = cuts_kept c.args.network.now c.args.findings.now.cuts c.line_at.new.cuts (search rules) c.in_ok-line.ensures.cuts;
   refused = tt;
 }
@@ -64,7 +64,7 @@ explore-requires g t c κs within =
     let inherited = IsInherited-same c.args.network.now (with_chosen c.args.node.now c.in-Some.candidate) (record { inside = c.set.new.self; upper = c.args.node.now.upper }) (record { chosen = Some c.in-Some.candidate; none_shut = c.line_at.new.inherited.none_shut; unmet = None }) first
     (IsInherited-with c.args.network.now c.args.node.now c.in-Some.candidate c.line_at.new.inherited.none_shut
     (unrefuted-line c.args.network.now c.args.node.now c.args.findings.now.best c.line_at.new.best line c.in-Some.candidate split c.in_ok-line.ensures.line)) in
-    (search rules, (within, (c.in_ok-write_line.ensures.added.started, (child, (inherited, (c.in_ok-line.ensures.room, (kept, cuts_kept c.args.network.now c.args.findings.now.cuts c.line_at.new.cuts cuts c.in_ok-line.ensures.cuts)))))))
+    (search rules, (within, (c.in_ok-write_line.ensures.added.started, (child, (inherited, (c.in_ok-line.ensures.verdicts, (kept, cuts_kept c.args.network.now c.args.findings.now.cuts c.line_at.new.cuts cuts c.in_ok-line.ensures.cuts)))))))
 
 pub explore-requires-2 : goal.explore-requires-2
 explore-requires-2 g t c κs within =
@@ -84,7 +84,7 @@ explore-requires-2 g t c κs within =
     IsNode-same c.args.network.now (without_chosen c.args.node.now c.in-Some.candidate) (record { inside = c.set-2.new.self; upper = c.set-3.new.self }) second (IsNode-without c.args.network.now c.args.node.now c.in-Some.candidate node is_open) in
     let inherited = IsInherited-same c.args.network.now (without_chosen c.args.node.now c.in-Some.candidate) (record { inside = c.set-2.new.self; upper = c.set-3.new.self }) (record { chosen = None; none_shut = false; unmet = c.line_at.new.inherited.unmet }) second
     (IsInherited-without c.args.network.now c.args.node.now c.in-Some.candidate c.line_at.new.inherited.unmet c.line_at.ensures.inherited) in
-    (search rules, (within, (c.in_ok-explore.ensures.explored.added.started, (child, (inherited, (c.in_ok-explore.ensures.room, (c.in_ok-explore.ensures.explored.done.kept, c.in_ok-explore.ensures.cuts)))))))
+    (search rules, (within, (c.in_ok-explore.ensures.explored.added.started, (child, (inherited, (c.in_ok-explore.ensures.verdicts, (c.in_ok-explore.ensures.explored.done.kept, c.in_ok-explore.ensures.cuts)))))))
 
 pub returns-in_err-explore-clause-refused : goal.returns-in_err-explore-clause-refused
 returns-in_err-explore-clause-refused g t c =

@@ -14,9 +14,9 @@ returns-in_err-node-clause-refused g c =
     (BreaksLog-nothing c.args.network.now c.args.name.now (g.H.Shelf.state c.args.shelf.now)
     (λ files held. g.met.H.Shelf.started_is_held c.args.shelf.now files c.args.name.now held c.requires.started))
 
-pub returns-in_err-room-clause-refused : goal.returns-in_err-room-clause-refused
-returns-in_err-room-clause-refused g c =
-    let p = err_from_is_err_and c.from_residual-in_err-room.result c.from_residual-in_err-room.ensures.1 in
+pub returns-in_err-verdicts-clause-refused : goal.returns-in_err-verdicts-clause-refused
+returns-in_err-verdicts-clause-refused g c =
+    let p = err_from_is_err_and c.from_residual-in_err-verdicts.result c.from_residual-in_err-verdicts.ensures.1 in
     rw (p.1, p.2)
     (BreaksLog-nothing c.args.network.now c.args.name.now (g.H.Shelf.state c.args.shelf.now)
     (λ files held. g.met.H.Shelf.started_is_held c.args.shelf.now files c.args.name.now held c.requires.started))
