@@ -53,7 +53,7 @@ fn network_of(alloc: Global, request: &Request<'_>) -> Result<Network, InputRefu
     }
 }
 
-// Appends the verdicts of each plan of a text.
+// Appends the verdicts of each plan of a text, in a room of their own.
 fn put_plans(
     alloc: Global,
     network: &Network,
@@ -64,13 +64,29 @@ fn put_plans(
     ensures lines { OnOk result (out.new.items ≡ out.old.items ++ plans_lines network.now plans.now) }
     ensures refused { IfErr result (RefusesPlans (length network.now.candidates) plans.now) }
 {
-    let m = network.candidates().len() as u32;
     let Ok(mut room) = ChainRoom::new(alloc, network) else {
         return Err(InputRefusal::NoMemory);
     };
+    put_plans_over(alloc, &mut room, network, plans, times, out)
+}
+
+// Appends the verdicts of each plan of a text, over a lent room.
+fn put_plans_over(
+    alloc: Global,
+    room: &mut ChainRoom,
+    network: &Network,
+    plans: &[u8],
+    times: u32,
+    out: &mut Vec<u8>,
+) -> Result<(), InputRefusal>
+    requires { IsRoomOf network.now room.old }
+    ensures lines { OnOk result (out.new.items ≡ out.old.items ++ plans_lines network.now plans.now) }
+    ensures refused { IfErr result (RefusesPlans (length network.now.candidates) plans.now) }
+{
+    let m = network.candidates().len() as u32;
     for line in lines(plans) {
         let plan = read_plan(alloc, line.text, m)?;
-        let Ok(()) = put_verdicts(out, &mut room, network, &plan, times) else {
+        let Ok(()) = put_verdicts(out, room, network, &plan, times) else {
             return Err(InputRefusal::NoMemory);
         };
     }

@@ -2,7 +2,7 @@ use Rattle.std.proofs.Common.{◌≡◌, ◌++◌, length}
 use Rattle.lent_parts.specs.Pieces.{lines_of}
 use Rattle.pivot_chain.specs.Room.{IsRoomOf}
 use Rattle.verdict_cli.specs.Answer.{are_plans, lines_for, plans_lines}
-use Rattle.verdict_cli.proofs.answer.put_plans.Given as goal
+use Rattle.verdict_cli.proofs.answer.put_plans_over.Given as goal
 
 abbrev pub invariant-loop-line : goal.invariant-loop-line
 invariant-loop-line l = record {
