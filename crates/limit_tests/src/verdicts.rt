@@ -38,6 +38,23 @@ fn plan_without(
     Ok(plan)
 }
 
+// Asserts the verdict of a plan on a limit, twice in the same room.
+fn expect_twice(
+    rt: &impl Abort,
+    room: &mut ChainRoom,
+    network: &Network,
+    plan: &Plan,
+    limit: u32,
+    expected: Verdict,
+)
+    requires room { IsRoomOf network.now room.old }
+    requires plan { length plan.now ≡ length network.now.candidates }
+    requires limit { limit < length network.now.limits }
+{
+    assert_eq!(rt; judged(room, network, plan, limit), expected);
+    assert_eq!(rt; judged(room, network, plan, limit), expected);
+}
+
 // Asserts the verdict on a limit under the plan of all candidates but for one, twice in the same room.
 fn expect_verdict(
     rt: &impl Abort,
@@ -50,8 +67,7 @@ fn expect_verdict(
     let count = network.candidates().len() as u32;
     let plan = plan_without(rt, alloc, count, left_out)?;
     let mut room = ChainRoom::new(alloc, network)?;
-    assert_eq!(rt; judged(&mut room, network, &plan, limit), expected);
-    assert_eq!(rt; judged(&mut room, network, &plan, limit), expected);
+    expect_twice(rt, &mut room, network, &plan, limit, expected);
     Ok(())
 }
 
