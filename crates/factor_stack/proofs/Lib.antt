@@ -3,6 +3,7 @@ pub mod StopReads
 pub mod ChainImages
 pub mod CarriedRows
 pub mod Running
+pub mod Counted
 pub mod Stacks
 pub mod Verdicts
 pub mod FirstPlaces

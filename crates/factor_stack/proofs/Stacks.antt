@@ -1,5 +1,5 @@
 -- A stack whose changes come and go.
-use Rattle.std.proofs.Common.{◌≡◌, ℕ, suc, ◌<◌, List, [], ◌∷◌, ◌++◌, length, refl, sym, ◌∙◌, ap, subst, arith, length-append, length-set, take}
+use Rattle.std.proofs.Common.{◌≡◌, ℕ, suc, ◌+◌, ◌<◌, ℤ, List, [], ◌∷◌, ◌++◌, length, refl, sym, ◌∙◌, ap, subst, arith, length-append, length-set, take}
 use Rattle.std.specs.Prelude.{All, reverse, Some, IfSome, slice_get, option_to_list}
 use Rattle.std.proofs.lemmas.List.{length-reverse, reverse-append, length-take-le}
 use Rattle.std.proofs.lemmas.Grind.{reverse_onto}
@@ -11,7 +11,7 @@ use Rattle.factor_stack.specs.declared.held.Held.{Held}
 use Rattle.factor_stack.specs.declared.held.Saved.{Saved}
 use Rattle.factor_stack.specs.declared.chain.Chain.{Chain}
 use Rattle.factor_stack.specs.declared.run.GridRows.{GridRows}
-use Rattle.factor_stack.specs.Stored.{images_before, held_image, taken_back, put_chain, IsHeldChain, IsSavedChain, IsSaved}
+use Rattle.factor_stack.specs.Stored.{images_before, held_image, taken_back, put_chain, IsHeldChain, IsSavedChain, IsSaved, AreCounted}
 use Rattle.factor_stack.specs.Stack.{StackOf, IsImage, IsStackOf, IsKeptStack}
 
 -- ---- the number of changes
@@ -31,6 +31,12 @@ put_kept n first chain saved held kept =
     let some = length-take-le first chain.rows (omega arith) in
     record { places = omega arith; stop = kept.stop }
 
+put_long : (n first : ℕ) (gaps saved : List (List ℤ)) → length gaps ≡ n → first + length saved ≡ n → length (take first gaps ++ saved) ≡ n
+put_long n first gaps saved long room =
+    let all = length-append (take first gaps) saved in
+    let some = length-take-le first gaps (omega arith) in
+    omega arith
+
 pub kept_back : (n : ℕ) (held : Held) (room : GridRows) (saves rest : List Saved) (saved : Saved) → IsKeptStack n held room saves → saves ≡ rest ++ option_to_list (Some saved)
     → IsKeptStack n (taken_back held saved) room rest
 kept_back n held room saves rest saved kept e =
@@ -43,10 +49,13 @@ kept_back n held room saves rest saved kept e =
       held_rows = record {
         lower = put_kept n saved.first held.factors.lower saved.factors.lower kept.held_rows.lower one.lower;
         upper = put_kept n saved.first held.factors.upper saved.factors.upper kept.held_rows.upper one.upper;
+        lower_gaps = put_long n saved.first held.factors.lower_gaps saved.factors.lower_gaps kept.held_rows.lower_gaps one.lower_gaps;
+        upper_gaps = put_long n saved.first held.factors.upper_gaps saved.factors.upper_gaps kept.held_rows.upper_gaps one.upper_gaps;
       };
       room_rows = kept.room_rows;
       few = omega arith;
       each = subst (λ k. All (IsSaved n k) rest) (sym (length-set held.plan saved.candidate saved.chosen)) both.0;
+      counted = (subst (AreCounted n held) (ap reverse e ∙ reverse-append rest (saved ∷ [])) kept.counted).1;
     }
 
 pub undone : (network : NetworkOf) (old new : StackOf) → old.before ≡ new.before ++ new.now ∷ [] → new.limit ≡ old.limit → new.normal ≡ old.normal → new.grid ≡ old.grid

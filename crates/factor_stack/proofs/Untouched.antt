@@ -7,6 +7,7 @@ use Rattle.std.proofs.lemmas.List.Sums.{prefix_len_passes}
 use Rattle.std.proofs.lemmas.Option.{get_or_from_slice_get}
 use Rattle.whole_algebra.specs.Sums.{int_sum_by}
 use Rattle.whole_algebra.proofs.Ring.{mul_zero}
+use Rattle.whole_algebra.proofs.Sizes.{or_parts}
 use Rattle.geo_model.specs.Row.{Entries, RowOf}
 use Rattle.geo_model.specs.Candidate.{CandidateOf}
 use Rattle.geo_model.specs.Limit.{LimitOf}
@@ -14,15 +15,14 @@ use Rattle.geo_model.specs.Network.{NetworkOf}
 use Rattle.normal_matrix.specs.Entries.{coefficient, row_entry, normal_entry}
 use Rattle.normal_matrix.proofs.PlanSteps.{part_entry, normal_entry-set}
 use Rattle.limit_forms.specs.Grid.{has_column, order_of, AgreeOnFirst}
-use Rattle.chain_step.proofs.RowLaws.{parts}
 use Rattle.factor_stack.specs.Image.{touches, first_place}
 
 -- a form without an entry at an unknown has the coefficient 0 there
 no_coefficient : (entries : Entries) (unknown : ℕ) → has_column entries unknown ≡ false → coefficient entries unknown ≡ pos 0
 no_coefficient [] unknown e = refl
 no_coefficient (entry ∷ rest) unknown e =
-    let here = (parts (entry.0 == unknown) (has_column rest unknown) e).0 in
-    let later = no_coefficient rest unknown (parts (entry.0 == unknown) (has_column rest unknown) e).1 in
+    let here = (or_parts (entry.0 == unknown) (has_column rest unknown) e).0 in
+    let later = no_coefficient rest unknown (or_parts (entry.0 == unknown) (has_column rest unknown) e).1 in
     ap₂ (λ a b. a +ℤ b) (ap (λ (b : Bool). entry.1 *ℤ (if b then pos 1 else pos 0)) here ∙ mul_zero entry.1) later
 
 zero_times : (z : ℤ) → pos 0 *ℤ z ≡ pos 0
@@ -36,7 +36,7 @@ no_row_entry row unknown j e =
 no_rows : (rows : List RowOf) (unknown j : ℕ) → list_any (λ row. has_column row.entries unknown) rows ≡ false → int_sum_by (λ row. row_entry row unknown j) rows ≡ pos 0
 no_rows [] unknown j e = refl
 no_rows (row ∷ rest) unknown j e =
-    let both = parts (has_column row.entries unknown) (list_any (λ r. has_column r.entries unknown) rest) e in
+    let both = or_parts (has_column row.entries unknown) (list_any (λ r. has_column r.entries unknown) rest) e in
     ap₂ (λ a b. a +ℤ b) (no_row_entry row unknown j both.0) (no_rows rest unknown j both.1)
 
 -- a candidate adds nothing to the row of an unknown that it doesn't touch

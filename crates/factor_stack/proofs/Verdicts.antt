@@ -20,7 +20,7 @@ use Rattle.pivot_chain.proofs.ChainSteps.{outcome_open, pivot_read}
 use Rattle.pivot_chain.proofs.Judged.{step_range, tall_lower, tall_upper}
 use Rattle.factor_stack.specs.declared.chain.Chain.{Chain}
 use Rattle.factor_stack.specs.declared.held.Held.{Held}
-use Rattle.factor_stack.specs.declared.held.Factors.{Factors}
+use Rattle.factor_stack.specs.declared.factors.Factors.{Factors}
 use Rattle.factor_stack.specs.Image.{ImageOf, chain_image, image_of}
 use Rattle.factor_stack.specs.Stored.{held_chain, held_image, IsHeldChain}
 use Rattle.factor_stack.specs.Stack.{IsImage}

@@ -11,8 +11,9 @@ use Rattle.pivot_chain.specs.Judging.{lower_of, upper_of}
 use Rattle.pivot_chain.specs.declared.chain.Stop.{Stop}
 use Rattle.pivot_chain.specs.declared.grids.Grids.{Grids}
 use Rattle.factor_stack.specs.declared.chain.Chain.{Chain}
-use Rattle.factor_stack.specs.declared.held.Factors.{Factors}
+use Rattle.factor_stack.specs.declared.factors.Factors.{Factors}
 use Rattle.factor_stack.specs.declared.run.GridRows.{GridRows}
+use Rattle.factor_stack.specs.Stored.{HaveCounted}
 
 -- the first `count` rows of a chain of a matrix
 abbrev pub HasRows : Side → List (List ℤ) → ℕ → List (List ℤ) → Type 0
@@ -34,10 +35,13 @@ pub record HasRun (side : Side) (matrix : List (List ℤ)) (k : ℕ) (chain : Ch
   pub places : length chain.rows ≡ length matrix
   pub state : MatchOption chain.stop (GoesOnTo side matrix k chain.rows) (HasStopped side matrix k chain.rows)
 
--- both chains
+-- both chains, and the counts of their rows
 pub record HaveRun (grids : Grids) (k : ℕ) (factors : Factors) : Type 0 where
   pub lower : HasRun Lower (lower_of grids) k factors.lower
   pub upper : HasRun Upper (upper_of grids) k factors.upper
+  pub lower_gaps : length factors.lower_gaps ≡ length factors.lower.rows
+  pub upper_gaps : length factors.upper_gaps ≡ length factors.upper.rows
+  pub counted : HaveCounted k factors
 
 -- the first rows stay
 pub record KeepsFirst (count : ℕ) (before after : Factors) : Type 0 where
@@ -45,9 +49,12 @@ pub record KeepsFirst (count : ℕ) (before after : Factors) : Type 0 where
   pub upper : (j : ℕ) → j < count → tri_row after.upper.rows j ≡ tri_row before.upper.rows j
   pub lower_places : length after.lower.rows ≡ length before.lower.rows
   pub upper_places : length after.upper.rows ≡ length before.upper.rows
+  pub lower_gaps : (j : ℕ) → j < count → tri_row after.lower_gaps j ≡ tri_row before.lower_gaps j
+  pub upper_gaps : (j : ℕ) → j < count → tri_row after.upper_gaps j ≡ tri_row before.upper_gaps j
+  pub lower_counts : length after.lower_gaps ≡ length before.lower_gaps
+  pub upper_counts : length after.upper_gaps ≡ length before.upper_gaps
 
 -- room for n rows
 pub record IsRoom (n : ℕ) (room : GridRows) : Type 0 where
   pub lower : length room.lower ≡ n
   pub upper : length room.upper ≡ n
-  pub gaps : length room.gaps ≡ n

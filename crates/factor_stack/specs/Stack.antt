@@ -1,5 +1,5 @@
 -- A stack of factors. This project's own.
-use Rattle.std.specs.Prelude.{◌≡◌, ℕ, ◌<◌, ◌≤◌, ◌^◌, List, length, Some, slice_get, All}
+use Rattle.std.specs.Prelude.{◌≡◌, ℕ, ◌<◌, ◌≤◌, ◌^◌, List, length, reverse, Some, slice_get, All}
 use Rattle.geo_model.specs.Limit.{LimitOf}
 use Rattle.geo_model.specs.Network.{NetworkOf}
 use Rattle.normal_matrix.specs.Normal.{NormalOf, IsNormalOf}
@@ -8,7 +8,7 @@ use Rattle.factor_stack.specs.declared.held.Held.{Held}
 use Rattle.factor_stack.specs.declared.held.Saved.{Saved}
 use Rattle.factor_stack.specs.declared.run.GridRows.{GridRows}
 use Rattle.factor_stack.specs.Image.{ImageOf, image_of}
-use Rattle.factor_stack.specs.Stored.{AreHeldFactors, IsSaved}
+use Rattle.factor_stack.specs.Stored.{AreHeldFactors, AreCounted, IsSaved}
 use Rattle.factor_stack.specs.Running.{IsRoom}
 
 -- a stack: the number of its limit, the images before its changes, the oldest first, and the one after them; and what it
@@ -39,3 +39,4 @@ pub record IsKeptStack (n : ℕ) (held : Held) (room : GridRows) (saves : List S
   pub room_rows : IsRoom n room
   pub few : length saves ≤ 2 ^ 31
   pub each : All (IsSaved n (length held.plan)) saves
+  pub counted : AreCounted n held (reverse saves)

@@ -3,7 +3,7 @@ ghost use Rattle.std.specs.Prelude.{◌≡◌, ◌+◌, ◌<◌, ◌≤◌, leng
 ghost use Rattle.chain_step.specs.declared.side.Side.TheVariants.{Lower, Upper};
 ghost use Rattle.pivot_chain.specs.Judging.{lower_of, upper_of, IsMade};
 ghost use Rattle.factor_stack.specs.Image.{chain_image};
-ghost use Rattle.factor_stack.specs.Stored.{held_chain, cut_at, AreFresh, AreHeldFactors};
+ghost use Rattle.factor_stack.specs.Stored.{held_chain, cut_at, AreFresh, AreHeldFactors, HaveCounted};
 ghost use Rattle.factor_stack.specs.Running.{HaveRun, IsRoom, KeepsFirst};
 
 use crate::run::{GridRows, run_from};
@@ -26,6 +26,7 @@ pub(crate) fn recompute<L: Ledger>(
     ensures lower { held_chain factors.new.lower ≡ chain_image Lower (lower_of grids.now) }
     ensures upper { held_chain factors.new.upper ≡ chain_image Upper (upper_of grids.now) }
     ensures held { AreHeldFactors (length grids.now.network.now.unknowns) factors.new }
+    ensures counted { HaveCounted (length grids.now.network.now.unknowns) factors.new }
     ensures kept { KeepsFirst first factors.old factors.new }
     ensures room { IsRoom (length grids.now.network.now.unknowns) room.new }
     ensures cost { steps.new + first ≤ steps.old + length grids.now.network.now.unknowns }
@@ -53,6 +54,7 @@ pub(crate) fn compute<L: Ledger>(
     ensures lower { held_chain factors.new.lower ≡ chain_image Lower (lower_of grids.now) }
     ensures upper { held_chain factors.new.upper ≡ chain_image Upper (upper_of grids.now) }
     ensures held { AreHeldFactors (length grids.now.network.now.unknowns) factors.new }
+    ensures counted { HaveCounted (length grids.now.network.now.unknowns) factors.new }
     ensures room { IsRoom (length grids.now.network.now.unknowns) room.new }
 {
     let mut steps = Steps::<L>::new(blank);

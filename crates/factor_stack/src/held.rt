@@ -1,18 +1,11 @@
 //! What a stack stores of its plan, and of each change.
-ghost use Rattle.std.specs.Prelude.{◌≡◌, ◌+◌, ◌<◌, ◌≤◌, length, Some, slice_get, slice_set, IfOk};
-ghost use Rattle.factor_stack.specs.Stored.{taken_back, saved_from, AreFresh};
+ghost use Rattle.std.specs.Prelude.{◌≡◌, ◌<◌, ◌≤◌, length, Some, slice_get, IfOk};
+ghost use Rattle.factor_stack.specs.Stored.{taken_back, saved_from, AreFresh, HasPlace, AreRest};
 
-use crate::Chain;
+use crate::Factors;
 use geo_base::NoMemory;
 use geo_model::Plan;
 use std::alloc::Global;
-
-/// Both chains of a limit.
-#[derive(Debug, Drop)]
-pub struct Factors {
-    pub lower: Chain,
-    pub upper: Chain,
-}
 
 /// A plan, and both chains of a limit under it.
 #[derive(Debug, Drop)]
@@ -38,47 +31,35 @@ impl Held {
         ensures fresh { IfOk result (λ held. AreFresh n held.factors) }
     {
         let plan = plan.copy(alloc)?;
-        let lower = Chain::new(alloc, n)?;
-        let upper = Chain::new(alloc, n)?;
-        Ok(Held {
-            plan,
-            factors: Factors { lower, upper },
-        })
+        let factors = Factors::new(alloc, n)?;
+        Ok(Held { plan, factors })
     }
 
     // What a change of a candidate replaces, whose first place is `first`.
     pub(crate) fn save(&self, alloc: Global, candidate: u32, first: u32) -> Result<Saved, NoMemory>
         requires candidate { candidate < length self.now.plan }
-        requires lower { first ≤ length self.now.factors.lower.rows }
-        requires upper { first ≤ length self.now.factors.upper.rows }
+        requires factors { HasPlace first self.now.factors }
         ensures candidate { IfOk result (λ saved. saved.candidate ≡ candidate) }
         ensures chosen { IfOk result (λ saved. slice_get self.now.plan candidate ≡ Some saved.chosen) }
         ensures first { IfOk result (λ saved. saved.first ≡ first) }
         ensures factors { IfOk result (λ saved. saved.factors ≡ saved_from first self.now.factors) }
     {
-        let lower = self.factors.lower.save(alloc, first)?;
-        let upper = self.factors.upper.save(alloc, first)?;
+        let factors = self.factors.save(alloc, first)?;
         Ok(Saved {
             candidate,
             chosen: self.plan.has(candidate),
             first,
-            factors: Factors { lower, upper },
+            factors,
         })
     }
 
     // Gives back what a change replaced.
     pub(crate) fn take_back(&mut self, saved: &Saved)
         requires candidate { saved.now.candidate < length self.old.plan }
-        requires lower { saved.now.first + length saved.now.factors.lower.rows ≡ length self.old.factors.lower.rows }
-        requires upper { saved.now.first + length saved.now.factors.upper.rows ≡ length self.old.factors.upper.rows }
+        requires factors { AreRest saved.now.first saved.now.factors self.old.factors }
         ensures { self.new ≡ taken_back self.old saved.now }
     {
         self.plan.set(saved.candidate, saved.chosen);
-        self.factors
-            .lower
-            .give_back(saved.first, &saved.factors.lower);
-        self.factors
-            .upper
-            .give_back(saved.first, &saved.factors.upper);
+        self.factors.give_back(saved.first, &saved.factors);
     }
 }

@@ -10,6 +10,7 @@
 
 mod chain;
 mod compute;
+mod factors;
 mod first_place;
 mod held;
 mod rows;
@@ -18,6 +19,7 @@ mod stack;
 mod steps;
 
 use chain::Chain;
-use held::{Factors, Held, Saved};
+use factors::Factors;
+use held::{Held, Saved};
 pub use stack::FactorStack;
 pub use steps::Steps;

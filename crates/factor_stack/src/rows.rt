@@ -1,10 +1,22 @@
 //! Rows of a triangle that are saved and put back.
-ghost use Rattle.std.specs.Prelude.{◌≡◌, ◌+◌, ◌≤◌, length, take, drop, ◌++◌};
+ghost use Rattle.std.specs.Prelude.{◌≡◌, ◌+◌, ◌≤◌, length, take, drop, ◌++◌, IfOk};
 
+use geo_base::NoMemory;
 use lent_parts::Tri;
+use std::alloc::Global;
+
+// The rows of a triangle from place `first` on, once more.
+pub(crate) fn rows_from(alloc: Global, from: &Tri, first: u32) -> Result<Tri, NoMemory>
+    requires { first ≤ length from.now }
+    ensures { IfOk result (λ saved. saved ≡ drop first from.now) }
+{
+    let mut saved = Tri::new(alloc, from.size() - first)?;
+    save_rows(from, first, &mut saved);
+    Ok(saved)
+}
 
 // Writes the rows of a triangle from place `first` on into a smaller one.
-pub(crate) fn save_rows(from: &Tri, first: u32, to: &mut Tri)
+fn save_rows(from: &Tri, first: u32, to: &mut Tri)
     requires { first + length to.old ≡ length from.now }
     ensures { to.new ≡ drop first from.now }
 {

@@ -12,12 +12,11 @@ use pivot_chain::{Grids, write_rows};
 use std::alloc::Global;
 use std::sync::ledger::Ledger;
 
-/// Room for the rows of the two grid matrices, and for counts of quotients that aren't whole.
+/// Room for the rows of the two grid matrices.
 #[derive(Debug, Drop)]
 pub struct GridRows {
     pub lower: Tri,
     pub upper: Tri,
-    pub gaps: Tri,
 }
 
 impl GridRows {
@@ -28,8 +27,7 @@ impl GridRows {
     {
         let lower = Tri::new(alloc, n)?;
         let upper = Tri::new(alloc, n)?;
-        let gaps = Tri::new(alloc, n)?;
-        Ok(GridRows { lower, upper, gaps })
+        Ok(GridRows { lower, upper })
     }
 }
 
@@ -82,9 +80,9 @@ fn step_place<L: Ledger>(
     write_rows(grids, k, &mut room.lower, &mut room.upper);
     factors
         .lower
-        .take_row(Side::Lower, &mut room.lower, &mut room.gaps, k);
+        .take_row(Side::Lower, &mut room.lower, &mut factors.lower_gaps, k);
     factors
         .upper
-        .take_row(Side::Upper, &mut room.upper, &mut room.gaps, k);
+        .take_row(Side::Upper, &mut room.upper, &mut factors.upper_gaps, k);
     steps.tick();
 }

@@ -22,7 +22,7 @@ use std::sync::ledger::{Blank, Ledger};
 /// The two chains of a limit under a plan. The plan changes by one candidate at a time, and each
 /// change can be taken back. Contracts see it as the images before its changes, the oldest first, and
 /// the one after them: a plan, and of each chain the rows up to and including its stop.
-#[derive(Debug, Drop)]
+#[derive(Debug)]
 pub struct FactorStack {
     alloc: Global,
     limit: u32,
@@ -31,6 +31,21 @@ pub struct FactorStack {
     room: GridRows,
     held: Held,
     saves: Vec<Saved>,
+}
+
+// Not derived: a derived drop is spelled out, part by part, in the proof of whoever owns a stack.
+impl Drop for FactorStack {
+    fn drop(self) {
+        let FactorStack {
+            alloc: _alloc,
+            limit: _limit,
+            grid: _grid,
+            normal: _normal,
+            room: _room,
+            held: _held,
+            saves: _saves,
+        } = self;
+    }
 }
 
 impl Model for FactorStack {

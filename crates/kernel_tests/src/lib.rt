@@ -18,6 +18,12 @@ mod networks;
 #[cfg(test)]
 mod numbers;
 #[cfg(test)]
+mod plans;
+#[cfg(test)]
+mod proposals;
+#[cfg(test)]
 mod splits;
 #[cfg(test)]
 mod tableaus;
+#[cfg(test)]
+mod tables;

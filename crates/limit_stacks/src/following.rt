@@ -11,8 +11,10 @@ use std::sync::ledger::{Blank, Ledger};
 /// A path of the tree leaves each candidate out but once, so it has no more changes.
 const MOST_CHANGES: u32 = 256;
 
-/// A change costs some 0.6 of a verdict from nothing, and is of use to the nodes below.
-const FEW_CHANGES: u32 = 2;
+/// A change costs more than a verdict from nothing that is Met, which has no upper chain, and is of use
+/// to the nodes below. So a stack takes the one step of a node from its parent, and no more: counted on
+/// three searches, two changes cost 3 to 5 hundredths more than one (docs/GATE.md).
+const FEW_CHANGES: u32 = 1;
 
 // Whether a plan has a candidate that the plan of a stack hasn't.
 #[tactic(auto, using(crate::proofs::Brought::stack_places))]

@@ -7,8 +7,9 @@ use geo_model::Plan;
 use std::alloc::Global;
 use std::marker::Model;
 
-/// So many at most: a further one takes the place of the oldest.
-const MOST_WITNESSES: usize = 16;
+/// So many at most: a further one takes the place of the oldest. Counted on three searches, 64 spare
+/// up to a fifth of the verdicts' cost that 16 leave, and never cost more (docs/GATE.md).
+const MOST_WITNESSES: usize = 64;
 
 /// Plans of so many candidates that meet one limit: it is met by each larger plan too. Contracts see
 /// the plans.

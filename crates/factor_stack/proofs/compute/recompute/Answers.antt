@@ -1,4 +1,4 @@
-use Rattle.std.proofs.Common.{length, sym, subst}
+use Rattle.std.proofs.Common.{length, sym, ◌∙◌, subst}
 use Rattle.chain_step.specs.declared.side.Side.TheVariants.{Lower, Upper}
 use Rattle.pivot_chain.specs.Judging.{lower_of, upper_of}
 use Rattle.pivot_chain.proofs.Judged.{small_lower_of, small_upper_of, tall_lower_of, tall_upper_of}
@@ -23,4 +23,6 @@ returns-clause-held g c =
     record {
       lower = kept_by_run Lower n n (lower_of c.args.grids.now) c.run_from.new.factors.lower (tall_lower_of c.args.grids.now) c.run_from.ensures.run.lower;
       upper = kept_by_run Upper n n (upper_of c.args.grids.now) c.run_from.new.factors.upper (tall_upper_of c.args.grids.now) c.run_from.ensures.run.upper;
+      lower_gaps = c.run_from.ensures.run.lower_gaps ∙ (c.run_from.ensures.run.lower.places ∙ tall_lower_of c.args.grids.now);
+      upper_gaps = c.run_from.ensures.run.upper_gaps ∙ (c.run_from.ensures.run.upper.places ∙ tall_upper_of c.args.grids.now);
     }

@@ -56,16 +56,11 @@ pub take_row-requires-2-clause-head : goal.take_row-requires-2-clause-head
 take_row-requires-2-clause-head g c =
     subst (λ row. at row 0 ≤ℤ pos (2 ^ 60 + 64)) (sym c.write_rows.ensures.upper) ((small_upper_of c.args.grids.now c.candidates-bounds.ensures.bounds c.requires.made).heads c.args.k)
 
-pub take_row-requires-clause-counted : goal.take_row-requires-clause-counted
-take_row-requires-clause-counted g c =
-    c.requires.room.gaps ∙ (sym (tall_lower_of c.args.grids.now) ∙ sym c.requires.run.lower.places)
-
-pub take_row-requires-2-clause-counted : goal.take_row-requires-2-clause-counted
-take_row-requires-2-clause-counted g c =
-    c.take_row.ensures.gaps ∙ (c.requires.room.gaps ∙ (sym (tall_upper_of c.args.grids.now) ∙ sym c.requires.run.upper.places))
-
 pub returns-clause-run : goal.returns-clause-run
 returns-clause-run g c = record {
   lower = c.take_row.ensures.run (lower_of c.args.grids.now) (small_lower_of c.args.grids.now c.candidates-bounds.ensures.bounds c.requires.made) c.requires.run.lower c.write_rows.ensures.lower;
   upper = c.take_row-2.ensures.run (upper_of c.args.grids.now) (small_upper_of c.args.grids.now c.candidates-bounds.ensures.bounds c.requires.made) c.requires.run.upper c.write_rows.ensures.upper;
+  lower_gaps = c.take_row.ensures.gaps ∙ (c.requires.run.lower_gaps ∙ sym c.take_row.ensures.places);
+  upper_gaps = c.take_row-2.ensures.gaps ∙ (c.requires.run.upper_gaps ∙ sym c.take_row-2.ensures.places);
+  counted = record { lower = c.take_row.ensures.counted; upper = c.take_row-2.ensures.counted };
 }

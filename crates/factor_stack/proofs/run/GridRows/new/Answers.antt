@@ -5,5 +5,4 @@ pub returns : goal.returns
 returns c = record {
   lower = length-IsTri c.args.n c.in_ok-lower.lower c.in_ok-lower.ensures.shape;
   upper = length-IsTri c.args.n c.in_ok-upper.upper c.in_ok-upper.ensures.shape;
-  gaps = length-IsTri c.args.n c.in_ok-gaps.gaps c.in_ok-gaps.ensures.shape;
 }

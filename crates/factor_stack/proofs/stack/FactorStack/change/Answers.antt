@@ -1,20 +1,23 @@
-use Rattle.std.proofs.Common.{rules, ◌≡◌, ◌++◌, ◌∷◌, [], ◌<◌, length, length-set, sym, ◌∙◌, ap, ap₂, subst, arith, not, w64, FitsSigned, slice_get, slice_set}
+use Rattle.std.proofs.Common.{rules, ◌≡◌, ◌++◌, ◌∷◌, [], ◌<◌, length, length-set, sym, ◌∙◌, ap, ap₂, subst, arith, not, w64, FitsSigned, slice_get, slice_set, ℕ, get_or}
 use Rattle.std.specs.Prelude.{reverse}
 use Rattle.std.proofs.lemmas.Int.{to_z-of_z}
 use Rattle.std.proofs.lemmas.Option.{slice_get_within}
 use Rattle.std.proofs.lemmas.List.Elements.{All-push, All-same}
 use Rattle.geo_model.specs.Limit.{LimitOf}
+use Rattle.geo_model.proofs.SumSteps.{same_limit}
 use Rattle.limit_forms.specs.Grid.{grid_of}
-use Rattle.pivot_chain.proofs.Judged.{load_of, limit_at, same_limit}
+use Rattle.pivot_chain.proofs.Judged.{load_of, limit_at}
+use Rattle.pivot_chain.proofs.Values.{found_at}
 use Rattle.factor_stack.specs.declared.held.Held.{Held}
-use Rattle.factor_stack.specs.Stored.{AreHeldFactors, images_before}
+use Rattle.factor_stack.specs.Stored.{AreHeldFactors, HaveCounted, images_before}
 use Rattle.factor_stack.specs.Running.{IsRoom}
 use Rattle.factor_stack.specs.Stack.{StackOf, IsImage, IsKeptStack}
+use Rattle.factor_stack.proofs.Counted.{counted_now, still_counted}
 use Rattle.factor_stack.proofs.Stacks.{depth_of}
 use Rattle.factor_stack.proofs.Untouched.{agree_before}
 use Rattle.factor_stack.proofs.CarriedGrids.{IsChanging, lower_known, upper_known}
 use Rattle.factor_stack.proofs.Verdicts.{held_told, computed}
-use Rattle.factor_stack.proofs.Changes.{order_long, HasSaved, back_again, before_change, saved_is, kept_more, found_at, some_at, inside_plan, plan_long}
+use Rattle.factor_stack.proofs.Changes.{order_long, HasSaved, has_place, back_again, before_change, saved_is, kept_more, some_at, inside_plan, plan_long}
 use Rattle.factor_stack.proofs.stack.FactorStack.change.Goals as goal
 
 pub first_place-first-requires-clause-inside : goal.first_place-first-requires-clause-inside
@@ -26,21 +29,12 @@ save-requires-clause-candidate g c =
     let long = ap (λ (v : StackOf). length v.now.plan) c.self.view_is in
     omega arith
 
-pub save-requires-clause-lower : goal.save-requires-clause-lower
-save-requires-clause-lower g c =
-    let places = c.self.invariant.held_rows.lower.places in
+pub save-requires-clause-factors : goal.save-requires-clause-factors
+save-requires-clause-factors g c =
     let tall = ap (λ (v : StackOf). length v.grid.order) c.self.view_is in
     let long = order_long c.args.network.now c.args.self.now c.requires.made in
     let within = c.first_place-first.ensures.within in
-    omega arith
-
-pub save-requires-clause-upper : goal.save-requires-clause-upper
-save-requires-clause-upper g c =
-    let places = c.self.invariant.held_rows.upper.places in
-    let tall = ap (λ (v : StackOf). length v.grid.order) c.self.view_is in
-    let long = order_long c.args.network.now c.args.self.now c.requires.made in
-    let within = c.first_place-first.ensures.within in
-    omega arith
+    has_place (length c.self.inside.grid.order) c.first_place-first.result c.self.inside.held.factors c.self.invariant.held_rows (omega arith)
 
 pub set-requires : goal.set-requires
 set-requires g c =
@@ -62,7 +56,7 @@ recompute-requires-clause-made g c =
     let lt : c.self.inside.limit < length network.limits = subst (λ k. k < length network.limits) (sym limit) c.requires.made.limit in
     let alpha : c.form.inside.alpha ≡ form.alpha = ap (λ (v : LimitOf). v.alpha) c.form.view_is in
     let squares : c.as_slice.result.now ≡ form.squares = c.as_slice.ensures.value ∙ ap (λ (v : LimitOf). v.squares) c.form.view_is in
-    let found = found_at c.limits.result.now network.limits c.self.inside.limit c.args.self.now.limit form c.limits.ensures.value limit c.requires.made.limit c.index-limits-self.is in
+    let found = found_at network.limits c.limits.result.now c.args.self.now.limit form c.limits.ensures.value c.requires.made.limit (c.index-limits-self.is ∙ ap (λ (k : ℕ). get_or c.limits.result.now k form) limit) in
     let is_limit = limit_at network c.limits.result.now c.self.inside.limit form c.limits.ensures.bounds c.limits.ensures.value lt c.index-limits-self.is in
     simp (to_z-of_z, f)
     (record {
@@ -82,7 +76,7 @@ recompute-requires-clause-known g c =
     let lt : c.self.inside.limit < length network.limits = subst (λ k. k < length network.limits) (sym limit) c.requires.made.limit in
     let alpha : c.form.inside.alpha ≡ form.alpha = ap (λ (v : LimitOf). v.alpha) c.form.view_is in
     let squares : c.as_slice.result.now ≡ form.squares = c.as_slice.ensures.value ∙ ap (λ (v : LimitOf). v.squares) c.form.view_is in
-    let found = found_at c.limits.result.now network.limits c.self.inside.limit c.args.self.now.limit form c.limits.ensures.value limit c.requires.made.limit c.index-limits-self.is in
+    let found = found_at network.limits c.limits.result.now c.args.self.now.limit form c.limits.ensures.value c.requires.made.limit (c.index-limits-self.is ∙ ap (λ (k : ℕ). get_or c.limits.result.now k form) limit) in
     let is_limit = limit_at network c.limits.result.now c.self.inside.limit form c.limits.ensures.bounds c.limits.ensures.value lt c.index-limits-self.is in
     let inside = inside_plan network c.args.self.now c.args.i (not c.args.chosen) c.requires.made c.requires.differs in
     let one = some_at network.candidates c.args.i inside in
@@ -101,6 +95,10 @@ recompute-requires-clause-known g c =
     (record {
       lower = lower_known network form held (slice_set held.plan c.args.i c.args.chosen) c.bring_to.new.normal.plan first c.form.inside.alpha c.as_slice.result.now changing plan alpha squares;
       upper = upper_known network form held (slice_set held.plan c.args.i c.args.chosen) c.bring_to.new.normal.plan first c.form.inside.alpha c.as_slice.result.now changing plan alpha squares;
+      lower_gaps = changing.rows.lower_gaps ∙ sym changing.rows.lower.places;
+      upper_gaps = changing.rows.upper_gaps ∙ sym changing.rows.upper.places;
+      counted = still_counted held.factors (length network.unknowns) first changing.within
+          (subst (λ n. HaveCounted n held.factors) tall (counted_now (length c.self.inside.grid.order) held (reverse c.self.inside.saves.items) c.self.invariant.counted));
     })
 
 pub recompute-requires-clause-room : goal.recompute-requires-clause-room
@@ -133,6 +131,8 @@ invariant_of-self-2 g c =
     kept_more n c.args.i held c.args.chosen c.set.new.self c.recompute.new.factors c.self.inside.room c.recompute.new.room c.self.inside.saves.items c.push.new.self.items c.in_ok-saved.saved
     c.self.invariant c.set.ensures (subst (λ k. AreHeldFactors k c.recompute.new.factors) (sym tall) c.recompute.ensures.held) (subst (λ k. IsRoom k c.recompute.new.room) (sym tall) c.recompute.ensures.room)
     (saved_is n c.args.i first held c.in_ok-saved.saved saved c.self.invariant.held_rows (omega arith) (omega arith)) c.in_ok-push.ensures.items (omega arith)
+    (back_again held c.in_ok-saved.saved c.args.i first c.args.chosen c.set.new.self c.recompute.new.factors saved c.set.ensures c.recompute.ensures.kept (has_place n first held.factors c.self.invariant.held_rows (omega arith)))
+    (subst (λ k. HaveCounted k c.recompute.new.factors) (sym tall) c.recompute.ensures.counted)
 
 before_now : goal.returns-clause-before
 before_now g c =
@@ -142,15 +142,14 @@ before_now g c =
     let tall = ap (λ (v : StackOf). length v.grid.order) c.self.view_is in
     let wide = order_long network c.args.self.now c.requires.made in
     let within = c.first_place-first.ensures.within in
-    let lower = c.self.invariant.held_rows.lower.places in
-    let upper = c.self.invariant.held_rows.upper.places in
     let saved : HasSaved held c.in_ok-saved.saved c.args.i first = record {
       candidate = c.in_ok-saved.ensures.candidate;
       chosen = c.in_ok-saved.ensures.chosen;
       place = c.in_ok-saved.ensures.first;
       factors = c.in_ok-saved.ensures.factors;
     } in
-    let again = back_again held c.in_ok-saved.saved c.args.i first c.args.chosen c.set.new.self c.recompute.new.factors saved c.set.ensures c.recompute.ensures.kept (omega arith) (omega arith) in
+    let again = back_again held c.in_ok-saved.saved c.args.i first c.args.chosen c.set.new.self c.recompute.new.factors saved c.set.ensures c.recompute.ensures.kept
+    (has_place (length c.self.inside.grid.order) first held.factors c.self.invariant.held_rows (omega arith)) in
     let new : Held = record { plan = c.set.new.self; factors = c.recompute.new.factors } in
     ap (λ s. reverse (images_before new (reverse s))) c.in_ok-push.ensures.items
     ∙ (before_change held new c.self.inside.saves.items c.in_ok-saved.saved again
@@ -172,7 +171,7 @@ returns-clause-made g c =
       normal = c.bring_to.ensures.sum;
       grid = λ l found. ap (λ (v : StackOf). v.grid) c.self.view_is ∙ c.requires.made.grid l (ap (slice_get network.limits) (sym limit) ∙ found);
       now = λ l found.
-          let same = same_limit c.limits.result.now c.self.inside.limit form l c.index-limits-self.is (rw c.limits.ensures.value found) in
+          let same = same_limit network c.limits.result.now c.self.inside.limit form l c.limits.ensures.value c.index-limits-self.is found in
           record {
             places = ap length c.set.ensures ∙ (length-set c.self.inside.held.plan c.args.i c.args.chosen ∙ (ap (λ (v : StackOf). length v.now.plan) c.self.view_is ∙ plan_long network c.args.self.now c.requires.made));
             exact = computed network l c.set.new.self c.bring_to.new.normal.plan c.form.inside.alpha c.as_slice.result.now c.recompute.new.factors

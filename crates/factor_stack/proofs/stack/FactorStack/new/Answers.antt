@@ -3,10 +3,10 @@ use Rattle.std.specs.Prelude.{reverse}
 use Rattle.std.proofs.lemmas.Int.{to_z-of_z}
 use Rattle.std.proofs.lemmas.List.Elements.{All-nil, All-same}
 use Rattle.geo_model.specs.Limit.{LimitOf}
+use Rattle.geo_model.proofs.SumSteps.{same_limit}
 use Rattle.limit_forms.specs.Grid.{grid_of}
 use Rattle.limit_forms.proofs.GridReads.{length-grid_of}
-use Rattle.pivot_chain.proofs.Judged.{same_limit}
-use Rattle.factor_stack.specs.Stored.{images_before, AreHeldFactors, IsSaved}
+use Rattle.factor_stack.specs.Stored.{images_before, AreHeldFactors, AreCounted, HaveCounted, IsSaved}
 use Rattle.factor_stack.specs.Running.{IsRoom}
 use Rattle.factor_stack.specs.Stack.{IsImage}
 use Rattle.factor_stack.proofs.Verdicts.{computed}
@@ -23,6 +23,8 @@ invariant_of-result c =
       room_rows = subst (λ k. IsRoom k c.compute.new.room) (sym tall) c.compute.ensures.room;
       few = omega arith;
       each = All-same (IsSaved (length c.in_ok-grid.grid.order) (length c.in_ok-held.held.plan)) c.new-6.result.items [] none (All-nil (IsSaved (length c.in_ok-grid.grid.order) (length c.in_ok-held.held.plan)));
+      counted = subst (λ saves. AreCounted (length c.in_ok-grid.grid.order) (record { plan = c.in_ok-held.held.plan; factors = c.compute.new.factors }) (reverse saves)) (sym none)
+          (subst (λ k. HaveCounted k c.compute.new.factors) (sym tall) c.compute.ensures.counted);
     }
 
 pub returns-clause-made : goal.returns-clause-made
@@ -36,10 +38,10 @@ returns-clause-made c =
       limit = c.requires.limit;
       normal = c.bring_to.ensures.sum;
       grid = λ l found.
-          let same = same_limit c.limits.result.now c.args.limit form l c.index-limits-limit.is (rw c.limits.ensures.value found) in
+          let same = same_limit network c.limits.result.now c.args.limit form l c.limits.ensures.value c.index-limits-limit.is found in
           (simp (to_z-of_z, f) at c.in_ok-grid.ensures) ∙ ap₂ (grid_of network) (alpha ∙ ap (λ (v : LimitOf). v.alpha) same) (squares ∙ ap (λ (v : LimitOf). v.squares) same);
       now = λ l found.
-          let same = same_limit c.limits.result.now c.args.limit form l c.index-limits-limit.is (rw c.limits.ensures.value found) in
+          let same = same_limit network c.limits.result.now c.args.limit form l c.limits.ensures.value c.index-limits-limit.is found in
           record {
             places = ap length c.in_ok-held.ensures.plan ∙ c.requires.plan;
             exact = computed network l c.in_ok-held.held.plan c.bring_to.new.normal.plan c.form.inside.alpha c.as_slice-squares.result.now c.compute.new.factors

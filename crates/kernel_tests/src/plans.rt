@@ -1,0 +1,114 @@
+//! Plans: what limits bear under them, what is left where candidates are taken out, what greedy
+//! deletion hands over, and what a local search makes of it.
+
+use crate::exact::Exact;
+use crate::tables::{HALVES, LINE, ONE_HEIGHT};
+use fixed_point::ONE;
+use geo_base::NoMemory;
+use geo_model::{Network, Plan, cost};
+use local_search::first_plan;
+use plan_inverse::Inverse;
+use plan_moves::MovedPlan;
+use scaled_network::{Bearing, Marks, ScaledNetwork};
+use std::alloc::Global;
+use std::test::Fail;
+use test_networks::{CaseTables, network_of};
+
+// A candidate that is taken out of all, if any, a limit, and its load over the energy then, at most:
+// the variance of its height over the square of its limit.
+const BORNE: [(Option<u32>, u32, Exact); 6] = [
+    (None, 0, Exact(200, 432)),
+    (None, 1, Exact(200, 363)),
+    (Some(0), 0, Exact(200, 144)),
+    (Some(0), 1, Exact(100, 121)),
+    (Some(1), 0, Exact(100, 144)),
+    (Some(2), 1, Exact(200, 121)),
+];
+
+// The marks of all candidates as chosen.
+fn all_of(alloc: Global, network: &Network) -> Result<Marks, NoMemory> {
+    let full = Plan::full(alloc, network.candidates().len() as u32)?;
+    let mut marks = Marks::new(alloc);
+    marks.read_plan(network, &full)?;
+    Ok(marks)
+}
+
+// What a limit bears where a candidate is taken out of all.
+fn strength_without(
+    alloc: Global,
+    network: &Network,
+    candidate: Option<u32>,
+    limit: u32,
+) -> Result<i64, NoMemory> {
+    let scaled = ScaledNetwork::new(alloc, network)?;
+    let mut bearing = Bearing::new(alloc);
+    let mut inverse = Inverse::new(alloc);
+    bearing.invert_upper(&scaled, &all_of(alloc, network)?, &mut inverse)?;
+    if let Some(candidate) = candidate {
+        bearing.look_at(&scaled, &inverse, candidate, ONE)?;
+    }
+    Ok(bearing.strength(&scaled, &inverse, limit))
+}
+
+#[test]
+fn limits_bear_what_variances_say(rt: HostRuntime) -> Result<(), Fail> {
+    let network = network_of(rt.alloc(), &LINE)?;
+    for (candidate, limit, strength) in BORNE {
+        let found = strength_without(rt.alloc(), &network, candidate, limit)?;
+        assert!(rt; strength.is_close(found), "limit {limit}");
+    }
+    Ok(())
+}
+
+// The price of what is left of all candidates where those of an order are taken out.
+fn reduced_price(alloc: Global, network: &Network, order: &[u32]) -> Result<u64, NoMemory> {
+    let scaled = ScaledNetwork::new(alloc, network)?;
+    let mut moved = MovedPlan::new(alloc);
+    moved.start(&scaled, &all_of(alloc, network)?)?;
+    moved.reduce(&scaled, order)?;
+    Ok(moved.price(&scaled))
+}
+
+#[test]
+fn candidates_go_where_limits_bear_it(rt: HostRuntime) -> Result<(), Fail> {
+    let alloc = rt.alloc();
+    let height = network_of(alloc, &ONE_HEIGHT)?;
+    assert!(rt; reduced_price(alloc, &height, &[0, 1, 2])? == 12);
+    assert!(rt; reduced_price(alloc, &height, &[2, 1, 0])? == 9);
+    let line = network_of(alloc, &LINE)?;
+    assert!(rt; reduced_price(alloc, &line, &[0, 2, 1])? == 10);
+    let halves = network_of(alloc, &HALVES)?;
+    assert!(rt; reduced_price(alloc, &halves, &[0, 1])? == 12);
+    Ok(())
+}
+
+// The prices of the plan that is left where the dearest candidates go first, and of the plan after a
+// local search; 0 where there is none.
+fn prices_of(alloc: Global, network: &Network) -> Result<(u64, u64), NoMemory> {
+    let greedy = match greedy_start::start(alloc, network)? {
+        Some(plan) => cost(network, &plan),
+        None => 0,
+    };
+    let improved = match first_plan(alloc, network, 20)? {
+        Some(plan) => cost(network, &plan),
+        None => 0,
+    };
+    Ok((greedy, improved))
+}
+
+// Networks, and both prices by hand: the second is that of the cheapest plan.
+const PLANS: [(&CaseTables, u64, u64); 3] = [
+    (&ONE_HEIGHT, 12, 9),
+    (&LINE, 10, 10),
+    (&HALVES, 12, 12),
+];
+
+#[test]
+fn a_local_search_finds_the_cheapest_plans(rt: HostRuntime) -> Result<(), Fail> {
+    for (tables, greedy, cheapest) in PLANS {
+        let network = network_of(rt.alloc(), tables)?;
+        let found = prices_of(rt.alloc(), &network)?;
+        assert!(rt; found == (greedy, cheapest), "{found:?}");
+    }
+    Ok(())
+}
