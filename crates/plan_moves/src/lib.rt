@@ -1,0 +1,13 @@
+//! Plans that candidates are added to and taken out of, in fixed point: what is left where one after
+//! the other is taken out, each where the limits in force bear it. It proposes plans to offer.
+//!
+//! Proved: no call goes wrong, whatever it is given: no index out of range, no overflow, no zero
+//! divisor.
+//!
+//! Said by: safety alone; its numbers are proposals, which `kernel_tests` compares with exact
+//! fractions on small cases.
+#![tactic(auto)]
+
+mod moved_plan;
+
+pub use moved_plan::MovedPlan;

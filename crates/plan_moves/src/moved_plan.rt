@@ -1,0 +1,155 @@
+use fixed_point::ONE;
+use geo_base::NoMemory;
+use plan_inverse::Inverse;
+use scaled_network::{Bearing, Mark, Marks, ScaledNetwork};
+use std::alloc::Global;
+
+// What a limit bears at most: 1 less 2^-20, so that the exact verdict meets it too.
+const MOST_STRENGTH: i64 = ONE - (1 << 12);
+
+/// A plan with the inverse of its normal matrix. It keeps its memory when another is started.
+#[derive(Drop)]
+pub struct MovedPlan {
+    // Each candidate is inside or outside.
+    marks: Marks,
+    inverse: Inverse,
+    bearing: Bearing,
+}
+
+impl MovedPlan {
+    /// The plan of no candidates. It takes no memory.
+    pub fn new(alloc: Global) -> MovedPlan {
+        MovedPlan {
+            marks: Marks::new(alloc),
+            inverse: Inverse::new(alloc),
+            bearing: Bearing::new(alloc),
+        }
+    }
+
+    /// Starts with a plan: that of the candidates that are inside.
+    pub fn start(&mut self, network: &ScaledNetwork, plan: &Marks) -> Result<(), NoMemory> {
+        self.marks.copy_from(plan)?;
+        self.invert(network)
+    }
+
+    /// Makes it a copy of another.
+    pub fn copy_from(&mut self, other: &MovedPlan) -> Result<(), NoMemory> {
+        self.marks.copy_from(&other.marks)?;
+        self.inverse.copy_from(&other.inverse)
+    }
+
+    /// The plan: which candidates are inside.
+    pub fn plan(&self) -> &Marks {
+        &self.marks
+    }
+
+    /// Whether a candidate is chosen.
+    pub fn has(&self, candidate: u32) -> bool {
+        self.marks.get(candidate) == Mark::Inside
+    }
+
+    /// The price of its candidates.
+    pub fn price(&self, network: &ScaledNetwork) -> u64 {
+        let mut sum = 0u64;
+        for (mark, price) in self.marks.all().iter().zip(network.prices()) {
+            if *mark == Mark::Inside {
+                sum = sum.saturating_add(*price);
+            }
+        }
+        sum
+    }
+
+    /// Adds a candidate, where it isn't chosen yet.
+    pub fn add(&mut self, network: &ScaledNetwork, candidate: u32) -> Result<(), NoMemory> {
+        if self.has(candidate) {
+            return Ok(());
+        }
+        self.marks.set(candidate, Mark::Inside);
+        self.bearing
+            .look_at(network, &self.inverse, candidate, ONE.wrapping_neg())?;
+        self.make(network)
+    }
+
+    /// Whether all limits in force bear the plan.
+    pub fn is_borne(&mut self, network: &ScaledNetwork) -> bool {
+        self.bearing.look_at_none(network);
+        self.is_borne_without(network, None)
+    }
+
+    /// Takes out the owners of limits in force that the plan breaks, one after another.
+    pub fn take_out_broken_owners(&mut self, network: &ScaledNetwork) -> Result<(), NoMemory> {
+        let mut limit = 0u32;
+        for owner in network.owners() {
+            if let Some(candidate) = *owner {
+                self.bearing.look_at_none(network);
+                if self.has(candidate) && !self.bears(network, limit) {
+                    self.take_out(network, candidate)?;
+                }
+            }
+            limit = limit.saturating_add(1);
+        }
+        Ok(())
+    }
+
+    /// Takes out the candidates of a list one after another, each where the limits in force bear it.
+    pub fn reduce(&mut self, network: &ScaledNetwork, order: &[u32]) -> Result<(), NoMemory> {
+        for candidate in order {
+            if self.has(*candidate) {
+                self.take_out_borne(network, *candidate)?;
+            }
+        }
+        Ok(())
+    }
+
+    // Takes a candidate out where the limits in force bear it.
+    fn take_out_borne(&mut self, network: &ScaledNetwork, candidate: u32) -> Result<(), NoMemory> {
+        self.bearing
+            .look_at(network, &self.inverse, candidate, ONE)?;
+        if self.is_borne_without(network, Some(candidate)) {
+            self.marks.set(candidate, Mark::Outside);
+            self.make(network)?;
+        }
+        Ok(())
+    }
+
+    // Takes a candidate out.
+    fn take_out(&mut self, network: &ScaledNetwork, candidate: u32) -> Result<(), NoMemory> {
+        self.bearing
+            .look_at(network, &self.inverse, candidate, ONE)?;
+        self.marks.set(candidate, Mark::Outside);
+        self.make(network)
+    }
+
+    // Whether all limits in force, but for those of one candidate, bear the change that is looked at.
+    fn is_borne_without(&self, network: &ScaledNetwork, candidate: Option<u32>) -> bool {
+        let mut limit = 0u32;
+        for owner in network.owners() {
+            let is_own = owner.is_some() && *owner == candidate;
+            if !is_own && network.is_in_force(limit, &self.marks) && !self.bears(network, limit) {
+                return false;
+            }
+            limit = limit.saturating_add(1);
+        }
+        true
+    }
+
+    // Whether a limit bears the change that is looked at.
+    fn bears(&self, network: &ScaledNetwork, limit: u32) -> bool {
+        self.bearing.strength(network, &self.inverse, limit) <= MOST_STRENGTH
+    }
+
+    // Makes the change that is looked at, or finds the inverse anew where that loses digits.
+    fn make(&mut self, network: &ScaledNetwork) -> Result<(), NoMemory> {
+        if self.bearing.is_sound(&self.inverse) {
+            self.bearing.make(network, &mut self.inverse);
+            return Ok(());
+        }
+        self.invert(network)
+    }
+
+    // Finds the inverse anew.
+    fn invert(&mut self, network: &ScaledNetwork) -> Result<(), NoMemory> {
+        self.bearing
+            .invert_upper(network, &self.marks, &mut self.inverse)
+    }
+}
