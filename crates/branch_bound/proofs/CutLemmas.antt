@@ -1,4 +1,4 @@
-use Rattle.std.proofs.Common.{◌≡◌, ◌↔◌, ◌<◌, ℕ, Bool, true, IsTrue, List, length, refl, ap, sym, ◌∙◌, subst, Some}
+use Rattle.std.proofs.Common.{◌≡◌, ◌↔◌, ◌<◌, ℕ, Bool, true, IsTrue, List, [], ◌∷◌, ◌++◌, length, refl, ap, sym, ◌∙◌, subst, Some}
 use Rattle.std.specs.Prelude.{slice_get, ℤ}
 use Rattle.whole_algebra.specs.Matrices.{at}
 use Rattle.geo_model.specs.Limit.{LimitOf, IsInForce}
@@ -8,30 +8,34 @@ use Rattle.geo_model.specs.Row.{IsNarrow}
 use Rattle.geo_model.specs.declared.plan.Node.{Node}
 use Rattle.pivot_chain.proofs.CertifiedLemmas.{limit_named}
 use Rattle.cut_pool.specs.Cut.{CutOf, IsCutOf}
-use Rattle.bound_log.specs.CutText.{text_of_cut}
+use Rattle.bound_log.specs.CutText.{CutTextOf, text_of_cut}
 use Rattle.bound_log.specs.LogTree.{IsBrokenBy}
 use Rattle.bound_log.specs.declared.log_line.LogLine.TheVariants as line
 use Rattle.bound_log.proofs.AllowedLemmas.{cut_broken}
 use Rattle.bound_log.proofs.MoveLemmas.{cut_line_allowed}
 use Rattle.bound_log.specs.DualText.{text_or_none}
-use Rattle.branch_bound.specs.Cuts.{SearchCuts, IsCutFor, AreCutsFor, IsBrokenCut, log_line_of}
+use Rattle.branch_bound.specs.Cuts.{SearchCuts, IsCutFor, AreCutsFor, GotCuts, IsBrokenCut, log_line_of, named_cuts}
+use Rattle.branch_bound.specs.Explored.{IsLineAt}
+use Rattle.branch_bound.specs.Spelled.{PutsLine, SpellsOn}
+use Rattle.branch_bound.proofs.GrownLemmas.{named_same}
+use Rattle.branch_bound.specs.declared.best.Best.{Best}
 use Rattle.branch_bound.specs.declared.node_line.NodeLine.{NodeLine}
 use Rattle.branch_bound.specs.declared.node_line.NodeLine.TheVariants.{Split, Cost, Pivot, Cut, UnitDual, Dual}
 
 -- Laws of the cuts of a search and of the lines that it writes.
 
 -- the line of a split is a split
-pub split_line : (cuts : SearchCuts) (found : NodeLine) (candidate : ℕ) → found ≡ Split candidate → log_line_of cuts found ≡ line.Split candidate
-split_line cuts found candidate is = ap (λ (l : NodeLine). log_line_of cuts l) is
+pub split_line : (pool : List CutOf) (found : NodeLine) (candidate : ℕ) → found ≡ Split candidate → log_line_of pool found ≡ line.Split candidate
+split_line pool found candidate is = ap (λ (l : NodeLine). log_line_of pool l) is
 
 -- and no other line is
-pub unsplit_line : (cuts : SearchCuts) (found : NodeLine) → ((candidate : ℕ) → found ≡ Split candidate → ⊥) → (candidate : ℕ) → log_line_of cuts found ≡ line.Split candidate → ⊥
-unsplit_line cuts (Split k) none candidate is = none k refl
-unsplit_line cuts Cost none candidate is = absurd (cc)
-unsplit_line cuts (Pivot k) none candidate is = absurd (cc)
-unsplit_line cuts (Cut k) none candidate is = absurd (cc)
-unsplit_line cuts (UnitDual share) none candidate is = absurd (cc)
-unsplit_line cuts (Dual dual) none candidate is = absurd (cc)
+pub unsplit_line : (pool : List CutOf) (found : NodeLine) → ((candidate : ℕ) → found ≡ Split candidate → ⊥) → (candidate : ℕ) → log_line_of pool found ≡ line.Split candidate → ⊥
+unsplit_line pool (Split k) none candidate is = none k refl
+unsplit_line pool Cost none candidate is = absurd (cc)
+unsplit_line pool (Pivot k) none candidate is = absurd (cc)
+unsplit_line pool (Cut k) none candidate is = absurd (cc)
+unsplit_line pool (UnitDual share) none candidate is = absurd (cc)
+unsplit_line pool (Dual dual) none candidate is = absurd (cc)
 
 -- a cut is broken where its limit is in force for the inner plan and its displacement breaks it under the upper plan
 pub cut_breaks : (network : NetworkOf) (node : Node) (cut : CutOf) (in_force broken : Bool) → IsCutFor network cut → IsNarrow (at cut.x) →
@@ -61,6 +65,17 @@ is_cut_for network limit x cut inside places narrow is = record {
   exact = subst (λ (n : ℕ). IsCutOf network n cut.x cut) (sym is.named) (subst (λ (y : List ℤ). IsCutOf network limit y cut) (sym is.moved) is);
 }
 
--- the cuts of a search that are as before
-pub cuts_kept : (network : NetworkOf) (before now : SearchCuts) → AreCutsFor network before → now ≡ before → AreCutsFor network now
-cuts_kept network before now all kept = subst (λ (cs : SearchCuts). AreCutsFor network cs) (sym kept) all
+-- the line that was put where nothing stood, of a pool that stays, spells what the line of the node says
+pub line_taken : (network : NetworkOf) (before at_line now : SearchCuts) (found : NodeLine) (out out_now : List ℕ) → AreCutsFor network before → GotCuts network before at_line →
+    now.pool ≡ at_line.pool → out ≡ [] → PutsLine (named_cuts at_line) out out_now (log_line_of at_line.pool found) (named_cuts now) →
+    SpellsOn (named_cuts before) out_now (log_line_of now.pool found ∷ []) (named_cuts now)
+line_taken network before at_line now found out out_now for got pool cleared puts =
+    let text : puts.text ≡ out_now = sym (puts.put ∙ ap (λ (t : List ℕ). t ++ puts.text) cleared) in
+    subst (λ (named : List CutTextOf). SpellsOn named out_now (log_line_of now.pool found ∷ []) (named_cuts now)) (named_same network before at_line for got)
+    (subst (λ (p : List CutOf). SpellsOn (named_cuts at_line) out_now (log_line_of p found ∷ []) (named_cuts now)) (sym pool)
+    (subst (λ (t : List ℕ). SpellsOn (named_cuts at_line) t (log_line_of at_line.pool found ∷ []) (named_cuts now)) text puts.spells))
+
+-- the line of a node over a pool that stays
+pub line_kept : (network : NetworkOf) (node : Node) (best best_now : Best) (before now : List CutOf) (found : NodeLine) → now ≡ before →
+    IsLineAt network node best best_now (log_line_of before found) → IsLineAt network node best best_now (log_line_of now found)
+line_kept network node best best_now before now found same here = subst (λ (p : List CutOf). IsLineAt network node best best_now (log_line_of p found)) (sym same) here

@@ -1,5 +1,5 @@
-use Rattle.std.proofs.Common.{rules, ◌≡◌, ◌==◌, if◌then◌else◌, false, eq-eqb, eqb-true, subst, ◌++◌, ◌<◌, ◌+◌, ℕ, zero, suc, ltb, ◌&&◌, Bool, true, List, [], ◌∷◌, length, replicate, arith, refl, ap, ap₂, sym, ◌∙◌, Some, None}
-use Rattle.std.specs.Prelude.{slice_get, slice_set, nat_le, ℤ, pos, Option, IsNone, Any}
+use Rattle.std.proofs.Common.{◌≡◌, ◌==◌, if◌then◌else◌, false, eq-eqb, eqb-true, ◌<◌, ◌+◌, ℕ, zero, suc, ltb, ◌&&◌, Bool, true, List, [], ◌∷◌, length, replicate, arith, refl, ap, ap₂, sym, ◌∙◌, Some, None}
+use Rattle.std.specs.Prelude.{slice_get, slice_set, nat_le, ℤ, pos, Option, IfSome, IsNone}
 use Rattle.std.proofs.lemmas.Bool.{le-leb, lt-ltb}
 use Rattle.std.proofs.lemmas.List.Elements.{All-cons, All-nil}
 use Rattle.geo_model.specs.Cover.{CoverOf}
@@ -10,22 +10,23 @@ use Rattle.geo_model.specs.Prices.{prices_of, price_of}
 use Rattle.geo_model.specs.Row.{unit_at}
 use Rattle.geo_model.specs.declared.plan.Node.{Node}
 use Rattle.cut_pool.specs.Cut.{CutOf, cover_of}
-use Rattle.cut_pool.specs.Pool.{IsSameCut}
 use Rattle.bound_log.specs.declared.bound.Bound.{Bound}
 use Rattle.bound_log.specs.declared.bound.Bound.TheVariants.{NoPlan, AtLeast}
 use Rattle.bound_log.specs.declared.log_leaf.LogLeaf.TheVariants.{Dual}
 use Rattle.bound_log.specs.declared.log_line.LogLine.TheVariants.{Leaf}
-use Rattle.bound_log.specs.CutText.{moves_from, displaced_by}
-use Rattle.bound_log.specs.DualText.{cover_at, texts_of_shares}
+use Rattle.bound_log.specs.CutText.{CutTextOf, moves_from, displaced_by}
+use Rattle.bound_log.specs.DualText.{cover_at, text_or_none}
 use Rattle.bound_log.specs.LogTree.{IsNodeRefutedBy, IsLineShareAt, leaf_bound, leaf_bound_for}
 use Rattle.bound_log.specs.Rules.{IsAllowedLine, is_displacement}
 use Rattle.bound_log.proofs.AllowedLemmas.{dual_allowed}
 use Rattle.bound_log.proofs.SoundLemmas.{at_place}
 use Rattle.idle_splits.specs.Idle.{IsAbove, IsDearByUnit, IsIdle, refuted, dear, dear_by_unit, bound_by}
+use Rattle.idle_splits.specs.UnitCuts.{unit_move}
 use Rattle.idle_splits.specs.UnitShares.{ShowsDear}
 use Rattle.idle_splits.specs.declared.unit_share.UnitShare.{UnitShare}
 use Rattle.idle_splits.proofs.Unit.{cover_of-same}
-use Rattle.branch_bound.specs.Cuts.{unit_text}
+use Rattle.branch_bound.specs.Cuts.{IsSearchPool, IsUnitWritable, unit_text}
+use Rattle.branch_bound.specs.Naming.{text_at}
 use Rattle.branch_bound.specs.Found.{IsCovered, IsPast, best_bound}
 use Rattle.branch_bound.specs.declared.best.Best.{Best}
 use Rattle.branch_bound.specs.declared.best.Best.TheVariants as best
@@ -47,26 +48,31 @@ moves_unit (suc n) (suc i) k below =
     let same : suc k + i ≡ k + suc i = omega arith in
     moves_unit n i (suc k) (omega arith) ∙ ap (λ (a : ℕ). (a, pos 1) ∷ []) same
 
--- a pool of one cut, of the displacement by 1 in the unknown of a share
-pub unit_dual_text : (pool : List CutOf) (cut : CutOf) (share : UnitShare) → pool ≡ cut ∷ [] → cut.limit ≡ share.limit →
-    cut.x ≡ slice_set (replicate (share.unknown + 1) (pos 0)) share.unknown (pos 1) →
-    texts_of_shares pool (record { y = share.y; cut = 0 } ∷ []) ≡ unit_text share ∷ []
-unit_dual_text pool cut share is limit moved =
-    ap (λ (p : List CutOf). texts_of_shares p (record { y = share.y; cut = 0 } ∷ [])) is
-    ∙ ap₂ (λ (l : ℕ) (pairs : List (ℕ × ℤ)). (share.y, record { limit = l; pairs = pairs }) ∷ []) limit
-    (ap (moves_from 0) moved ∙ moves_unit (share.unknown + 1) share.unknown 0 (omega arith) ∙ ap (λ (a : ℕ). (a, pos 1) ∷ []) (nothing_more share.unknown))
+-- the cut of a pool that has the limit and the displacement of a share is spelled as the share's
+pub unit_text_at : (pool : List CutOf) (number unknowns : ℕ) (cut : CutOf) (share : UnitShare) → slice_get pool number ≡ Some cut → cut.limit ≡ share.limit →
+    cut.x ≡ unit_move unknowns share.unknown → share.unknown < unknowns → text_at pool number ≡ (unit_text share).1
+unit_text_at pool number unknowns cut share is limit moved inside =
+    ap text_or_none is
+    ∙ ap₂ (λ (l : ℕ) (pairs : List (ℕ × ℤ)). let made : CutTextOf = record { limit = l; pairs = pairs } in made) limit
+    (ap (moves_from 0) moved ∙ moves_unit unknowns share.unknown 0 inside ∙ ap (λ (a : ℕ). (a, pos 1) ∷ []) (nothing_more share.unknown))
   where
     nothing_more : (n : ℕ) → 0 + n ≡ n
     nothing_more n = omega arith
 
--- the first cut of a pool
-pub first_added : (before now : List CutOf) (cut : CutOf) (is_new : Bool) → before ≡ [] → (is_new ≡ false → Any (λ other. IsSameCut other cut) before) →
-    (is_new ≡ true → now ≡ before ++ cut ∷ []) → now ≡ cut ∷ []
-first_added before now cut true empty there added = added refl ∙ ap (λ (b : List CutOf). b ++ cut ∷ []) empty
-first_added before now cut false empty there added = absurd (none (subst (λ (b : List CutOf). Any (λ other. IsSameCut other cut) b) empty (there refl)))
-  where
-    none : Any (λ other. IsSameCut other cut) [] → ⊥
-    none found = search rules
+-- a share that was found can be written
+pub unit_writable : (network : NetworkOf) (node : Node) (earlier : Bound) (pool : List CutOf) (share : UnitShare) → IsSearchPool network pool → ShowsDear network node earlier share →
+    IsUnitWritable network pool share
+unit_writable network node earlier pool share is shows = record {
+  inside = shows.loaded.inside;
+  there = is.points share.limit share.unknown shows.limit shows.loaded;
+  divisor = omega (arith, shows.small_divisor);
+  multiplier = omega (arith, shows.small_multiplier);
+}
+
+pub if_writable : (network : NetworkOf) (node : Node) (earlier : Bound) (pool : List CutOf) (found : Option UnitShare) → IsSearchPool network pool → IfSome found (ShowsDear network node earlier) →
+    IfSome found (IsUnitWritable network pool)
+if_writable network node earlier pool None is shows = tt
+if_writable network node earlier pool (Some share) is shows = unit_writable network node earlier pool share is shows
 
 -- ---- it is allowed
 

@@ -25,7 +25,7 @@ use Rattle.bound_log.proofs.SoundLemmas.{IsInForce-grows, at_place, bound_for-be
 use Rattle.idle_splits.specs.Idle.{IsNoMore}
 use Rattle.branch_bound.specs.declared.best.Best.{Best}
 use Rattle.branch_bound.specs.declared.best.Best.TheVariants as best
-use Rattle.branch_bound.specs.Found.{best_bound, IsTrueBest, IsCovered, IsBelow, IsPast, IsDone}
+use Rattle.branch_bound.specs.Found.{best_bound, IsTrueBest, IsCovered, IsBelow, IsPast, IsStart, IsOffered, IsDone}
 use Rattle.branch_bound.specs.Searched.{IsCertified, IsUnsettled}
 use Rattle.branch_bound.proofs.BoundOrder.{no_more_same, no_more_then, no_more_both, lesser_left, lesser_right}
 
@@ -161,7 +161,7 @@ IsDone-offered : (network : NetworkOf) (node : Node) (found offered : Best) (bou
 IsDone-offered network node found offered bound is kept falls covered still = record {
   price = subst (λ b. IsNoMore (best_bound network offered) b) is (no_more_same (best_bound network offered));
   falls = subst (λ b. IsNoMore b (best_bound network found)) (sym is) falls;
-  reached = inr (subst (λ b. IsNoMore b (best_bound network offered)) is (no_more_same (best_bound network offered)));
+  reached = inr (inr (subst (λ b. IsNoMore b (best_bound network offered)) is (no_more_same (best_bound network offered))));
   kept = kept;
   covered = covered;
   still = still;
@@ -220,13 +220,19 @@ has_or_lacks plan i inside = elim (cases_Bool (get_or plan i false)) [
   | inr lacks ↦ inr (slice_get-get_or plan i false inside ∙ ap Some lacks)
 ]
 
--- both children are done: where another plan was found, a child's bound is no more than its price
-reached_split : (network : NetworkOf) (first second : Bound) (before middle now : Best) → (middle ≡ before) ⊎ IsNoMore first (best_bound network middle) →
-    (now ≡ middle) ⊎ IsNoMore second (best_bound network now) → (now ≡ before) ⊎ IsNoMore (lesser first second) (best_bound network now)
-reached_split network first second before middle now one (inr reached) = inr (lesser_right first second (best_bound network now) reached)
+-- where the best plan was found
+abbrev IsReached : NetworkOf → Bound → Best → Best → Type 0
+IsReached network bound before now = (now ≡ before) ⊎ (IsStart network now ⊎ IsNoMore bound (best_bound network now))
+
+-- both children are done: where another plan was found, it is certified, or a child's bound is no more than its price
+reached_split : (network : NetworkOf) (first second : Bound) (before middle now : Best) → IsReached network first before middle → IsReached network second middle now →
+    IsReached network (lesser first second) before now
+reached_split network first second before middle now one (inr (inl begun)) = inr (inl begun)
+reached_split network first second before middle now one (inr (inr reached)) = inr (inr (lesser_right first second (best_bound network now) reached))
 reached_split network first second before middle now (inl same) (inl stays) = inl (stays ∙ same)
-reached_split network first second before middle now (inr reached) (inl stays) =
-    inr (lesser_left first second (best_bound network now) (subst (λ (b : Best). IsNoMore first (best_bound network b)) (sym stays) reached))
+reached_split network first second before middle now (inr (inl begun)) (inl stays) = inr (inl (subst (λ (b : Best). IsStart network b) (sym stays) begun))
+reached_split network first second before middle now (inr (inr reached)) (inl stays) =
+    inr (inr (lesser_left first second (best_bound network now) (subst (λ (b : Best). IsNoMore first (best_bound network b)) (sym stays) reached)))
 
 pub IsDone-split : (network : NetworkOf) (node : Node) (candidate : ℕ) (first second : Bound) (before middle now : Best) →
     IsOpenAt network node candidate → IsDone network (with_chosen node candidate) first before middle →
@@ -244,4 +250,52 @@ IsDone-split network node candidate first second before middle now is_open one t
         | inr lacks ↦ two.covered other certified above (IsWithin-without other node.upper candidate below lacks)
       ];
   still = λ other covered. two.still other (one.still other covered);
+}
+
+-- a plan is offered first
+reached_offered : (network : NetworkOf) (bound : Bound) (before middle now : Best) → (middle ≡ before) ⊎ IsStart network middle → IsReached network bound middle now → IsReached network bound before now
+reached_offered network bound before middle now one (inr reached) = inr reached
+reached_offered network bound before middle now (inl same) (inl stays) = inl (stays ∙ same)
+reached_offered network bound before middle now (inr begun) (inl stays) = inr (inl (subst (λ (b : Best). IsStart network b) (sym stays) begun))
+
+pub IsDone-after : (network : NetworkOf) (node : Node) (bound : Bound) (before middle now : Best) → IsOffered network before middle → IsDone network node bound middle now →
+    IsDone network node bound before now
+IsDone-after network node bound before middle now offered done = record {
+  price = done.price;
+  falls = no_more_then (best_bound network now) (best_bound network middle) (best_bound network before) done.falls offered.falls;
+  reached = reached_offered network bound before middle now offered.same done.reached;
+  kept = done.kept;
+  covered = done.covered;
+  still = λ other covered. done.still other (offered.still other covered);
+}
+
+-- no plan is offered
+pub IsOffered-none : (network : NetworkOf) (found : Best) → IsTrueBest network found → IsOffered network found found
+IsOffered-none network found kept = record {
+  same = inl refl;
+  falls = no_more_same (best_bound network found);
+  kept = kept;
+  still = λ other covered. covered;
+}
+
+-- a certified plan is offered that is cheaper than the best one
+cheaper_falls : (network : NetworkOf) (found : Best) (plan : List Bool) → IsBelow (price_of network plan) (best_bound network found) →
+    IsNoMore (AtLeast (price_of network plan)) (best_bound network found)
+cheaper_falls network best.NoPlan plan below = tt
+cheaper_falls network (best.Certified kept) plan below = less_than_bound (price_of network plan) (price_of network kept) below
+cheaper_falls network (best.Unsettled kept) plan below = less_than_bound (price_of network plan) (price_of network kept) below
+
+cheaper_still : (network : NetworkOf) (found : Best) (plan other : List Bool) → IsBelow (price_of network plan) (best_bound network found) → IsCovered network found other →
+    price_of network plan ≤ price_of network other
+cheaper_still network best.NoPlan plan other below covered = absurd covered
+cheaper_still network (best.Certified kept) plan other below covered = omega (arith, below, covered)
+cheaper_still network (best.Unsettled kept) plan other below covered = omega (arith, below, covered)
+
+pub IsOffered-cheaper : (network : NetworkOf) (found : Best) (plan : List Bool) → IsCertified network plan → IsBelow (price_of network plan) (best_bound network found) →
+    IsOffered network found (best.Certified plan)
+IsOffered-cheaper network found plan certified below = record {
+  same = inr certified;
+  falls = cheaper_falls network found plan below;
+  kept = certified;
+  still = λ other covered. cheaper_still network found plan other below covered;
 }

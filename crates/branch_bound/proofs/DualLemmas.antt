@@ -1,4 +1,4 @@
-use Rattle.std.proofs.Common.{◌≡◌, ◌<◌, ℕ, List, [], ◌∷◌, All, length, map, get_or, refl, ap, ap₂, sym, ◌∙◌, subst}
+use Rattle.std.proofs.Common.{◌≡◌, ◌<◌, ◌≤◌, ◌^◌, ℕ, List, [], ◌∷◌, All, length, map, get_or, refl, ap, ap₂, sym, ◌∙◌, subst}
 use Rattle.std.proofs.lemmas.Option.{slice_get_within}
 use Rattle.std.proofs.lemmas.List.Elements.{All-head, All-tail}
 use Rattle.whole_algebra.specs.Matrices.{at}
@@ -20,7 +20,7 @@ use Rattle.bound_log.specs.PoolShares.{IsPoolShareAt}
 use Rattle.bound_log.proofs.PoolLemmas.{dual_line_allowed, share_covers}
 use Rattle.bound_log.proofs.SoundLemmas.{at_place}
 use Rattle.idle_splits.proofs.Unit.{small_cover}
-use Rattle.branch_bound.specs.Cuts.{IsCutFor, ArePoolFor}
+use Rattle.branch_bound.specs.Cuts.{IsCutFor, ArePoolFor, IsDualWritable}
 use Rattle.branch_bound.specs.Explored.{CutsOff}
 use Rattle.branch_bound.specs.Found.{IsPast}
 use Rattle.branch_bound.specs.declared.best.Best.{Best}
@@ -99,4 +99,13 @@ cuts_off network node found pool dual price all is bound past = record {
       (all_then (IsShareWithin network node pool) (IsPoolShareAt network node pool) dual.shares.items (λ share by. may_be_named network node pool share all by) is.each);
   bound = ap (λ ws. AtLeast (dual_bound (prices_of network) dual.d ws node)) (weighed_same network node pool dual.shares.items all is.each) ∙ ap AtLeast (sym bound);
   past = past;
+}
+
+-- .. and can be written
+pub dual_writable : (network : NetworkOf) (node : Node) (pool : List CutOf) (dual : AscentDual) → IsDualWithin network node pool dual → IsDualWritable pool dual
+dual_writable network node pool dual is = record {
+  divisor = is.divisor_high;
+  few = is.few;
+  each = all_then (IsShareWithin network node pool) (λ share. (share.y ≤ 2 ^ 44) × (share.cut < length pool)) dual.shares.items
+      (λ share by. (by.high, slice_get_within pool share.cut by.named.cut by.named.among)) is.each;
 }

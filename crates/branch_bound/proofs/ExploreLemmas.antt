@@ -1,7 +1,6 @@
 use Rattle.std.proofs.Common.{replicate, ◌≡◌, ℕ, Bool, true, false, List, [], ◌∷◌, ◌++◌, map, length, refl, sym, ap, ap₂, ◌∙◌, subst, Some}
 use Rattle.std.specs.Prelude.{slice_set}
-use Rattle.std.proofs.lemmas.List.Concat.{flat_map-append}
-use Rattle.std.proofs.lemmas.List.{length-set, length-replicate, append-nil, map-append}
+use Rattle.std.proofs.lemmas.List.{length-set, length-replicate, map-append}
 use Rattle.shelf_io.specs.Files.{Files, IsHeld}
 use Rattle.geo_model.specs.Energy.{IsWithin}
 use Rattle.geo_model.specs.Network.{NetworkOf}
@@ -12,13 +11,14 @@ use Rattle.bound_log.specs.Counted.{counts_with}
 use Rattle.bound_log.proofs.AllowedLemmas.{split_allowed, cost_allowed}
 use Rattle.bound_log.proofs.CountLemmas.{counts_with-then}
 use Rattle.geo_model.proofs.PlanLemmas.{IsWithin-with, IsWithin-without, IsWithin-none}
-use Rattle.bound_log.specs.LogText.{line_text, lines_text}
+use Rattle.bound_log.specs.CutText.{CutTextOf}
+use Rattle.bound_log.specs.NamedText.{named_text}
 use Rattle.bound_log.specs.LogTree.{root_of, IsOpenAt, IsNodeRefutedBy, with_chosen, without_chosen, bound_at}
 use Rattle.bound_log.specs.declared.line_kind.LineKind.{LineKind}
-use Rattle.bound_log.specs.declared.log_leaf.LogLeaf.{LogLeaf}
 use Rattle.bound_log.specs.declared.log_leaf.LogLeaf.TheVariants.{Cost}
 use Rattle.bound_log.specs.declared.log_line.LogLine.{LogLine}
 use Rattle.bound_log.specs.declared.log_line.LogLine.TheVariants.{Split, Leaf}
+use Rattle.bound_log.specs.declared.named_line.NamedLine.TheVariants as named_line
 use Rattle.bound_log.specs.Lines.{kind_of}
 use Rattle.bound_log.specs.Tree.{Tree, fork, tip, tree_lines}
 use Rattle.bound_log.specs.Bound.{lesser}
@@ -29,88 +29,106 @@ use Rattle.branch_bound.specs.declared.search_fault.SearchFault.{SearchFault}
 use Rattle.branch_bound.specs.declared.search_fault.SearchFault.TheVariants as fault
 use Rattle.shelf_io.specs.States.{ShelfState}
 use Rattle.branch_bound.specs.Explored.{AddsText, BreaksText, IsNode, IsLineAt, Explores, BreaksTree}
-use Rattle.branch_bound.specs.Found.{IsTrueBest, best_bound}
+use Rattle.branch_bound.specs.Found.{IsTrueBest, IsOffered, best_bound}
+use Rattle.branch_bound.specs.Naming.{AreNamesOnce}
+use Rattle.branch_bound.specs.Spelled.{SpellsOn}
 use Rattle.branch_bound.proofs.BoundOrder.{no_more_both, no_more_then}
-use Rattle.branch_bound.proofs.DoneLemmas.{IsDone-split}
+use Rattle.branch_bound.proofs.DoneLemmas.{IsDone-after, IsDone-split}
+use Rattle.branch_bound.proofs.SpellLemmas.{SpellsOn-line, SpellsOn-then}
 use Rattle.branch_bound.proofs.PieceLemmas.{BreaksText-nothing, AddsText-then, BreaksText-after, BreaksText-longer}
 
 -- How the parts of an exploration make the whole.
 
+-- a leaf of the price alone
+abbrev pub cost_text : List ℕ
+cost_text = named_text named_line.Cost
+
+pub SpellsOn-cost : (cuts : List CutTextOf) → SpellsOn cuts cost_text (tree_lines (tip Cost)) cuts
+SpellsOn-cost cuts = SpellsOn-line cuts named_line.Cost (Leaf Cost) tt refl refl
+
 -- memory ran out before a line was written
-pub BreaksTree-nothing : (network : NetworkOf) (node : Node) (name : List ℕ) (state : ShelfState) →
-    ((files : Files) → state.held ≡ Some files → IsHeld files name) → BreaksTree network node name fault.NoMemory state state
-BreaksTree-nothing network node name state told = record {
+pub BreaksTree-nothing : (network : NetworkOf) (node : Node) (name : List ℕ) (cuts : List CutTextOf) (state : ShelfState) → AreNamesOnce network cuts →
+    ((files : Files) → state.held ≡ Some files → IsHeld files name) → BreaksTree network node name cuts fault.NoMemory state state
+BreaksTree-nothing network node name cuts state named told = record {
   tree = tip Cost;
+  text = cost_text;
+  cuts_then = cuts;
   allowed = cost_allowed network node;
-  broken = BreaksText-nothing name (lines_text (tree_lines (tip Cost))) state told;
+  spells = SpellsOn-cost cuts;
+  named = named;
+  broken = BreaksText-nothing name cost_text state told;
 }
 
--- the text of a tree of one leaf
-tip_text : (end : LogLeaf) → line_text (Leaf end) ≡ lines_text (tree_lines (tip end))
-tip_text end = sym (append-nil (line_text (Leaf end)))
-
 -- a leaf was written
-pub Explores-leaf : (network : NetworkOf) (node : Node) (name : List ℕ) (best best_now : Best) (counts counts_now : Counts) (before now : ShelfState) (found : LogLine) →
-    IsLineAt network node best best_now found → ((candidate : ℕ) → found ≡ Split candidate → ⊥) →
-    AddsText name (line_text found) before now → counts_now ≡ counts_with counts (kind_of found ∷ []) →
-    Explores network node name best best_now counts counts_now before now
-Explores-leaf network node name best best_now counts counts_now before now (Split candidate) here not_split added counted = absurd (not_split candidate refl)
-Explores-leaf network node name best best_now counts counts_now before now (Leaf end) here not_split added counted = record {
+pub Explores-leaf : (network : NetworkOf) (node : Node) (name text : List ℕ) (cuts cuts_now : List CutTextOf) (best best_now : Best) (counts counts_now : Counts) (before now : ShelfState) (found : LogLine) →
+    IsLineAt network node best best_now found → ((candidate : ℕ) → found ≡ Split candidate → ⊥) → SpellsOn cuts text (found ∷ []) cuts_now →
+    AddsText name text before now → counts_now ≡ counts_with counts (kind_of found ∷ []) →
+    Explores network node name cuts cuts_now best best_now counts counts_now before now
+Explores-leaf network node name text cuts cuts_now best best_now counts counts_now before now (Split candidate) here not_split spells added counted = absurd (not_split candidate refl)
+Explores-leaf network node name text cuts cuts_now best best_now counts counts_now before now (Leaf end) here not_split spells added counted = record {
   tree = tip end;
+  text = text;
   allowed = here.allowed;
-  added = subst (λ text. AddsText name text before now) (tip_text end) added;
+  spells = spells;
+  added = added;
   counted = counted;
   done = here.done;
   no_idle = λ earlier below. tt;
 }
 
--- the lines of a split
-split_text : (candidate : ℕ) (with_it without_it : Tree) →
-    lines_text (tree_lines (fork candidate with_it without_it)) ≡ line_text (Split candidate) ++ (lines_text (tree_lines with_it) ++ lines_text (tree_lines without_it))
-split_text candidate with_it without_it = ap (λ text. line_text (Split candidate) ++ text) (flat_map-append line_text (tree_lines with_it) (tree_lines without_it))
-
--- a split was begun
-BreaksTree-split : (network : NetworkOf) (node : Node) (name : List ℕ) (candidate : ℕ) (why : SearchFault) (before now : ShelfState) →
-    IsOpenAt network node candidate → BreaksText name (line_text (Split candidate)) why before now → BreaksTree network node name why before now
-BreaksTree-split network node name candidate why before now is_open broken = record {
-  tree = fork candidate (tip Cost) (tip Cost);
-  allowed = (split_allowed network node candidate is_open, cost_allowed network (with_chosen node candidate), cost_allowed network (without_chosen node candidate));
-  broken = BreaksText-longer name (line_text (Split candidate)) (lines_text (tree_lines (tip Cost) ++ tree_lines (tip Cost))) why before now broken;
-}
-
 -- a line of a node was begun
-pub BreaksTree-line : (network : NetworkOf) (node : Node) (name : List ℕ) (best best_now : Best) (why : SearchFault) (before now : ShelfState) (found : LogLine) →
-    IsLineAt network node best best_now found → BreaksText name (line_text found) why before now → BreaksTree network node name why before now
-BreaksTree-line network node name best best_now why before now (Split candidate) here broken = BreaksTree-split network node name candidate why before now here.0 broken
-BreaksTree-line network node name best best_now why before now (Leaf end) here broken = record {
+pub BreaksTree-line : (network : NetworkOf) (node : Node) (name text : List ℕ) (cuts cuts_now : List CutTextOf) (best best_now : Best) (why : SearchFault) (before now : ShelfState) (found : LogLine) →
+    IsLineAt network node best best_now found → AreNamesOnce network cuts_now → SpellsOn cuts text (found ∷ []) cuts_now → BreaksText name text why before now →
+    BreaksTree network node name cuts why before now
+BreaksTree-line network node name text cuts cuts_now best best_now why before now (Split candidate) here named spells broken = record {
+  tree = fork candidate (tip Cost) (tip Cost);
+  text = text ++ (cost_text ++ cost_text);
+  cuts_then = cuts_now;
+  allowed = (split_allowed network node candidate here.0, cost_allowed network (with_chosen node candidate), cost_allowed network (without_chosen node candidate));
+  spells = SpellsOn-then cuts cuts_now cuts_now text (cost_text ++ cost_text) (Split candidate ∷ []) (tree_lines (tip Cost) ++ tree_lines (tip Cost)) spells
+      (SpellsOn-then cuts_now cuts_now cuts_now cost_text cost_text (tree_lines (tip Cost)) (tree_lines (tip Cost)) (SpellsOn-cost cuts_now) (SpellsOn-cost cuts_now));
+  named = named;
+  broken = BreaksText-longer name text (cost_text ++ cost_text) why before now broken;
+}
+BreaksTree-line network node name text cuts cuts_now best best_now why before now (Leaf end) here named spells broken = record {
   tree = tip end;
+  text = text;
+  cuts_then = cuts_now;
   allowed = here.allowed;
-  broken = subst (λ text. BreaksText name text why before now) (tip_text end) broken;
+  spells = spells;
+  named = named;
+  broken = broken;
 }
 
 -- the first child was begun
-pub BreaksTree-first : (network : NetworkOf) (node : Node) (name : List ℕ) (candidate : ℕ) (why : SearchFault) (before middle now : ShelfState) →
-    IsOpenAt network node candidate → AddsText name (line_text (Split candidate)) before middle →
-    BreaksTree network (with_chosen node candidate) name why middle now → BreaksTree network node name why before now
-BreaksTree-first network node name candidate why before middle now is_open added first = record {
+pub BreaksTree-first : (network : NetworkOf) (node : Node) (name text : List ℕ) (cuts cuts_now : List CutTextOf) (candidate : ℕ) (why : SearchFault) (before middle now : ShelfState) →
+    IsOpenAt network node candidate → SpellsOn cuts text (Split candidate ∷ []) cuts_now → AddsText name text before middle →
+    BreaksTree network (with_chosen node candidate) name cuts_now why middle now → BreaksTree network node name cuts why before now
+BreaksTree-first network node name text cuts cuts_now candidate why before middle now is_open spells added first = record {
   tree = fork candidate first.tree (tip Cost);
+  text = text ++ (first.text ++ cost_text);
+  cuts_then = first.cuts_then;
   allowed = (split_allowed network node candidate is_open, first.allowed, cost_allowed network (without_chosen node candidate));
-  broken = subst (λ text. BreaksText name text why before now) (sym (split_text candidate first.tree (tip Cost)))
-      (BreaksText-after name (line_text (Split candidate)) (lines_text (tree_lines first.tree) ++ lines_text (tree_lines (tip Cost))) why before middle now added
-      (BreaksText-longer name (lines_text (tree_lines first.tree)) (lines_text (tree_lines (tip Cost))) why middle now first.broken));
+  spells = SpellsOn-then cuts cuts_now first.cuts_then text (first.text ++ cost_text) (Split candidate ∷ []) (tree_lines first.tree ++ tree_lines (tip Cost)) spells
+      (SpellsOn-then cuts_now first.cuts_then first.cuts_then first.text cost_text (tree_lines first.tree) (tree_lines (tip Cost)) first.spells (SpellsOn-cost first.cuts_then));
+  named = first.named;
+  broken = BreaksText-after name text (first.text ++ cost_text) why before middle now added (BreaksText-longer name first.text cost_text why middle now first.broken);
 }
 
 -- the second child was begun
-pub BreaksTree-second : (network : NetworkOf) (node : Node) (name : List ℕ) (candidate : ℕ) (why : SearchFault) (best best_now : Best) (counts counts_now : Counts) (before middle later now : ShelfState) →
-    IsOpenAt network node candidate → AddsText name (line_text (Split candidate)) before middle →
-    Explores network (with_chosen node candidate) name best best_now counts counts_now middle later →
-    BreaksTree network (without_chosen node candidate) name why later now → BreaksTree network node name why before now
-BreaksTree-second network node name candidate why best best_now counts counts_now before middle later now is_open added first second = record {
+pub BreaksTree-second : (network : NetworkOf) (node : Node) (name text : List ℕ) (cuts cuts_split cuts_first : List CutTextOf) (candidate : ℕ) (why : SearchFault) (best best_now : Best) (counts counts_now : Counts) (before middle later now : ShelfState) →
+    IsOpenAt network node candidate → SpellsOn cuts text (Split candidate ∷ []) cuts_split → AddsText name text before middle →
+    Explores network (with_chosen node candidate) name cuts_split cuts_first best best_now counts counts_now middle later →
+    BreaksTree network (without_chosen node candidate) name cuts_first why later now → BreaksTree network node name cuts why before now
+BreaksTree-second network node name text cuts cuts_split cuts_first candidate why best best_now counts counts_now before middle later now is_open spells added first second = record {
   tree = fork candidate first.tree second.tree;
+  text = text ++ (first.text ++ second.text);
+  cuts_then = second.cuts_then;
   allowed = (split_allowed network node candidate is_open, first.allowed, second.allowed);
-  broken = subst (λ text. BreaksText name text why before now) (sym (split_text candidate first.tree second.tree))
-      (BreaksText-after name (line_text (Split candidate)) (lines_text (tree_lines first.tree) ++ lines_text (tree_lines second.tree)) why before middle now added
-      (BreaksText-after name (lines_text (tree_lines first.tree)) (lines_text (tree_lines second.tree)) why middle later now first.added second.broken));
+  spells = SpellsOn-then cuts cuts_split second.cuts_then text (first.text ++ second.text) (Split candidate ∷ []) (tree_lines first.tree ++ tree_lines second.tree) spells
+      (SpellsOn-then cuts_split cuts_first second.cuts_then first.text second.text (tree_lines first.tree) (tree_lines second.tree) first.spells second.spells);
+  named = second.named;
+  broken = BreaksText-after name text (first.text ++ second.text) why before middle now added (BreaksText-after name first.text second.text why middle later now first.added second.broken);
 }
 
 -- the kinds of the lines of a tree
@@ -118,17 +136,19 @@ abbrev kinds : Tree → List LineKind
 kinds tree = map kind_of (tree_lines tree)
 
 -- both children were explored
-pub Explores-split : (network : NetworkOf) (node : Node) (name : List ℕ) (candidate : ℕ) (best middle_best best_now : Best) (counts counts_split counts_first counts_now : Counts) (before middle later now : ShelfState) →
-    IsOpenAt network node candidate → (IsIdle network node (best_bound network best) → ⊥) → AddsText name (line_text (Split candidate)) before middle → counts_split ≡ counts_with counts (kind_of (Split candidate) ∷ []) →
-    Explores network (with_chosen node candidate) name best middle_best counts_split counts_first middle later →
-    Explores network (without_chosen node candidate) name middle_best best_now counts_first counts_now later now →
-    Explores network node name best best_now counts counts_now before now
-Explores-split network node name candidate best middle_best best_now counts counts_split counts_first counts_now before middle later now is_open not_idle added counted first second = record {
+pub Explores-split : (network : NetworkOf) (node : Node) (name text : List ℕ) (cuts cuts_split cuts_first cuts_now : List CutTextOf) (candidate : ℕ) (best middle_best best_now : Best) (counts counts_split counts_first counts_now : Counts) (before middle later now : ShelfState) →
+    IsOpenAt network node candidate → (IsIdle network node (best_bound network best) → ⊥) → SpellsOn cuts text (Split candidate ∷ []) cuts_split → AddsText name text before middle →
+    counts_split ≡ counts_with counts (kind_of (Split candidate) ∷ []) →
+    Explores network (with_chosen node candidate) name cuts_split cuts_first best middle_best counts_split counts_first middle later →
+    Explores network (without_chosen node candidate) name cuts_first cuts_now middle_best best_now counts_first counts_now later now →
+    Explores network node name cuts cuts_now best best_now counts counts_now before now
+Explores-split network node name text cuts cuts_split cuts_first cuts_now candidate best middle_best best_now counts counts_split counts_first counts_now before middle later now is_open not_idle spells added counted first second = record {
   tree = fork candidate first.tree second.tree;
+  text = text ++ (first.text ++ second.text);
   allowed = (split_allowed network node candidate is_open, first.allowed, second.allowed);
-  added = subst (λ text. AddsText name text before now) (sym (split_text candidate first.tree second.tree))
-      (AddsText-then name (line_text (Split candidate)) (lines_text (tree_lines first.tree) ++ lines_text (tree_lines second.tree)) before middle now added
-      (AddsText-then name (lines_text (tree_lines first.tree)) (lines_text (tree_lines second.tree)) middle later now first.added second.added));
+  spells = SpellsOn-then cuts cuts_split cuts_now text (first.text ++ second.text) (Split candidate ∷ []) (tree_lines first.tree ++ tree_lines second.tree) spells
+      (SpellsOn-then cuts_split cuts_first cuts_now first.text second.text (tree_lines first.tree) (tree_lines second.tree) first.spells second.spells);
+  added = AddsText-then name text (first.text ++ second.text) before middle now added (AddsText-then name first.text second.text middle later now first.added second.added);
   counted = second.counted
       ∙ ap (λ c. counts_with c (kinds second.tree)) (first.counted ∙ ap (λ c. counts_with c (kinds first.tree)) counted)
       ∙ counts_with-then (counts_with counts (kind_of (Split candidate) ∷ [])) (kinds first.tree) (kinds second.tree)
@@ -202,9 +222,9 @@ pub idle-line : (network : NetworkOf) (node : Node) (best best_now : Best) (foun
     IsLineAt network node best best_now found → IsIdle network node (best_bound network best) → ⊥
 idle-line network node best best_now found candidate is here = (subst (λ (l : LogLine). IsLineAt network node best best_now l) is here).3
 
-pub AddsText-line : (name : List ℕ) (found : LogLine) (candidate : ℕ) (before now : ShelfState) → found ≡ Split candidate →
-    AddsText name (line_text found) before now → AddsText name (line_text (Split candidate)) before now
-AddsText-line name found candidate before now is added = subst (λ (l : LogLine). AddsText name (line_text l) before now) is added
+pub SpellsOn-split : (cuts cuts_now : List CutTextOf) (text : List ℕ) (found : LogLine) (candidate : ℕ) → found ≡ Split candidate →
+    SpellsOn cuts text (found ∷ []) cuts_now → SpellsOn cuts text (Split candidate ∷ []) cuts_now
+SpellsOn-split cuts cuts_now text found candidate is spells = subst (λ (l : LogLine). SpellsOn cuts text (l ∷ []) cuts_now) is spells
 
 pub Counts-line : (counts counts_now : Counts) (found : LogLine) (candidate : ℕ) → found ≡ Split candidate →
     counts_now ≡ counts_with counts (kind_of found ∷ []) → counts_now ≡ counts_with counts (kind_of (Split candidate) ∷ [])
@@ -217,16 +237,16 @@ IsTrueBest-same network before now same kept = subst (λ best. IsTrueBest networ
 pub IsNode-same : (network : NetworkOf) (node same_node : Node) → same_node ≡ node → IsNode network node → IsNode network same_node
 IsNode-same network node same_node same is = subst (λ n. IsNode network n) (sym same) is
 
-pub BreaksTree-same : (network : NetworkOf) (node same_node : Node) (name : List ℕ) (why : SearchFault) (before now : ShelfState) → same_node ≡ node →
-    BreaksTree network same_node name why before now → BreaksTree network node name why before now
-BreaksTree-same network node same_node name why before now same broken = subst (λ n. BreaksTree network n name why before now) same broken
+pub BreaksTree-same : (network : NetworkOf) (node same_node : Node) (name : List ℕ) (cuts : List CutTextOf) (why : SearchFault) (before now : ShelfState) → same_node ≡ node →
+    BreaksTree network same_node name cuts why before now → BreaksTree network node name cuts why before now
+BreaksTree-same network node same_node name cuts why before now same broken = subst (λ n. BreaksTree network n name cuts why before now) same broken
 
-pub Explores-same : (network : NetworkOf) (node same_node : Node) (name : List ℕ) (old_best best best_now : Best) (counts counts_now : Counts) (before now : ShelfState) →
-    same_node ≡ node → old_best ≡ best → Explores network same_node name old_best best_now counts counts_now before now →
-    Explores network node name best best_now counts counts_now before now
-Explores-same network node same_node name old_best best best_now counts counts_now before now same same_best explored =
-    subst (λ b. Explores network node name b best_now counts counts_now before now) same_best
-    (subst (λ n. Explores network n name old_best best_now counts counts_now before now) same explored)
+pub Explores-same : (network : NetworkOf) (node same_node : Node) (name : List ℕ) (cuts cuts_now : List CutTextOf) (old_best best best_now : Best) (counts counts_now : Counts) (before now : ShelfState) →
+    same_node ≡ node → old_best ≡ best → Explores network same_node name cuts cuts_now old_best best_now counts counts_now before now →
+    Explores network node name cuts cuts_now best best_now counts counts_now before now
+Explores-same network node same_node name cuts cuts_now old_best best best_now counts counts_now before now same same_best explored =
+    subst (λ b. Explores network node name cuts cuts_now b best_now counts counts_now before now) same_best
+    (subst (λ n. Explores network n name cuts cuts_now old_best best_now counts counts_now before now) same explored)
 
 -- the node of all plans is a node
 pub IsNode-root : (network : NetworkOf) → IsNode network (root_of network)
@@ -234,4 +254,19 @@ IsNode-root network = record {
   inside_long = length-replicate (length network.candidates) false;
   upper_long = length-replicate (length network.candidates) true;
   within = subst (λ (n : ℕ). IsWithin (replicate n false) (replicate (length network.candidates) true)) (length-replicate (length network.candidates) true) (IsWithin-none (replicate (length network.candidates) true));
+}
+
+-- a plan is offered before the plans of a node are explored
+pub Explores-after : (network : NetworkOf) (node : Node) (name : List ℕ) (cuts cuts_now : List CutTextOf) (best middle best_now : Best) (counts counts_now : Counts) (before now : ShelfState) →
+    IsOffered network best middle → Explores network node name cuts cuts_now middle best_now counts counts_now before now →
+    Explores network node name cuts cuts_now best best_now counts counts_now before now
+Explores-after network node name cuts cuts_now best middle best_now counts counts_now before now offered explored = record {
+  tree = explored.tree;
+  text = explored.text;
+  allowed = explored.allowed;
+  spells = explored.spells;
+  added = explored.added;
+  counted = explored.counted;
+  done = IsDone-after network node (bound_at network node explored.tree) best middle best_now offered explored.done;
+  no_idle = λ earlier below. explored.no_idle earlier (no_more_then (best_bound network middle) (best_bound network best) earlier offered.falls below);
 }

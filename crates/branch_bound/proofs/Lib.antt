@@ -3,9 +3,16 @@ pub mod NodeLemmas
 pub mod VerdictLemmas
 pub mod BoundOrder
 pub mod DoneLemmas
+pub mod GrownLemmas
 pub mod CutLemmas
 pub mod DearLemmas
 pub mod DualLemmas
 pub mod InheritedLemmas
 pub mod ExploreLemmas
 pub mod SearchLemmas
+pub mod PlaceLemmas
+pub mod TellLemmas
+pub mod NamingLemmas
+pub mod SpellLemmas
+pub mod PointLemmas
+pub mod PutLemmas

@@ -17,6 +17,6 @@ same_plans (false ∷ inside) (true ∷ upper) within shut = absurd (shut zero (
 same_plans (false ∷ inside) (false ∷ upper) within shut = ap (λ rest. false ∷ rest) (same_plans inside upper within.1 (λ k below. shut (suc k) (omega arith)))
 
 -- what holds where there is none
-pub if_none : (P : Type 0) (found : Option ℕ) → ((x : ℕ) → found ≡ Some x → ⊥) → IfNone found P → P
+pub if_none : {X : Type 0} (P : Type 0) (found : Option X) → ((x : X) → found ≡ Some x → ⊥) → IfNone found P → P
 if_none P None not given = given
 if_none P (Some x) not given = absurd (not x refl)

@@ -1,4 +1,4 @@
-use Rattle.std.proofs.Common.{replicate, true, false, ◌≡◌, ◌⊎◌, inl, inr, ℕ, Bool, List, length, map, refl, sym, ap, ◌∙◌, subst, Some}
+use Rattle.std.proofs.Common.{replicate, true, false, ◌≡◌, ◌⊎◌, inl, inr, ℕ, Bool, List, [], ◌++◌, length, map, refl, sym, ap, ◌∙◌, subst, Some}
 use Rattle.shelf_io.specs.Files.{Files, IsHeld}
 use Rattle.geo_model.specs.Network.{NetworkOf, IsNetwork}
 use Rattle.geo_model.specs.Prices.{price_of, prices_of}
@@ -15,10 +15,11 @@ use Rattle.bound_log.specs.declared.bound.Bound.TheVariants.{NoPlan, AtLeast}
 use Rattle.bound_log.specs.Bound.{IsAtMost}
 use Rattle.bound_log.specs.Counted.{counts_with, no_counts}
 use Rattle.bound_log.specs.Lines.{kind_of}
-use Rattle.bound_log.proofs.MeaningLemmas.{cost_log, first_log}
+use Rattle.bound_log.proofs.AllowedLemmas.{cost_allowed}
 use Rattle.bound_log.proofs.SoundLemmas.{bound_for-below}
-use Rattle.bound_log.specs.LogText.{head_text, lines_text, log_text}
-use Rattle.bound_log.specs.LogTree.{root_of, IsAllowed, bound_at}
+use Rattle.bound_log.specs.CutText.{CutTextOf}
+use Rattle.bound_log.specs.NamedText.{second_head_text}
+use Rattle.bound_log.specs.LogTree.{root_of, IsAllowed, IsLog, bound_at}
 use Rattle.bound_log.specs.declared.log_leaf.LogLeaf.TheVariants.{Cost}
 use Rattle.bound_log.specs.Tree.{Tree, tip, tree_lines}
 use Rattle.idle_splits.specs.NoIdle.{HasNoIdle}
@@ -31,29 +32,44 @@ use Rattle.branch_bound.specs.declared.best.Best.TheVariants as best
 use Rattle.shelf_io.specs.States.{ShelfState}
 use Rattle.branch_bound.specs.Explored.{AddsText, BreaksText, Explores, BreaksTree}
 use Rattle.branch_bound.specs.Found.{IsDone, IsAnswerOf, IsTrueBest, IsStart}
-use Rattle.branch_bound.specs.Logged.{Searches, BreaksLog}
+use Rattle.branch_bound.specs.Logged.{Searches, BreaksLog, NamesEachOnce}
+use Rattle.branch_bound.specs.Naming.{AreNamesOnce}
+use Rattle.branch_bound.specs.Spelled.{SpellsOn}
 use Rattle.branch_bound.specs.Searched.{IsAnswer, IsCertified}
 use Rattle.branch_bound.proofs.BoundOrder.{no_more_twice}
+use Rattle.branch_bound.proofs.ExploreLemmas.{cost_text, SpellsOn-cost}
+use Rattle.branch_bound.proofs.NamingLemmas.{no_names}
+use Rattle.branch_bound.proofs.SpellLemmas.{second_log}
 use Rattle.branch_bound.proofs.PieceLemmas.{BreaksText-nothing, AddsText-then, BreaksText-after, BreaksText-longer}
 
 -- How the head and the exploration of the root make a search.
 
+-- a log of the price alone, which names no cut
+cost_log : (network : NetworkOf) → (log : IsLog network (second_head_text ++ cost_text) (tip Cost)) × NamesEachOnce network (second_head_text ++ cost_text) (tip Cost) log
+cost_log network = second_log network [] cost_text (tip Cost) (cost_allowed network (root_of network)) (no_names network) (SpellsOn-cost [])
+
 -- memory ran out before anything was written
 pub BreaksLog-nothing : (network : NetworkOf) (name : List ℕ) (state : ShelfState) → ((files : Files) → state.held ≡ Some files → IsHeld files name) →
     BreaksLog network name fault.NoMemory state state
-BreaksLog-nothing network name state told = record { tree = tip Cost; text = log_text (tip Cost); log = cost_log network; broken = BreaksText-nothing name (log_text (tip Cost)) state told }
+BreaksLog-nothing network name state told =
+    let whole = cost_log network in
+    record { tree = tip Cost; text = second_head_text ++ cost_text; log = whole.0; names = whole.1; broken = BreaksText-nothing name (second_head_text ++ cost_text) state told }
 
 -- the head was begun
-pub BreaksLog-head : (network : NetworkOf) (name : List ℕ) (why : SearchFault) (before now : ShelfState) → BreaksText name head_text why before now →
+pub BreaksLog-head : (network : NetworkOf) (name : List ℕ) (why : SearchFault) (before now : ShelfState) → BreaksText name second_head_text why before now →
     BreaksLog network name why before now
-BreaksLog-head network name why before now broken = record { tree = tip Cost; text = log_text (tip Cost); log = cost_log network; broken = BreaksText-longer name head_text (lines_text (tree_lines (tip Cost))) why before now broken }
+BreaksLog-head network name why before now broken =
+    let whole = cost_log network in
+    record { tree = tip Cost; text = second_head_text ++ cost_text; log = whole.0; names = whole.1; broken = BreaksText-longer name second_head_text cost_text why before now broken }
 
 -- the tree was begun
-pub BreaksLog-tree : (network : NetworkOf) (node : Node) (name : List ℕ) (why : SearchFault) (before middle now : ShelfState) → IsNetwork network → node ≡ root_of network →
-    AddsText name head_text before middle → BreaksTree network node name why middle now → BreaksLog network name why before now
-BreaksLog-tree network node name why before middle now bounds root added broken =
-    let at_root : BreaksTree network (root_of network) name why middle now = subst (λ n. BreaksTree network n name why middle now) root broken in
-    record { tree = at_root.tree; text = log_text at_root.tree; log = first_log network at_root.tree bounds at_root.allowed; broken = BreaksText-after name head_text (lines_text (tree_lines at_root.tree)) why before middle now added at_root.broken }
+pub BreaksLog-tree : (network : NetworkOf) (node : Node) (name : List ℕ) (cuts : List CutTextOf) (why : SearchFault) (before middle now : ShelfState) → node ≡ root_of network → cuts ≡ [] →
+    AddsText name second_head_text before middle → BreaksTree network node name cuts why middle now → BreaksLog network name why before now
+BreaksLog-tree network node name cuts why before middle now root none added broken =
+    let at_root : BreaksTree network (root_of network) name [] why middle now =
+    subst (λ (c : List CutTextOf). BreaksTree network (root_of network) name c why middle now) none (subst (λ n. BreaksTree network n name cuts why middle now) root broken) in
+    let whole = second_log network at_root.cuts_then at_root.text at_root.tree at_root.allowed at_root.named at_root.spells in
+    record { tree = at_root.tree; text = second_head_text ++ at_root.text; log = whole.0; names = whole.1; broken = BreaksText-after name second_head_text at_root.text why before middle now added at_root.broken }
 
 -- what a search begins with
 pub IsStart-same : (network : NetworkOf) (first begun : Best) → begun ≡ first → IsStart network first → IsStart network begun
@@ -93,9 +109,10 @@ no_price (AtLeast a) price = absurd price
 
 -- the price of an unsettled plan, which isn't what the search began with
 unsettled_price : (network : NetworkOf) (bound : Bound) (first : Best) (plan : List Bool) → IsStart network first →
-    (best.Unsettled plan ≡ first) ⊎ IsNoMore bound (AtLeast (price_of network plan)) → IsNoMore bound (AtLeast (price_of network plan))
+    (best.Unsettled plan ≡ first) ⊎ (IsStart network (best.Unsettled plan) ⊎ IsNoMore bound (AtLeast (price_of network plan))) → IsNoMore bound (AtLeast (price_of network plan))
 unsettled_price network bound first plan begun (inl same) = absurd (subst (λ (b : Best). IsStart network b) (sym same) begun)
-unsettled_price network bound first plan begun (inr reached) = reached
+unsettled_price network bound first plan begun (inr (inl certified)) = absurd certified
+unsettled_price network bound first plan begun (inr (inr reached)) = reached
 
 -- the answer that the best plan makes fits its bound
 answer_fits : (network : NetworkOf) (tree : Tree) (first found : Best) (made : Answer) → IsNetwork network → IsAllowed network (root_of network) tree → IsStart network first →
@@ -116,16 +133,18 @@ answer_fits network tree first (best.Unsettled plan) made bounds allowed begun d
     })
 
 -- the search is done
-pub Searches-done : (network : NetworkOf) (node : Node) (name : List ℕ) (found found_now : Best) (counts counts_now : Counts) (done : SearchDone) (before middle now : ShelfState) →
-    IsNetwork network → node ≡ root_of network → IsStart network found → counts ≡ no_counts → AddsText name head_text before middle →
-    Explores network node name found found_now counts counts_now middle now → IsAnswerOf network found_now done.answer → done.counts ≡ counts_now →
+pub Searches-done : (network : NetworkOf) (node : Node) (name : List ℕ) (cuts cuts_now : List CutTextOf) (found found_now : Best) (counts counts_now : Counts) (done : SearchDone) (before middle now : ShelfState) →
+    IsNetwork network → node ≡ root_of network → cuts ≡ [] → AreNamesOnce network cuts_now → IsStart network found → counts ≡ no_counts → AddsText name second_head_text before middle →
+    Explores network node name cuts cuts_now found found_now counts counts_now middle now → IsAnswerOf network found_now done.answer → done.counts ≡ counts_now →
     Searches network name done before now
-Searches-done network node name found found_now counts counts_now done before middle now bounds root begun none_counted added explored answered counted_all =
+Searches-done network node name cuts cuts_now found found_now counts counts_now done before middle now bounds root none named begun none_counted added explored answered counted_all =
     let allowed : IsAllowed network (root_of network) explored.tree = subst (λ n. IsAllowed network n explored.tree) root explored.allowed in
+    let whole = second_log network cuts_now explored.text explored.tree allowed named (subst (λ (c : List CutTextOf). SpellsOn c explored.text (tree_lines explored.tree) cuts_now) none explored.spells) in
     record {
       tree = explored.tree;
-      text = log_text explored.tree;
-      log = first_log network explored.tree bounds allowed;
+      text = second_head_text ++ explored.text;
+      log = whole.0;
+      names = whole.1;
       searched = record {
         allowed = allowed;
         counted = counted_all ∙ explored.counted ∙ ap (λ c. counts_with c (map kind_of (tree_lines explored.tree))) none_counted;
@@ -134,5 +153,5 @@ Searches-done network node name found found_now counts counts_now done before mi
             (subst (λ (n : Node). IsDone network n (bound_at network n explored.tree) found found_now) root explored.done)
             answered;
       };
-      added = AddsText-then name head_text (lines_text (tree_lines explored.tree)) before middle now added explored.added;
+      added = AddsText-then name second_head_text explored.text before middle now added explored.added;
     }

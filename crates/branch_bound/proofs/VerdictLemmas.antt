@@ -1,4 +1,4 @@
-use Rattle.std.proofs.Common.{get_or, ◌≡◌, ◌↔◌, ◌<◌, ℕ, ℤ, Bool, true, IsTrue, List, length, refl, sym, ◌∙◌, subst, Some}
+use Rattle.std.proofs.Common.{get_or, ◌≡◌, ◌↔◌, ◌<◌, ℕ, ℤ, Bool, true, IsTrue, List, length, refl, sym, subst, Some}
 use Rattle.std.specs.Prelude.{slice_get, IfOk, Result, Ok, Err}
 use Rattle.std.proofs.lemmas.Option.{slice_get_read, slice_get-get_or, get_or_from_slice_get}
 use Rattle.geo_model.specs.Limit.{LimitOf, IsInForce}

@@ -7,7 +7,7 @@ use Rattle.geo_model.specs.Network.{NetworkOf}
 use Rattle.geo_model.specs.declared.answer.Counts.{Counts}
 use Rattle.geo_model.specs.declared.plan.Node.{Node}
 use Rattle.bound_log.specs.Counted.{counts_with}
-use Rattle.bound_log.specs.LogText.{lines_text}
+use Rattle.bound_log.specs.CutText.{CutTextOf}
 use Rattle.cut_pool.specs.Cut.{CutOf}
 use Rattle.cut_pool.specs.declared.share.Share.{Share}
 use Rattle.bound_log.specs.DualText.{texts_of_shares}
@@ -26,7 +26,9 @@ use Rattle.idle_splits.specs.NoIdle.{HasNoIdle}
 use Rattle.branch_bound.specs.declared.best.Best.{Best}
 use Rattle.branch_bound.specs.declared.search_fault.SearchFault.{SearchFault}
 use Rattle.branch_bound.specs.declared.search_fault.SearchFault.TheVariants as fault
-use Rattle.branch_bound.specs.Found.{best_bound, IsPast, IsDone}
+use Rattle.branch_bound.specs.Found.{best_bound, IsPast, IsDone, IsOffered}
+use Rattle.branch_bound.specs.Naming.{AreNamesOnce}
+use Rattle.branch_bound.specs.Spelled.{SpellsOn}
 
 -- What the parts of a search do. This project's own.
 
@@ -73,19 +75,31 @@ IsLineAt network node before now (Split candidate) =
     (IsIdle network node (best_bound network before) → ⊥)
 IsLineAt network node before now (Leaf end) = IsLeafAt network node end before now
 
--- the plans of a node were explored: the lines of a tree of it were added and counted, and the best plan is brought up
--- to the plans of the node, with the tree's bound; no split of the tree is idle, where the price of the best plan before
--- is no more than the bound of what stands before the tree
-pub record Explores (network : NetworkOf) (node : Node) (name : List ℕ) (best_before best_now : Best) (counts counts_now : Counts) (before now : ShelfState) : Type 0 where
+-- the line of a node was taken: a proposed plan may become the best one first, and beside that one the line fits the node
+pub record TakesLine (network : NetworkOf) (node : Node) (before now : Best) (line : LogLine) : Type 0 where
+  pub middle : Best
+  pub offered : IsOffered network before middle
+  pub here : IsLineAt network node middle now line
+
+-- the plans of a node were explored, where the log has named these cuts before and those now: the lines of a tree of it were
+-- added and counted, and the best plan is brought up to the plans of the node, with the tree's bound; no split of the tree
+-- is idle, where the price of the best plan before is no more than the bound of what stands before the tree
+pub record Explores (network : NetworkOf) (node : Node) (name : List ℕ) (cuts cuts_now : List CutTextOf) (best_before best_now : Best) (counts counts_now : Counts) (before now : ShelfState) : Type 0 where
   pub tree : Tree
+  pub text : List ℕ
   pub allowed : IsAllowed network node tree
-  pub added : AddsText name (lines_text (tree_lines tree)) before now
+  pub spells : SpellsOn cuts text (tree_lines tree) cuts_now
+  pub added : AddsText name text before now
   pub counted : counts_now ≡ counts_with counts (map kind_of (tree_lines tree))
   pub done : IsDone network node (bound_at network node tree) best_before best_now
   pub no_idle : (earlier : Bound) → IsNoMore (best_bound network best_before) earlier → HasNoIdle network node earlier tree
 
--- the lines of some tree of the node were begun, and then a fault came
-pub record BreaksTree (network : NetworkOf) (node : Node) (name : List ℕ) (why : SearchFault) (before now : ShelfState) : Type 0 where
+-- the lines of some tree of the node were begun, where the log has named these cuts before, and then a fault came
+pub record BreaksTree (network : NetworkOf) (node : Node) (name : List ℕ) (cuts : List CutTextOf) (why : SearchFault) (before now : ShelfState) : Type 0 where
   pub tree : Tree
+  pub text : List ℕ
+  pub cuts_then : List CutTextOf
   pub allowed : IsAllowed network node tree
-  pub broken : BreaksText name (lines_text (tree_lines tree)) why before now
+  pub spells : SpellsOn cuts text (tree_lines tree) cuts_then
+  pub named : AreNamesOnce network cuts_then
+  pub broken : BreaksText name text why before now

@@ -41,22 +41,29 @@ abbrev pub IsBelow : ℕ → Bound → Type 0
 IsBelow price NoPlan = Unit {0}
 IsBelow price (AtLeast least) = price < least
 
--- The best plan is brought up to the plans of a node, for which a log proves this bound: its price is no more than the
--- bound, nor than that of the best plan before, and where it isn't the best plan before the bound is no more than its
--- price; every certified plan of the node is covered, and so is each plan that was.
-pub record IsDone (network : NetworkOf) (node : Node) (bound : Bound) (before now : Best) : Type 0 where
-  pub price : IsNoMore (best_bound network now) bound
-  pub falls : IsNoMore (best_bound network now) (best_bound network before)
-  pub reached : (now ≡ before) ⊎ IsNoMore bound (best_bound network now)
-  pub kept : IsTrueBest network now
-  pub covered : (other : List Bool) → IsCertified network other → IsWithin node.inside other → IsWithin other node.upper → IsCovered network now other
-  pub still : (other : List Bool) → IsCovered network before other → IsCovered network now other
-
 -- a best plan to start with: none, or one that is certified
 abbrev pub IsStart : NetworkOf → Best → Type 0
 IsStart network best.NoPlan = Unit {0}
 IsStart network (best.Certified plan) = IsCertified network plan
 IsStart network (best.Unsettled plan) = ⊥
+
+-- The best plan is brought up to the plans of a node, for which a log proves this bound: its price is no more than the
+-- bound, nor than that of the best plan before, and where it is neither the best plan before nor certified the bound is no more
+-- than its price; every certified plan of the node is covered, and so is each plan that was.
+pub record IsDone (network : NetworkOf) (node : Node) (bound : Bound) (before now : Best) : Type 0 where
+  pub price : IsNoMore (best_bound network now) bound
+  pub falls : IsNoMore (best_bound network now) (best_bound network before)
+  pub reached : (now ≡ before) ⊎ (IsStart network now ⊎ IsNoMore bound (best_bound network now))
+  pub kept : IsTrueBest network now
+  pub covered : (other : List Bool) → IsCertified network other → IsWithin node.inside other → IsWithin other node.upper → IsCovered network now other
+  pub still : (other : List Bool) → IsCovered network before other → IsCovered network now other
+
+-- the best plan stays, or a certified one that costs no more takes its place
+pub record IsOffered (network : NetworkOf) (before now : Best) : Type 0 where
+  pub same : (now ≡ before) ⊎ IsStart network now
+  pub falls : IsNoMore (best_bound network now) (best_bound network before)
+  pub kept : IsTrueBest network now
+  pub still : (other : List Bool) → IsCovered network before other → IsCovered network now other
 
 -- an unsettled plan is answered with the first limit in force that is open
 pub record IsLeftOpen (network : NetworkOf) (plan : List Bool) (made : Answer) : Type 0 where

@@ -2,7 +2,7 @@
 //! cut that it proposes is tested exactly.
 ghost use Rattle.std.specs.Prelude.{◌≡◌, length};
 
-use cut_pool::CutPool;
+use cut_pool::{Cut, CutPool};
 use geo_base::NoMemory;
 use geo_model::{Network, Plan};
 use std::alloc::Global;
@@ -64,12 +64,39 @@ impl CutSums {
         }
     }
 
+    /// Takes in a further cut of the pool, with what it reaches under a plan.
+    pub fn follow(&mut self, network: &Network, cut: &Cut, plan: &Plan) -> Result<(), NoMemory>
+        requires { length plan.now ≡ length network.now.candidates }
+    {
+        for (column, coefficient) in self.columns.iter_mut().zip(cut.coefficients.as_slice()) {
+            column.push(*coefficient)?;
+        }
+        self.bounds.push(cut.bound)?;
+        self.sums.push(reached(network, cut, plan))?;
+        Ok(())
+    }
+
     /// Whether the plan may break the cut of a number: it does not where this is false.
     pub fn may_break(&self, cut: u32) -> bool {
         let at = cut as usize;
         let bound = self.bounds.get(at).copied().unwrap_or(0);
         self.sums.get(at).copied().unwrap_or(0) <= bound.saturating_add(SLACK)
     }
+}
+
+// The sum of the coefficients of the candidates of a plan.
+fn reached(network: &Network, cut: &Cut, plan: &Plan) -> u32
+    requires { length plan.now ≡ length network.now.candidates }
+{
+    let coefficients = cut.coefficients.as_slice();
+    let mut sum = 0u32;
+    for candidate in 0..network.candidates().len() as u32 {
+        if plan.has(candidate) {
+            let coefficient = coefficients.get(candidate as usize).copied().unwrap_or(0);
+            sum = sum.wrapping_add(coefficient);
+        }
+    }
+    sum
 }
 
 // The coefficient of a candidate in each cut.

@@ -1,10 +1,11 @@
-//! The search for the cheapest certified plan of a network. It appends a log that proves its
-//! answer to the name that a shelf has started.
+//! The search for the cheapest certified plan of a network. It appends a log of format 2 that proves
+//! its answer to the name that a shelf has started.
 //!
 //! Proved: in any network, the answer of a search is what its log says: a certified plan whose
 //! price is the log's bound; or that no plan is left; or an unsettled plan whose price is the
 //! bound, where every certified plan costs more, with its first open limit. No split of the log is
-//! idle. After a fault the beginning of a log stands under its name.
+//! idle, and no cut is named twice in it. After a fault the beginning of a log stands under its
+//! name.
 //!
 //! Said by: `search`, clauses `searched`, `refused`.
 //!
@@ -21,6 +22,7 @@ mod inherited;
 mod limit_verdicts;
 mod line;
 mod missing;
+mod names;
 mod node_judgements;
 mod node_line;
 mod run;

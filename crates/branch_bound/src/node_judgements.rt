@@ -1,12 +1,13 @@
 //! What the search asks of a node.
-ghost use Rattle.std.specs.Prelude.{◌≡◌, ◌↔◌, ◌<◌, ℕ, length, IsTrue, IfSome, IfNone, IfOk};
+ghost use Rattle.std.specs.Prelude.{◌≡◌, ◌↔◌, ◌<◌, ℕ, length, IsTrue, IfSome, IfNone, IfOk, OnOk};
 ghost use Rattle.geo_model.specs.Prices.{price_of};
 ghost use Rattle.geo_model.specs.Network.{IsNetwork};
 ghost use Rattle.limit_stacks.specs.Kept.{IsVerdictsOf};
 ghost use Rattle.bound_log.specs.LogTree.{IsNodeRefutedBy};
-ghost use Rattle.branch_bound.specs.Cuts.{AreCutsFor, IsWritable, log_line_of};
+ghost use Rattle.branch_bound.specs.Cuts.{AreCutsFor, GotCuts, IsWritable, log_line_of};
+ghost use Rattle.idle_splits.specs.Idle.{IsIdle};
 ghost use Rattle.branch_bound.specs.Explored.{IsNode, IsLineAt};
-ghost use Rattle.branch_bound.specs.Found.{IsTrueBest, IsCovered, IsBelow, best_bound};
+ghost use Rattle.branch_bound.specs.Found.{IsTrueBest, IsCovered, IsBelow, IsOffered, best_bound};
 ghost use Rattle.branch_bound.specs.Searched.{IsCertified};
 ghost use Rattle.branch_bound.specs.Inherited.{IsInherited, IsUnmetAt};
 ghost use Rattle.std.specs.Option.{ForSome};
@@ -123,6 +124,38 @@ fn is_cheaper(network: &Network, plan: &Plan, best: &Best) -> bool
     }
 }
 
+/// The line that is proposed for a node that no limit refutes and where no split is idle: a dual bound,
+/// or a split on an open candidate.
+fn proposed_line(
+    alloc: Global,
+    network: &Network,
+    node: &Node,
+    best: &Best,
+    cuts: &mut Cuts,
+) -> Result<Option<NodeLine>, NoMemory>
+    requires node { IsNode network.now node.now }
+    requires kept { IsTrueBest network.now best.now }
+    requires cuts { AreCutsFor network.now cuts.old }
+    requires unrefuted { (k : ℕ) → IsNodeRefutedBy network.now node.now k → ⊥ }
+    requires used { IsIdle network.now node.now (best_bound network.now best.now) → ⊥ }
+    ensures line { IfOk result (λ found. IfSome found (λ line. IsLineAt network.now node.now best.now best.now (log_line_of cuts.new.pool line))) }
+    ensures writable { IfOk result (λ found. IfSome found (IsWritable network.now cuts.new.pool)) }
+    ensures cuts { OnOk result (GotCuts network.now cuts.old cuts.new) }
+{
+    // The network's bounds, for the proof.
+    let _bounds = network.candidates();
+    if let Some(candidate) = cuts.forced_candidate(network, node)? {
+        return Ok(Some(NodeLine::Split(candidate)));
+    }
+    if let Some(dual) = cuts.dual_past(alloc, network, node, best)? {
+        return Ok(Some(NodeLine::Dual(dual)));
+    }
+    match cuts.split_candidate(alloc, network, node, best)? {
+        Some(candidate) => Ok(Some(NodeLine::Split(candidate))),
+        None => Ok(None),
+    }
+}
+
 /// The line of a node: a leaf, or a split on an open candidate. At a leaf the inner plan becomes the
 /// best one, where it is certified and not cut off, or where it is the node's only plan, unsettled,
 /// and cheaper than the best one. `inherited` is what the node inherits, and takes what it finds besides.
@@ -140,11 +173,11 @@ pub fn line_at(
     requires inherited { IsInherited network.now node.now inherited.old }
     requires kept { IsTrueBest network.now best.old }
     requires cuts { AreCutsFor network.now cuts.old }
-    ensures line { IfOk result (λ line. IsLineAt network.now node.now best.old best.new (log_line_of cuts.new line)) }
-    ensures writable { IfOk result (IsWritable cuts.new) }
+    ensures line { IfOk result (λ line. IsLineAt network.now node.now best.old best.new (log_line_of cuts.new.pool line)) }
+    ensures writable { IfOk result (IsWritable network.now cuts.new.pool) }
     ensures inherited { ForSome inherited.new.unmet (λ limit. IsUnmetAt network.now node.now.inside limit) }
     ensures verdicts { IsVerdictsOf network.now verdicts.new }
-    ensures cuts { cuts.new ≡ cuts.old }
+    ensures cuts { OnOk result (GotCuts network.now cuts.old cuts.new) }
 {
     // The price is asked first, since it needs no verdict. The log is no longer for it: both answers
     // are leaves. At equal price a node is cut off only where the best plan is certified.
@@ -160,6 +193,10 @@ pub fn line_at(
     if let Some(share) = cuts.dear_share(network, node, best) {
         return Ok(NodeLine::UnitDual(share));
     }
+    cuts.visit(alloc, network, node)?;
+    if let Some(number) = cuts.refuting_cut(alloc, network, node, inherited)? {
+        return Ok(NodeLine::Cut(number));
+    }
     if let Some(limit) = refuting_limit(verdicts, network, node, inherited)? {
         return Ok(NodeLine::Pivot(limit));
     }
@@ -168,16 +205,11 @@ pub fn line_at(
         return Ok(NodeLine::Cost);
     };
     inherited.unmet = Some(limit);
-    if let Some(dual) = cuts.dual_past(alloc, network, node, best)? {
-        return Ok(NodeLine::Dual(dual));
+    if let Some(line) = proposed_line(alloc, network, node, best, cuts)? {
+        return Ok(line);
     }
-    if let Some(candidate) = branch_candidate(
-        verdicts,
-        network,
-        node,
-        &mut inherited.none_shut,
-        limit,
-    )? {
+    let none_shut = &mut inherited.none_shut;
+    if let Some(candidate) = branch_candidate(verdicts, network, node, none_shut, limit)? {
         return Ok(NodeLine::Split(candidate));
     }
     // An unsettled plan is offered only where it is its node's only one. At equal price the first one
@@ -187,4 +219,32 @@ pub fn line_at(
     }
     *best = Best::Unsettled(node.inside.copy(alloc)?);
     Ok(NodeLine::Cost)
+}
+
+/// Takes a proposed plan as the best one, where it is certified and cheaper. Refused for want of memory
+/// alone.
+pub fn take_offer(
+    alloc: Global,
+    verdicts: &mut SearchVerdicts,
+    network: &Network,
+    best: &mut Best,
+    cuts: &mut Cuts,
+) -> Result<(), NoMemory>
+    requires verdicts { IsVerdictsOf network.now verdicts.old }
+    requires kept { IsTrueBest network.now best.old }
+    ensures offered { OnOk result (IsOffered network.now best.old best.new) }
+    ensures verdicts { IsVerdictsOf network.now verdicts.new }
+    ensures cuts { cuts.new ≡ cuts.old }
+{
+    let Some(plan) = cuts.offered_plan(alloc, network, best)? else {
+        return Ok(());
+    };
+    if !is_cheaper(network, &plan, best) {
+        return Ok(());
+    }
+    if unmet_limit(verdicts, network, &plan, None)?.is_some() {
+        return Ok(());
+    }
+    *best = Best::Certified(plan);
+    Ok(())
 }

@@ -1,6 +1,7 @@
-ghost use Rattle.std.specs.Prelude.{◌≡◌, ℕ, IfSome, IfNone};
+ghost use Rattle.std.specs.Prelude.{◌≡◌, ℕ, List, IfSome, IfNone};
+ghost use Rattle.cut_pool.specs.Cut.{CutOf};
 ghost use Rattle.bound_log.specs.Lines.{kind_of};
-ghost use Rattle.branch_bound.specs.Cuts.{SearchCuts, log_line_of};
+ghost use Rattle.branch_bound.specs.Cuts.{log_line_of};
 ghost use Rattle.branch_bound.specs.declared.node_line.NodeLine.TheVariants as node_line;
 
 use bound_log::LineKind;
@@ -23,7 +24,7 @@ pub enum NodeLine {
 impl NodeLine {
     /// The kind of the line.
     pub fn kind(&self) -> LineKind
-        ensures { (cuts : SearchCuts) → result ≡ kind_of (log_line_of cuts self.now) }
+        ensures { (pool : List CutOf) → result ≡ kind_of (log_line_of pool self.now) }
     {
         match self {
             NodeLine::Split(_) => LineKind::Split,

@@ -1,23 +1,27 @@
 //! The search over the tree of nodes.
-ghost use Rattle.std.specs.Prelude.{◌≡◌, Some, OnOk, IfErr, IfOk};
+ghost use Rattle.std.specs.Prelude.{◌≡◌, ◌∷◌, [], Some, OnOk, IfErr, IfOk};
+ghost use Rattle.std.specs.Option.{ForSome};
 ghost use Rattle.geo_model.specs.Network.{IsNetwork};
 ghost use Rattle.limit_stacks.specs.Kept.{IsVerdictsOf};
-ghost use Rattle.bound_log.specs.Counted.{no_counts};
-ghost use Rattle.bound_log.specs.LogText.{head_text};
-ghost use Rattle.branch_bound.specs.Cuts.{AreCutsFor};
-ghost use Rattle.branch_bound.specs.Explored.{IsNode, AddsText, BreaksText, Explores, BreaksTree};
+ghost use Rattle.bound_log.specs.Counted.{counts_with, no_counts};
+ghost use Rattle.bound_log.specs.Lines.{kind_of};
+ghost use Rattle.bound_log.specs.NamedText.{second_head_text};
+ghost use Rattle.branch_bound.specs.Cuts.{AreCutsFor, log_line_of, named_cuts};
+ghost use Rattle.branch_bound.specs.Explored.{IsNode, TakesLine, AddsText, BreaksText, Explores, BreaksTree};
 ghost use Rattle.branch_bound.specs.Found.{IsTrueBest, IsStart, IsAnswerOf};
 ghost use Rattle.branch_bound.specs.Logged.{Searches, BreaksLog};
-ghost use Rattle.branch_bound.specs.Inherited.{IsInherited};
+ghost use Rattle.branch_bound.specs.Inherited.{IsInherited, IsUnmetAt};
+ghost use Rattle.branch_bound.specs.Spelled.{SpellsOn};
 
 use crate::answer::answer_of;
 use crate::best::Best;
 use crate::cuts::Cuts;
 use crate::inherited::Inherited;
-use crate::line::{write_line, write_piece};
-use crate::node_judgements::line_at;
+use crate::line::{put_line_of, write_piece};
+use crate::node_judgements::{line_at, take_offer};
+use crate::node_line::NodeLine;
 use crate::search_fault::SearchFault;
-use bound_log::put_head;
+use bound_log::{count_line, put_head2};
 use geo_base::NoMemory;
 use geo_model::{Counts, Network, Node, SearchDone};
 use greedy_start::start;
@@ -71,6 +75,55 @@ impl Findings {
     }
 }
 
+/// Takes the line of a node, and before it a plan that was proposed at the last one: keeps the best
+/// plan, counts the line, and puts it in the buffer after the names that it gives.
+fn take_line(
+    alloc: Global,
+    network: &Network,
+    findings: &mut Findings,
+    node: &Node,
+    inherited: &mut Inherited,
+) -> Result<NodeLine, NoMemory>
+    requires node { IsNode network.now node.now }
+    requires inherited { IsInherited network.now node.now inherited.old }
+    requires verdicts { IsVerdictsOf network.now findings.old.verdicts }
+    requires kept { IsTrueBest network.now findings.old.best }
+    requires cuts { AreCutsFor network.now findings.old.cuts }
+    ensures line { IfOk result (λ line. TakesLine network.now node.now findings.old.best findings.new.best (log_line_of findings.new.cuts.pool line)) }
+    ensures spells { IfOk result (λ line. SpellsOn (named_cuts findings.old.cuts) findings.new.buffer.items (log_line_of findings.new.cuts.pool line ∷ []) (named_cuts findings.new.cuts)) }
+    ensures counted { IfOk result (λ line. findings.new.counts ≡ counts_with findings.old.counts (kind_of (log_line_of findings.new.cuts.pool line) ∷ [])) }
+    ensures inherited { ForSome inherited.new.unmet (λ limit. IsUnmetAt network.now node.now.inside limit) }
+    ensures verdicts { OnOk result (IsVerdictsOf network.now findings.new.verdicts) }
+    ensures cuts { OnOk result (AreCutsFor network.now findings.new.cuts) }
+{
+    take_offer(
+        alloc,
+        &mut findings.verdicts,
+        network,
+        &mut findings.best,
+        &mut findings.cuts,
+    )?;
+    let line = line_at(
+        alloc,
+        &mut findings.verdicts,
+        network,
+        node,
+        inherited,
+        &mut findings.best,
+        &mut findings.cuts,
+    )?;
+    findings.buffer.clear();
+    put_line_of(
+        alloc,
+        network,
+        &mut findings.buffer,
+        &mut findings.cuts,
+        &line,
+    )?;
+    count_line(&mut findings.counts, line.kind());
+    Ok(line)
+}
+
 /// Explores the plans of a node: writes the lines of a tree of it, and keeps the best plan.
 fn explore<H: Shelf>(
     alloc: Global,
@@ -87,34 +140,18 @@ fn explore<H: Shelf>(
     requires verdicts { IsVerdictsOf network.now findings.old.verdicts }
     requires kept { IsTrueBest network.now findings.old.best }
     requires cuts { AreCutsFor network.now findings.old.cuts }
-    ensures explored { OnOk result (Explores network.now node.old name.now
-        findings.old.best findings.new.best findings.old.counts findings.new.counts (H.state shelf.old)
-        (H.state shelf.new)) }
+    ensures explored { OnOk result (Explores network.now node.old name.now (named_cuts findings.old.cuts)
+        (named_cuts findings.new.cuts) findings.old.best findings.new.best findings.old.counts
+        findings.new.counts (H.state shelf.old) (H.state shelf.new)) }
     ensures node { OnOk result (node.new ≡ node.old) }
     ensures verdicts { OnOk result (IsVerdictsOf network.now findings.new.verdicts) }
     ensures cuts { OnOk result (AreCutsFor network.now findings.new.cuts) }
-    ensures refused { IfErr result (λ why. BreaksTree network.now node.old name.now why (H.state shelf.old)
-        (H.state shelf.new)) }
+    ensures refused { IfErr result (λ why. BreaksTree network.now node.old name.now (named_cuts findings.old.cuts)
+        why (H.state shelf.old) (H.state shelf.new)) }
 {
     let mut inherited = inherited;
-    let line = line_at(
-        alloc,
-        &mut findings.verdicts,
-        network,
-        node,
-        &mut inherited,
-        &mut findings.best,
-        &mut findings.cuts,
-    )?;
-    write_line(
-        alloc,
-        shelf,
-        name,
-        &mut findings.buffer,
-        &mut findings.counts,
-        &findings.cuts,
-        &line,
-    )?;
+    let line = take_line(alloc, network, findings, node, &mut inherited)?;
+    write_piece(shelf, name, findings.buffer.as_slice())?;
     let Some(candidate) = line.split_candidate() else {
         return Ok(());
     };
@@ -172,16 +209,17 @@ fn first_verdicts(
 /// Writes the first line of a log. `buffer` is room for its bytes.
 fn begin_log<H: Shelf>(shelf: &mut H, name: &str, buffer: &mut Vec<u8>) -> Result<(), SearchFault>
     requires { (H.state shelf.old).started ≡ Some name.now }
-    ensures added { OnOk result (AddsText name.now head_text (H.state shelf.old) (H.state shelf.new)) }
-    ensures refused { IfErr result (λ why. BreaksText name.now head_text why (H.state shelf.old) (H.state shelf.new)) }
+    ensures added { OnOk result (AddsText name.now second_head_text (H.state shelf.old) (H.state shelf.new)) }
+    ensures refused { IfErr result (λ why. BreaksText name.now second_head_text why (H.state shelf.old) (H.state shelf.new)) }
 {
     buffer.clear();
-    put_head(buffer)?;
+    put_head2(buffer)?;
     write_piece(shelf, name, buffer.as_slice())
 }
 
-/// Searches for the cheapest plan that is certified, and appends a log that proves the answer to the
-/// started name, a line at a time: each line is one append.
+/// Searches for the cheapest plan that is certified, and appends a log of format 2 that proves the
+/// answer to the started name: the first line, and then each line of the tree with the names that it
+/// gives before it, is one append. A cut is named right before its first use, and none twice.
 ///
 /// `Best` has a certified plan whose price is the log's bound, so no plan that meets the limits costs
 /// less. `NoPlan`: the log has no bound, and no plan meets the limits. `Undecided` has a plan that is
@@ -198,7 +236,7 @@ pub fn search<H: Shelf>(
 ) -> Result<SearchDone, SearchFault>
     requires started { (H.state shelf.old).started ≡ Some name.now }
 
-    // One whole log was added under the name, and the answer is what it says.
+    // One whole log was added, of format 2 and with no cut named twice; the answer is what it says.
     ensures searched { IfOk result (λ done. Searches network.now name.now done (H.state shelf.old)
         (H.state shelf.new)) }
 

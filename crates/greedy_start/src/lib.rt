@@ -13,3 +13,4 @@ mod offer;
 mod unmet;
 
 pub use first_plan::start;
+pub use unmet::unmet_limit;

@@ -115,8 +115,8 @@ const BOTH_LEVELS: CaseTables = CaseTables {
     limits: 1,
 };
 
-// Each line is one append: the third one fails, halfway. Neither a plan nor a dual bound ends the
-// first two nodes, so that they are splits.
+// Each of these lines is one append: the third one fails, halfway. Neither a plan nor a dual bound
+// ends the first two nodes, so that they are splits.
 #[test]
 fn a_failed_append_leaves_whole_lines_before_it(rt: HostRuntime) -> Result<(), Fail> {
     let network = network_of(rt.alloc(), &BOTH_LEVELS)?;
@@ -124,7 +124,17 @@ fn a_failed_append_leaves_whole_lines_before_it(rt: HostRuntime) -> Result<(), F
     shelf.start("log")?;
     let refused = search(rt.alloc(), &network, &mut shelf, "log").err();
     assert_eq!(rt; refused, Some(SearchFault::WriteFault));
-    let log = b"geoplan-log 1\ns 0\ns ".as_slice();
+    let log = b"geoplan-log 2\ns 0\ns ".as_slice();
     assert_eq!(rt; shelf.file("log"), Some(log));
+    Ok(())
+}
+
+// The log of format 1 that proves 12, in format 2: the cut is named right before its first use alone.
+#[test]
+fn a_cut_is_named_before_its_first_use_alone(rt: HostRuntime) -> Result<(), Fail> {
+    let network = network_of(rt.alloc(), &BOTH_LEVELS)?;
+    let done = searched(rt.alloc(), &network)?;
+    let log = b"geoplan-log 2\ns 0\ns 1\nc\nk 0 1 0 1\nx 0\nx 0\n".as_slice();
+    assert_eq!(rt; done.shelf.file("log"), Some(log));
     Ok(())
 }

@@ -1,20 +1,14 @@
-use Rattle.std.proofs.Common.{◌≡◌, ℕ, List, ◌++◌, [], ◌∷◌, refl, ap, ◌∙◌, subst, pos, Ok}
-use Rattle.std.specs.Prelude.{slice_set, ℤ, OnOk}
-use Rattle.cut_pool.specs.Cut.{CutOf}
-use Rattle.bound_log.specs.CutText.{CutTextOf}
-use Rattle.bound_log.specs.LogText.{line_text}
-use Rattle.bound_log.specs.declared.log_leaf.LogLeaf.TheVariants.{Dual}
-use Rattle.bound_log.specs.declared.log_line.LogLine.TheVariants.{Leaf}
-use Rattle.branch_bound.proofs.DearLemmas.{first_added, unit_dual_text}
+use Rattle.std.proofs.Common.{ap, ◌∙◌, Some, length}
+use Rattle.branch_bound.specs.Cuts.{named_cuts}
+use Rattle.branch_bound.proofs.DearLemmas.{unit_text_at}
+use Rattle.branch_bound.proofs.PlaceLemmas.{get_inside}
+use Rattle.branch_bound.proofs.PutLemmas.{puts_unit}
 use Rattle.branch_bound.proofs.line.put_unit_dual.Goals as goal
 
-pub returns : goal.returns
-returns c =
-    let cut : CutOf = record { limit = c.args.share.limit; x = c.set.new.self; coefficients = c.new-2.result.items; bound = 0 } in
-    let one : c.add.new.self ≡ cut ∷ [] =
-    first_added c.new-pool.result c.add.new.self cut c.in_ok-_is_new._is_new c.new-pool.ensures (λ e. c.in_ok-_is_new.ensures.there (ap Ok e)) (λ e. c.in_ok-_is_new.ensures.added (ap Ok e)) in
-    record {
-      put = subst (λ (shares : List (ℕ × CutTextOf)). OnOk c.put_dual.result (c.put_dual.new.out.items ≡ c.args.out.now.items ++ line_text (Leaf (Dual c.args.share.d shares))))
-          (unit_dual_text c.add.new.self cut c.args.share one refl (c.set.ensures ∙ ap (λ (x : List ℤ). slice_set x c.args.share.unknown (pos 1)) c.in_ok-x.ensures))
-          c.put_dual.ensures.put;
-    }
+pub returns-clause-put : goal.returns-clause-put
+returns-clause-put c =
+    let found = get_inside c.args.cuts.now.pool c.in_ok-number.number c.in_ok-number.ensures.inside in
+    let unit = c.in_ok-number.ensures.number found.0 found.1 in
+    let text = unit_text_at c.args.cuts.now.pool c.in_ok-number.number (length c.args.network.now.unknowns) found.0 c.args.share found.1 unit.0 unit.1 c.requires.share.inside in
+    puts_unit c.args.network.now (named_cuts c.args.cuts.now) c.name.new.self c.args.share c.in_ok-name.name c.args.out.now.items c.name.new.out.items c.put_dual2.new.out.items
+    c.in_ok-name.ensures.cuts c.requires.share.divisor c.requires.share.multiplier c.in_ok-name.ensures.puts (c.in_ok-name.ensures.name ∙ ap Some text) c.in_ok-put_dual2.ensures.put

@@ -6,15 +6,15 @@ use Rattle.bound_log.proofs.AllowedLemmas.{cost_allowed, cut_allowed, pivot_allo
 use Rattle.geo_model.specs.Row.{unit_at}
 use Rattle.cut_pool.specs.Cut.{cover_of}
 use Rattle.bound_log.specs.declared.log_leaf.LogLeaf.TheVariants.{Dual}
-use Rattle.bound_log.specs.DualText.{text_or_none, texts_of_shares}
+use Rattle.bound_log.specs.DualText.{text_or_none}
 use Rattle.idle_splits.specs.Idle.{bound_by}
-use Rattle.branch_bound.specs.Explored.{CutsOff}
+use Rattle.branch_bound.specs.Cuts.{IsBrokenCut}
 use Rattle.branch_bound.specs.Found.{best_bound}
 use Rattle.branch_bound.proofs.DearLemmas.{above_past, not_idle, unit_allowed, unit_bound}
 use Rattle.branch_bound.specs.Cuts.{unit_text}
 use Rattle.branch_bound.proofs.VerdictLemmas.{unsettled_by}
 use Rattle.branch_bound.proofs.DoneLemmas.{IsDone-cut_off, IsDone-past, IsDone-broken, IsDone-refuted, IsDone-certified, IsDone-unsettled, IsDone-undercut}
-use Rattle.bound_log.specs.LogTree.{IsOpenAt, IsNodeRefutedBy}
+use Rattle.bound_log.specs.LogTree.{IsNodeRefutedBy, IsOpenAt}
 use Rattle.branch_bound.specs.Searched.{IsCertified}
 use Rattle.branch_bound.specs.Inherited.{IsUnmetAt}
 use Rattle.branch_bound.proofs.NodeLemmas.{if_none}
@@ -49,62 +49,70 @@ returns-in-Some-dear_share-clause-line c =
 pub returns-in-Some-2-clause-line : goal.returns-in-Some-2-clause-line
 unfolding leaf_bound_for
 returns-in-Some-2-clause-line c =
-    let refuted : IsNodeRefutedBy c.args.network.now c.args.node.now c.in-Some-2.limit = rw c.in-Some-2.is at c.in_ok-limit.ensures.found in
+    let found : IsBrokenCut c.args.network.now c.args.node.now c.refuting_cut.new.self c.in-Some-2.number = rw c.in-Some-2.is at c.in_ok-number.ensures.found in
     record {
-      allowed = pivot_allowed c.args.network.now c.args.node.now c.in-Some-2.limit refuted;
-      done = IsDone-refuted c.args.network.now c.args.node.now c.in-Some-2.limit c.args.best.now c.first_broken.ensures.bounds c.requires.kept refuted;
+      allowed = cut_allowed c.args.network.now c.args.node.now (text_or_none (slice_get c.refuting_cut.new.self.pool c.in-Some-2.number)) found.broken;
+      done = IsDone-broken c.args.network.now c.args.node.now (text_or_none (slice_get c.refuting_cut.new.self.pool c.in-Some-2.number)) c.args.best.now c.first_broken.ensures.bounds c.requires.kept found.broken;
     }
 
-pub returns-in_default-3-clause-line : goal.returns-in_default-3-clause-line
+pub returns-in-Some-3-clause-line : goal.returns-in-Some-3-clause-line
 unfolding leaf_bound_for
-returns-in_default-3-clause-line c =
-    let certified : IsCertified c.args.network.now c.args.node.now.inside = if_none (IsCertified c.args.network.now c.args.node.now.inside) c.in_ok-limit-2.field-0 c.in_default-3.not-Some c.in_ok-limit-2.ensures.none in
+returns-in-Some-3-clause-line c =
+    let refuted : IsNodeRefutedBy c.args.network.now c.args.node.now c.in-Some-3.limit = rw c.in-Some-3.is at c.in_ok-limit.ensures.found in
+    record {
+      allowed = pivot_allowed c.args.network.now c.args.node.now c.in-Some-3.limit refuted;
+      done = IsDone-refuted c.args.network.now c.args.node.now c.in-Some-3.limit c.args.best.now c.first_broken.ensures.bounds c.requires.kept refuted;
+    }
+
+pub returns-in_default-4-clause-line : goal.returns-in_default-4-clause-line
+unfolding leaf_bound_for
+returns-in_default-4-clause-line c =
+    let certified : IsCertified c.args.network.now c.args.node.now.inside = if_none (IsCertified c.args.network.now c.args.node.now.inside) c.in_ok-limit-2.field-0 c.in_default-4.not-Some c.in_ok-limit-2.ensures.none in
     record {
       allowed = cost_allowed c.args.network.now c.args.node.now;
       done = IsDone-certified c.args.network.now c.args.node.now c.args.best.now c.in_ok-copy.field-0 c.in_ok-copy.ensures certified (iff_false c.is_cut_off.ensures c.if-is_cut_off.false);
     }
 
-pub returns-in-Some-4-clause-line : goal.returns-in-Some-4-clause-line
-returns-in-Some-4-clause-line c =
-    let off = rw c.in-Some-4.is at c.in_ok-dual.ensures.found in
-    let past : CutsOff c.args.network.now c.args.node.now c.args.best.now c.dear_share.new.self.pool c.in-Some-4.dual.d c.in-Some-4.dual.shares.items = off in
-    record {
-      allowed = past.allowed;
-      done = IsDone-past c.args.network.now c.args.node.now (Dual c.in-Some-4.dual.d (texts_of_shares c.dear_share.new.self.pool c.in-Some-4.dual.shares.items)) past.price c.args.best.now c.first_broken.ensures.bounds c.requires.kept past.allowed past.bound past.past;
-    }
+pub proposed_line-requires-clause-unrefuted : goal.proposed_line-requires-clause-unrefuted
+proposed_line-requires-clause-unrefuted c =
+    if_none ((k : ℕ) → IsNodeRefutedBy c.args.network.now c.args.node.now k → ⊥) c.in_ok-limit.field-0 c.in_default-3.not-Some c.in_ok-limit.ensures.none
+
+pub proposed_line-requires-clause-used : goal.proposed_line-requires-clause-used
+proposed_line-requires-clause-used c =
+    let none : (k : ℕ) → IsNodeRefutedBy c.args.network.now c.args.node.now k → ⊥ = if_none ((k : ℕ) → IsNodeRefutedBy c.args.network.now c.args.node.now k → ⊥) c.in_ok-limit.field-0 c.in_default-3.not-Some c.in_ok-limit.ensures.none in
+    not_idle c.args.network.now c.args.node.now c.args.best.now (iff_false c.is_cut_off.ensures c.if-is_cut_off.false) none c.in_default-dear_share.ensures.none
 
 pub returns-in-Some-5-clause-line : goal.returns-in-Some-5-clause-line
-returns-in-Some-5-clause-line c =
-    let none : (k : ℕ) → IsNodeRefutedBy c.args.network.now c.args.node.now k → ⊥ = if_none ((k : ℕ) → IsNodeRefutedBy c.args.network.now c.args.node.now k → ⊥) c.in_ok-limit.field-0 c.in_default-2.not-Some c.in_ok-limit.ensures.none in
-    let is_open : IsOpenAt c.args.network.now c.args.node.now c.in-Some-5.candidate = rw c.in-Some-5.is at c.in_ok-candidate.ensures.open in (
-      is_open,
-      refl,
-      none,
-      not_idle c.args.network.now c.args.node.now c.args.best.now (iff_false c.is_cut_off.ensures c.if-is_cut_off.false) none c.in_default-dear_share.ensures.none,
-    )
+returns-in-Some-5-clause-line c = rw c.in-Some-5.is at c.in_ok-line.ensures.line
+
+pub returns-in-Some-6-clause-line : goal.returns-in-Some-6-clause-line
+returns-in-Some-6-clause-line c =
+    let none : (k : ℕ) → IsNodeRefutedBy c.args.network.now c.args.node.now k → ⊥ = if_none ((k : ℕ) → IsNodeRefutedBy c.args.network.now c.args.node.now k → ⊥) c.in_ok-limit.field-0 c.in_default-3.not-Some c.in_ok-limit.ensures.none in
+    let found : IsOpenAt c.args.network.now c.args.node.now c.in-Some-6.candidate = rw c.in-Some-6.is at c.in_ok-candidate.ensures.open in
+    (found, refl, none, not_idle c.args.network.now c.args.node.now c.args.best.now (iff_false c.is_cut_off.ensures c.if-is_cut_off.false) none c.in_default-dear_share.ensures.none)
 
 pub returns-clause-line : goal.returns-clause-line
 unfolding leaf_bound_for
 returns-clause-line c =
-    let none : (k : ℕ) → IsNodeRefutedBy c.args.network.now c.args.node.now k → ⊥ = if_none ((k : ℕ) → IsNodeRefutedBy c.args.network.now c.args.node.now k → ⊥) c.in_ok-limit.field-0 c.in_default-2.not-Some c.in_ok-limit.ensures.none in
-    let unmet : IsUnmetAt c.args.network.now c.args.node.now.inside c.in-Some-3.limit = rw c.in-Some-3.is at c.in_ok-limit-2.ensures.unmet in
-    let one : c.args.node.now.inside ≡ c.args.node.now.upper = if_none (c.args.node.now.inside ≡ c.args.node.now.upper) c.in_ok-candidate.field-0 c.in_default-5.not-Some c.in_ok-candidate.ensures.none in
+    let none : (k : ℕ) → IsNodeRefutedBy c.args.network.now c.args.node.now k → ⊥ = if_none ((k : ℕ) → IsNodeRefutedBy c.args.network.now c.args.node.now k → ⊥) c.in_ok-limit.field-0 c.in_default-3.not-Some c.in_ok-limit.ensures.none in
+    let unmet : IsUnmetAt c.args.network.now c.args.node.now.inside c.in-Some-4.limit = rw c.in-Some-4.is at c.in_ok-limit-2.ensures.unmet in
+    let one : c.args.node.now.inside ≡ c.args.node.now.upper = if_none (c.args.node.now.inside ≡ c.args.node.now.upper) c.in_ok-candidate.field-0 c.in_default-6.not-Some c.in_ok-candidate.ensures.none in
     record {
       allowed = cost_allowed c.args.network.now c.args.node.now;
       done = IsDone-unsettled c.args.network.now c.args.node.now c.args.best.now c.in_ok-copy-2.field-0 c.in_ok-copy-2.ensures one
-          (unsettled_by c.args.network.now c.args.node.now c.in-Some-3.limit c.requires.node one none unmet.unmet)
+          (unsettled_by c.args.network.now c.args.node.now c.in-Some-4.limit c.requires.node one none unmet.unmet)
           (iff_false c.is_cut_off.ensures c.if-is_cut_off.false);
     }
 
 pub returns-then-not-is_cheaper-clause-line : goal.returns-then-not-is_cheaper-clause-line
 unfolding leaf_bound_for
 returns-then-not-is_cheaper-clause-line c =
-    let none : (k : ℕ) → IsNodeRefutedBy c.args.network.now c.args.node.now k → ⊥ = if_none ((k : ℕ) → IsNodeRefutedBy c.args.network.now c.args.node.now k → ⊥) c.in_ok-limit.field-0 c.in_default-2.not-Some c.in_ok-limit.ensures.none in
-    let unmet : IsUnmetAt c.args.network.now c.args.node.now.inside c.in-Some-3.limit = rw c.in-Some-3.is at c.in_ok-limit-2.ensures.unmet in
-    let one : c.args.node.now.inside ≡ c.args.node.now.upper = if_none (c.args.node.now.inside ≡ c.args.node.now.upper) c.in_ok-candidate.field-0 c.in_default-5.not-Some c.in_ok-candidate.ensures.none in
+    let none : (k : ℕ) → IsNodeRefutedBy c.args.network.now c.args.node.now k → ⊥ = if_none ((k : ℕ) → IsNodeRefutedBy c.args.network.now c.args.node.now k → ⊥) c.in_ok-limit.field-0 c.in_default-3.not-Some c.in_ok-limit.ensures.none in
+    let unmet : IsUnmetAt c.args.network.now c.args.node.now.inside c.in-Some-4.limit = rw c.in-Some-4.is at c.in_ok-limit-2.ensures.unmet in
+    let one : c.args.node.now.inside ≡ c.args.node.now.upper = if_none (c.args.node.now.inside ≡ c.args.node.now.upper) c.in_ok-candidate.field-0 c.in_default-6.not-Some c.in_ok-candidate.ensures.none in
     record {
       allowed = cost_allowed c.args.network.now c.args.node.now;
       done = IsDone-undercut c.args.network.now c.args.node.now c.args.best.now c.requires.kept one
-          (unsettled_by c.args.network.now c.args.node.now c.in-Some-3.limit c.requires.node one none unmet.unmet)
+          (unsettled_by c.args.network.now c.args.node.now c.in-Some-4.limit c.requires.node one none unmet.unmet)
           (iff_false c.is_cheaper.ensures c.if-not-is_cheaper.true);
     }
