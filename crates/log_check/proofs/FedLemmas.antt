@@ -24,7 +24,8 @@ use Rattle.log_check.specs.Fed.{ReplayerOf, HoldsFault, IsRight, HasFed, HasRead
 use Rattle.log_check.specs.FirstFault.{LogBegins, IsFaultAfter, IsFirstFault, headless, later}
 use Rattle.log_check.specs.Reaching.{IsFront, nothing, begun, HasTaken, Reaches}
 use Rattle.log_check.specs.Taking.{TakesLine, at_head, at_node}
-use Rattle.log_check.proofs.LongerLemmas.{feeds, NoFeed, feeds-append, feeds-head, feeds-none, feeds-lines, fault_stays}
+use Rattle.bound_log.proofs.GrammarLemmas.{NoFeed}
+use Rattle.log_check.proofs.LongerLemmas.{feeds, feeds-append, feeds-head, feeds-none, feeds-lines, fault_stays}
 use Rattle.log_check.proofs.ReachLemmas.{taken_next, next_rises, fault_stopped, fault_empty, fault_short, front_begun, replayed_whole, ended_bytes}
 use Rattle.log_check.proofs.FormatRuns.{goes_begins}
 use Rattle.log_check.proofs.TextLemmas.{Order, same, further, behind, order}

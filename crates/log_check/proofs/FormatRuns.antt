@@ -212,7 +212,7 @@ none_open : (network : NetworkOf) (lines : List LogLine) (final : List Node) →
 none_open network [] final leads = (refl, sym leads)
 none_open network (x ∷ xs) final leads = absurd leads
 
-some_is : (xs ys : List LogLine) → Some xs ≡ Some ys → xs ≡ ys
+pub some_is : (xs ys : List LogLine) → Some xs ≡ Some ys → xs ≡ ys
 some_is xs ys same = cc
 
 -- the same of the lines after one, from any open nodes and with any cuts named

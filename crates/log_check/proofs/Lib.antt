@@ -1,5 +1,3 @@
-pub mod DualSizes
-pub mod DualTerms
 pub mod EveryText
 pub mod FedLemmas
 pub mod FormatRuns
@@ -8,7 +6,6 @@ pub mod MoveLemmas
 pub mod NamingLemmas
 pub mod PlaceLemmas
 pub mod ReachLemmas
-pub mod ReducedLemmas
 pub mod RuleLemmas
 pub mod RunLemmas
 pub mod ShareLemmas

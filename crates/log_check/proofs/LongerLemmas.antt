@@ -13,7 +13,7 @@ use Rattle.bound_log.specs.declared.log_kind.LogKind.{LogKind}
 use Rattle.bound_log.specs.Formats.{BeginsIn, IsShortLine, LineIn, NextIn, body_in, head_body_in, head_text_in, text_in, text_line_in, texts_in}
 use Rattle.bound_log.specs.LogText.{line_end}
 use Rattle.bound_log.proofs.FormatLemmas.{begins_more_in, lines_of-text_in}
-use Rattle.bound_log.proofs.GrammarLemmas.{line_body-no_feed}
+use Rattle.bound_log.proofs.GrammarLemmas.{NoFeed, line_body-no_feed}
 use Rattle.bound_log.proofs.NamedLemmas.{named_body-no_feed}
 use Rattle.log_check.specs.declared.fault.LogFault.{LogFault}
 use Rattle.log_check.specs.FirstFault.{IsFaultAfter, extra, short, form, rule, IsFirstFault, headless, later}
@@ -24,9 +24,6 @@ use Rattle.log_check.proofs.ReachLemmas.{head_lacks}
 
 abbrev pub feeds : List ℕ → ℕ
 feeds text = count_by is_line_feed text
-
-abbrev pub NoFeed : ℕ → Type 0
-NoFeed c = is_line_feed c ≡ false
 
 pub feeds-append : (xs ys : List ℕ) → feeds (xs ++ ys) ≡ feeds xs + feeds ys
 feeds-append xs ys = sum_by-append (λ c. cond (is_line_feed c) 1 0) xs ys

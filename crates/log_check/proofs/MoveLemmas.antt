@@ -4,19 +4,12 @@ use Rattle.std.specs.Prelude.{ℤ, pos, nat_le, slice_set, unsigned_abs}
 use Rattle.std.proofs.lemmas.Bool.{cases_Bool, false≢true, le-leb, leb-true, lt-ltb, ltb-true, ltb-false, ne_eqb, eqb-true}
 use Rattle.std.proofs.lemmas.List.{length-set, get_or-set_same, get_or-set_other}
 use Rattle.whole_algebra.specs.Matrices.{at}
+use Rattle.whole_algebra.proofs.ChainLaws.{and_left, and_right}
 use Rattle.bound_log.specs.CutText.{displaced_by}
 use Rattle.bound_log.specs.Rules.{is_move, are_moves}
 use Rattle.log_check.specs.Writing.{Writes}
 
 -- ---- tests
-
-pub and_left : (a b : Bool) → (a && b) ≡ true → a ≡ true
-and_left true b is = refl
-and_left false b is = absurd (false≢true is)
-
-pub and_right : (a b : Bool) → (a && b) ≡ true → b ≡ true
-and_right true b is = is
-and_right false b is = absurd (false≢true is)
 
 -- a pair is a move of an unknown from `least` on
 pub moves_one : (unknowns least : ℕ) (pair : ℕ × ℤ) → least ≤ pair.0 → pair.0 < unknowns → 0 < unsigned_abs pair.1 → unsigned_abs pair.1 ≤ 32768 → is_move unknowns least pair ≡ true

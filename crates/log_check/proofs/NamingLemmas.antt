@@ -16,7 +16,8 @@ use Rattle.log_check.specs.FirstFault.{BreaksFirst, KeepsRules}
 use Rattle.bound_log.proofs.MoveLemmas.{displaced-moves}
 use Rattle.log_check.specs.declared.named_cuts.StoredCut.{StoredCut}
 use Rattle.log_check.specs.Naming.{AreNamesKept, IsStored, text_of_stored}
-use Rattle.log_check.proofs.MoveLemmas.{and_left, and_right, before_moves, moves_one, place_of, size_of}
+use Rattle.whole_algebra.proofs.ChainLaws.{and_left, and_right}
+use Rattle.log_check.proofs.MoveLemmas.{before_moves, moves_one, place_of, size_of}
 
 -- ---- pairs are told by their displacement
 

@@ -32,7 +32,7 @@ use Rattle.log_check.specs.Reaching.{head_line, IsFront, nothing, begun, HasTake
 use Rattle.log_check.specs.Replayed.{IsReplayed}
 use Rattle.log_check.specs.Running.{line_bound, opened, opened_by, LeadsTo, GoesTo, bound_along, StandsAt}
 use Rattle.log_check.specs.Taking.{Takes, Names, Does, TakesSaid, TakesBody, TakesText, StopsSaid, StopsBody, no_words, no_rule, Stops, no_node, no_end, no_body, TakesHead, TakesLine, at_head, at_node, next_count, StopsLine, no_head, past_head}
-use Rattle.log_check.proofs.FormatRuns.{GoesTo-then, GoesFromRoot, goes_begins, goes_stands, goes_whole, last_no_name, names_more, naming_names, no_names, not_whole, root_means, standing_names, kept_rule}
+use Rattle.log_check.proofs.FormatRuns.{GoesTo-then, GoesFromRoot, goes_begins, goes_stands, goes_whole, last_no_name, names_more, naming_names, no_names, not_whole, root_means, some_is, standing_names, kept_rule}
 use Rattle.log_check.proofs.PlaceLemmas.{room_along, room_at_root}
 use Rattle.log_check.proofs.RunLemmas.{LeadsTo-then, bound_along-then, whole_tree}
 
@@ -139,16 +139,13 @@ pub front_begun : (text : List ℕ) (format : LogFormat) (lines : List (LineIn f
 front_begun text format lines count (nothing no_text no_lines none) some = absurd (omega arith)
 front_begun text format lines count (begun begins number) some = record { begins = begins; numbered = number }
 
-some_nodes : (xs ys : List LogLine) → Some xs ≡ Some ys → xs ≡ ys
-some_nodes xs ys same = cc
-
 -- the first line is taken
 taken_head : (network : NetworkOf) (front : List ℕ) (line : TextLineOf) (before now : Progress) → HasTaken network front before → TakesHead line.text line.ended before now → HasTaken network (front ++ line_bytes line) now
 taken_head network front line before now taken head =
     let format : LogFormat = now.format in
     let none = front_nothing front taken.format taken.lines before.lines taken.front head.first in
     let bytes : line_bytes line ≡ head_text_in format = ended_bytes line head.with_end ∙ ap (λ (t : List ℕ). t ++ line_end) head.spelled in
-    let nodes_none : taken.nodes ≡ [] = some_nodes taken.nodes [] (sym taken.stand ∙ ap (nodes_in taken.format []) none.lines_none) in
+    let nodes_none : taken.nodes ≡ [] = some_is taken.nodes [] (sym taken.stand ∙ ap (nodes_in taken.format []) none.lines_none) in
     let stands : StandsAt network [] before.stack.nodes before.bound before.counts = subst (λ (l : List LogLine). StandsAt network l before.stack.nodes before.bound before.counts) nodes_none taken.stands in
     let leads : LeadsTo network (root_of network ∷ []) [] now.stack.nodes = stands.leads ∙ sym (ap (λ s. s.nodes) head.stack) in
     record {

@@ -1,5 +1,5 @@
 -- Which rule a line breaks first.
-use Rattle.std.proofs.Common.{◌≡◌, ◌⊎◌, ℕ, ◌<◌, ◌≤◌, ltb, not, ◌&&◌, Bool, true, false, List, length, get_or, Option, Some, None, refl, ap, sym, ◌∙◌, subst, inl, inr}
+use Rattle.std.proofs.Common.{◌≡◌, ◌⊎◌, ℕ, ◌<◌, ◌≤◌, ltb, not, ◌&&◌, Bool, true, false, List, length, get_or, Option, Some, None, refl, ap, sym, ◌∙◌, inl, inr}
 use Rattle.std.specs.Prelude.{slice_get, ◌*ℤ◌}
 use Rattle.std.proofs.lemmas.Bool.{lt-ltb, le-ltb}
 use Rattle.std.proofs.lemmas.Option.{get_or_from_slice_get, slice_get_within}
@@ -7,7 +7,6 @@ use Rattle.geo_model.specs.Energy.{energy}
 use Rattle.geo_model.specs.Limit.{LimitOf, IsInForce, load}
 use Rattle.geo_model.specs.Meeting.{Breaks}
 use Rattle.geo_model.specs.Network.{NetworkOf}
-use Rattle.geo_model.specs.Row.{Displaced}
 use Rattle.geo_model.specs.declared.plan.Node.{Node}
 use Rattle.geo_model.specs.declared.verdict.Verdict.TheVariants.{Refuted}
 use Rattle.pivot_chain.specs.Verdict.{verdict_of}
@@ -139,10 +138,6 @@ cut_holds network node cut limit named moving chosen other =
     ∙ ap (λ b. first_unkept (cut_rules network node cut true true true b))
     (not_true (breaking_test network node cut limit)
     (λ is. other (where_less (limit.alpha *ℤ energy network.candidates node.upper (displaced_by cut.pairs)) (load limit.squares (displaced_by cut.pairs)) is)))
-
--- what breaks a limit as a list breaks it as pairs
-pub breaks_as : (network : NetworkOf) (plan : List Bool) (limit : LimitOf) (x y : Displaced) → ((i : ℕ) → x i ≡ y i) → Breaks network plan limit x → Breaks network plan limit y
-breaks_as network plan limit x y same breaks = subst (Breaks network plan limit) (λ i k. same k i) breaks
 
 -- ---- leaves of a dual bound
 

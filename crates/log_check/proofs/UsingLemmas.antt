@@ -5,6 +5,7 @@ use Rattle.std.proofs.lemmas.Bool.{cases_Bool, false≢true, lt-leb, lt-ltb, le-
 use Rattle.std.proofs.lemmas.List.{length-map}
 use Rattle.std.proofs.lemmas.List.Elements.{All-nil, All-cons, All-tail}
 use Rattle.std.proofs.lemmas.List.Folds.{list_all-map}
+use Rattle.whole_algebra.proofs.ChainLaws.{and_left, and_right}
 use Rattle.geo_model.specs.Network.{NetworkOf}
 use Rattle.geo_model.specs.declared.plan.Node.{Node}
 use Rattle.bound_log.specs.declared.log_kind.LogKind.{LogKind}
@@ -56,25 +57,10 @@ UseRange cuts one = is_use_in_range (length cuts) one
 abbrev Share : Type 0
 Share = ℕ × CutTextOf
 
--- uses in their ranges are of cuts that are named, and their shares are in theirs
-ranges_named : (cuts : List CutTextOf) (uses : List (ℕ × ℕ)) → list_all (UseRange cuts) uses ≡ true → are_named cuts uses ≡ true
-ranges_named cuts [] is = refl
-ranges_named cuts (one ∷ uses) is = ap₂ (λ a b. a && b) (inner (is_weight one.0) (is_named cuts one.1) (first (UseRange cuts one) (list_all (UseRange cuts) uses) is)) (ranges_named cuts uses (second (UseRange cuts one) (list_all (UseRange cuts) uses) is))
-  where
-    first : (a b : Bool) → (a && b) ≡ true → a ≡ true
-    first true b is = refl
-    first false b is = absurd (false≢true is)
-
-    second : (a b : Bool) → (a && b) ≡ true → b ≡ true
-    second true b is = is
-    second false b is = absurd (false≢true is)
-
-    inner : (a b : Bool) → (a && b) ≡ true → b ≡ true
-    inner true b is = is
-    inner false b is = absurd (false≢true is)
-
+-- uses in their ranges are of cuts that are named
 pub uses_named : (cuts : List CutTextOf) (uses : List (ℕ × ℕ)) → list_all (UseRange cuts) uses ≡ true → are_named cuts uses ≡ true
-uses_named cuts uses is = ranges_named cuts uses is
+uses_named cuts [] is = refl
+uses_named cuts (one ∷ uses) is = ap₂ (λ a b. a && b) (and_right (is_weight one.0) (is_named cuts one.1) (and_left (UseRange cuts one) (list_all (UseRange cuts) uses) is)) (uses_named cuts uses (and_right (UseRange cuts one) (list_all (UseRange cuts) uses) is))
 
 -- of a cut that is named the limit and the displacement are in their ranges
 share_range : (network : NetworkOf) (cuts : List CutTextOf) (one : ℕ × ℕ) → AreNames network cuts → is_named cuts one.1 ≡ true → is_share_in_range network (share_used cuts one) ≡ is_use_in_range (length cuts) one
@@ -86,15 +72,7 @@ share_range network cuts one names named =
 shares_range : (network : NetworkOf) (cuts : List CutTextOf) (uses : List (ℕ × ℕ)) → AreNames network cuts → are_named cuts uses ≡ true → list_all (is_share_in_range network) (map (share_used cuts) uses) ≡ list_all (UseRange cuts) uses
 shares_range network cuts [] names named = refl
 shares_range network cuts (one ∷ uses) names named =
-    ap₂ (λ a b. a && b) (share_range network cuts one names (first (is_named cuts one.1) (are_named cuts uses) named)) (shares_range network cuts uses names (second (is_named cuts one.1) (are_named cuts uses) named))
-  where
-    first : (a b : Bool) → (a && b) ≡ true → a ≡ true
-    first true b is = refl
-    first false b is = absurd (false≢true is)
-
-    second : (a b : Bool) → (a && b) ≡ true → b ≡ true
-    second true b is = is
-    second false b is = absurd (false≢true is)
+    ap₂ (λ a b. a && b) (share_range network cuts one names (and_left (is_named cuts one.1) (are_named cuts uses) named)) (shares_range network cuts uses names (and_right (is_named cuts one.1) (are_named cuts uses) named))
 
 -- the range of a dual bound is that of its divisor, of the number of its uses, and of each use
 range_is : (network : NetworkOf) (cuts : List CutTextOf) (divisor : ℕ) (uses : List (ℕ × ℕ)) → AreNames network cuts → are_named cuts uses ≡ true
@@ -136,7 +114,7 @@ owners_used network cuts node divisor uses =
 pub uses_not_owned : (network : NetworkOf) (cuts : List CutTextOf) (node : Node) (divisor : ℕ) (uses : List (ℕ × ℕ)) → AreNames network cuts → is_weight divisor ≡ true → are_few (length uses) ≡ true → list_all (UseRange cuts) uses ≡ true → list_all (λ one. is_owned_at network node (cut_named cuts one.1).limit) uses ≡ false
     → first_unkept (meaning_rules network cuts node (named_meaning cuts (UseDual divisor uses))) ≡ Some Owner
 uses_not_owned network cuts node divisor uses names weight few range other =
-    let named = ranges_named cuts uses range in
+    let named = uses_named cuts uses range in
     ap (λ (said : Meaning). first_unkept (meaning_rules network cuts node said)) (uses_are cuts divisor uses named)
     ∙ dual_owner_broken network node divisor (map (share_used cuts) uses)
     (range_is network cuts divisor uses names named ∙ holds_all (is_weight divisor) (are_few (length uses)) (list_all (UseRange cuts) uses) weight few range)
@@ -145,7 +123,7 @@ uses_not_owned network cuts node divisor uses names weight few range other =
 pub uses_kept : (network : NetworkOf) (cuts : List CutTextOf) (node : Node) (divisor : ℕ) (uses : List (ℕ × ℕ)) → AreNames network cuts → is_weight divisor ≡ true → are_few (length uses) ≡ true → list_all (UseRange cuts) uses ≡ true → list_all (λ one. is_owned_at network node (cut_named cuts one.1).limit) uses ≡ true
     → first_unkept (meaning_rules network cuts node (named_meaning cuts (UseDual divisor uses))) ≡ None
 uses_kept network cuts node divisor uses names weight few range owned =
-    let named = ranges_named cuts uses range in
+    let named = uses_named cuts uses range in
     ap (λ (said : Meaning). first_unkept (meaning_rules network cuts node said)) (uses_are cuts divisor uses named)
     ∙ dual_kept network node divisor (map (share_used cuts) uses)
     (range_is network cuts divisor uses names named ∙ holds_all (is_weight divisor) (are_few (length uses)) (list_all (UseRange cuts) uses) weight few range)
@@ -162,15 +140,7 @@ pub record UsesKeep (network : NetworkOf) (cuts : List CutTextOf) (node : Node) 
 named_each : (cuts : List CutTextOf) (uses : List (ℕ × ℕ)) → are_named cuts uses ≡ true → All (λ one. one.1 < length cuts) uses
 named_each cuts [] named = All-nil (λ one. one.1 < length cuts)
 named_each cuts (one ∷ uses) named =
-    All-cons (λ (u : ℕ × ℕ). u.1 < length cuts) one uses (ltb-true one.1 (length cuts) (first (is_named cuts one.1) (are_named cuts uses) named)) (named_each cuts uses (second (is_named cuts one.1) (are_named cuts uses) named))
-  where
-    first : (a b : Bool) → (a && b) ≡ true → a ≡ true
-    first true b is = refl
-    first false b is = absurd (false≢true is)
-
-    second : (a b : Bool) → (a && b) ≡ true → b ≡ true
-    second true b is = is
-    second false b is = absurd (false≢true is)
+    All-cons (λ (u : ℕ × ℕ). u.1 < length cuts) one uses (ltb-true one.1 (length cuts) (and_left (is_named cuts one.1) (are_named cuts uses) named)) (named_each cuts uses (and_right (is_named cuts one.1) (are_named cuts uses) named))
 
 pub keeping_uses : (network : NetworkOf) (cuts : List CutTextOf) (node : Node) (divisor : ℕ) (uses : List (ℕ × ℕ)) → first_unkept (meaning_rules network cuts node (named_meaning cuts (UseDual divisor uses))) ≡ None → UsesKeep network cuts node divisor uses
 keeping_uses network cuts node divisor uses keeps = elim (cases_Bool (are_named cuts uses)) [

@@ -14,7 +14,8 @@ use Rattle.log_check.specs.Fed.{ReplayerOf, HasFed, HasRead, HoldsFault, IsLineN
 use Rattle.log_check.specs.FirstFault.{IsFirstFault}
 use Rattle.log_check.specs.Walking.{Walks, Replays}
 use Rattle.log_check.proofs.FedLemmas.{part_then, held_stays, fed_read}
-use Rattle.log_check.proofs.LongerLemmas.{NoFeed, feeds}
+use Rattle.bound_log.proofs.GrammarLemmas.{NoFeed}
+use Rattle.log_check.proofs.LongerLemmas.{feeds}
 use Rattle.log_check.proofs.ReachLemmas.{next_line, left_none}
 
 abbrev Lacks : TextLineOf → Type 0

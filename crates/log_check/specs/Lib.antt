@@ -1,6 +1,5 @@
 pub mod Fed
 pub mod FirstFault
-pub mod Groups
 pub mod LineRoom
 pub mod Naming
 pub mod Places

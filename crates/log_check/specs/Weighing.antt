@@ -1,13 +1,12 @@
 -- How the shares of a dual bound are taken off the prices. This project's own; it serves private
 -- functions and the proof of the replay, and no public clause cites it.
-use Rattle.std.specs.Prelude.{◌≡◌, ℕ, ◌+◌, ◌*◌, ◌^◌, ◌<◌, ◌≤◌, ◌&&◌, ltb, ℤ, Bool, true, List, All, ◌++◌, length, map, slice_get, sum_by, unsigned_abs}
-use Rattle.whole_algebra.specs.Matrices.{at}
-use Rattle.geo_model.specs.Dual.{reduced_price}
+use Rattle.std.specs.Prelude.{◌≡◌, ℕ, ◌^◌, ◌<◌, ◌≤◌, ◌&&◌, ltb, ℤ, Bool, true, List, All, ◌++◌, length, map, slice_get}
 use Rattle.geo_model.specs.Network.{NetworkOf}
 use Rattle.geo_model.specs.Prices.{prices_of}
 use Rattle.bound_log.specs.CutText.{CutTextOf}
 use Rattle.bound_log.specs.DualText.{weighed_text}
 use Rattle.geo_model.specs.declared.plan.Node.{Node}
+use Rattle.reduced_sums.specs.Weighed.{AreWeighed}
 use Rattle.bound_log.specs.Rules.{chooses_if_any, is_displacement, is_weight, limit_passes}
 
 -- the numbers of a share are in their ranges
@@ -32,7 +31,4 @@ pub record Weighs (network : NetworkOf) (divisor : ℕ) (shares left : List (ℕ
   pub done : List (ℕ × CutTextOf)
   pub whole : shares ≡ done ++ left
   pub each : All (IsShareOf network) left
-  pub taken : (i : ℕ) → at reduced i ≡ reduced_price (prices_of network) divisor (map (weighed_text network) done) i
-  pub sum : paid ≡ sum_by (λ share. share.multiplier * share.cover.bound) (map (weighed_text network) done)
-  pub small : (i : ℕ) → unsigned_abs (at reduced i) ≤ 2 ^ 74 + length done * 2 ^ 68
-  pub paid_small : paid ≤ length done * 2 ^ 68
+  pub weighed : AreWeighed (prices_of network) divisor (map (weighed_text network) done) reduced paid

@@ -1,23 +1,22 @@
 //! The dual bound of a line of a log, formed from the lent line in room that stands.
-ghost use Rattle.std.specs.Prelude.{◌≡◌, ℕ, ◌+◌, ◌-◌, ◌*◌, ◌/◌, ◌^◌, ◌<◌, ◌≤◌, pos, ◌-ℤ◌, List, All, None, get_or, length, map, sum_by, unsigned_abs};
+ghost use Rattle.std.specs.Prelude.{◌≡◌, ℕ, ◌+◌, ◌*◌, ◌^◌, ◌<◌, ◌≤◌, pos, ◌-ℤ◌, All, get_or, length, map, sum_by, unsigned_abs};
 ghost use Rattle.whole_algebra.specs.Matrices.{at};
-ghost use Rattle.geo_model.specs.Dual.{WeighedCover, at_least_zero, dual_bound, reduced_price};
+ghost use Rattle.geo_model.specs.Dual.{dual_bound, reduced_price};
 ghost use Rattle.geo_model.specs.Prices.{prices_of};
 ghost use Rattle.bound_log.specs.CutText.{CutTextOf, displaced_by};
 ghost use Rattle.bound_log.specs.DualText.{weighed_text};
 ghost use Rattle.bound_log.specs.LogTree.{IsDualLineAt};
-ghost use Rattle.log_check.specs.Groups.{AreReduced};
+ghost use Rattle.reduced_sums.specs.Groups.{AreReduced};
 ghost use Rattle.log_check.specs.LineRoom.{IsLineRoom};
 ghost use Rattle.log_check.specs.Places.{HasEntries};
 ghost use Rattle.log_check.specs.Weighing.{IsShareOf};
 
-use crate::dual_sums::{inner_sum, open_sum, stations_sum};
 use crate::line_room::LineRoom;
 use crate::moves::write_moves;
-use crate::reduced::{take_off, write_prices};
 use bound_log::{CutText, Shares};
 use cut_pool::cut_into;
 use geo_model::{Network, Node};
+use reduced_sums::{bound_of_sums, take_off, write_prices};
 
 // Takes a share off the reduced prices, and answers its multiplier times the bound of its cut.
 fn weigh_share(network: &Network, room: &mut LineRoom, multiplier: u64, cut: &CutText<'_>) -> u128
@@ -86,16 +85,6 @@ fn weigh(network: &Network, room: &mut LineRoom, divisor: u64, shares: &Shares<'
     paid
 }
 
-// A number over the divisor, rounded up, and at least 0.
-fn rounded_up(sum: i128, divisor: u64) -> u128
-    requires size { unsigned_abs sum ≤ 2 ^ 100 }
-    requires divisor { 1 ≤ divisor }
-    ensures { result ≡ (at_least_zero sum + (divisor - 1)) / divisor }
-{
-    let whole = sum.max(0) as u128;
-    (whole + u128::from(divisor - 1)) / u128::from(divisor)
-}
-
 /// The dual bound of the shares of a line that is allowed at a node. It takes no memory.
 pub fn dual_bound_at(
     network: &Network,
@@ -112,27 +101,4 @@ pub fn dual_bound_at(
 {
     let paid = weigh(network, room, divisor, shares);
     bound_of_sums(network, node, divisor, room.reduced.as_slice(), paid)
-}
-
-/// The dual bound of a divisor, of the reduced prices that shares leave, and of what the shares pay.
-pub fn bound_of_sums(
-    network: &Network,
-    node: &Node,
-    divisor: u64,
-    reduced: &[i128],
-    paid: u128,
-) -> u128
-    requires node { HasEntries (length network.now.candidates) node.now }
-    requires low { 1 ≤ divisor }
-    requires high { divisor ≤ 2 ^ 44 }
-    requires reduced { AreReduced (length network.now.candidates) reduced.now }
-    requires paid { paid ≤ 2 ^ 74 }
-    ensures { (shares : List WeighedCover) → paid ≡ sum_by (λ share. share.multiplier * share.cover.bound) shares
-        → ((i : ℕ) → at reduced.now i ≡ reduced_price (prices_of network.now) divisor shares i)
-        → result ≡ dual_bound (prices_of network.now) divisor shares node.now }
-{
-    let inner = inner_sum(network, node, reduced);
-    let free = open_sum(network, node, reduced, None);
-    let stations = stations_sum(network, node, divisor, reduced);
-    rounded_up(inner + free + stations + paid as i128, divisor)
 }

@@ -6,16 +6,16 @@ ghost use Rattle.geo_model.specs.Prices.{prices_of};
 ghost use Rattle.bound_log.specs.DualText.{weighed_text};
 ghost use Rattle.bound_log.specs.LogTree.{IsDualLineAt};
 ghost use Rattle.bound_log.specs.Meanings.{AreNames, cut_named, share_used};
-ghost use Rattle.log_check.specs.Groups.{AreReduced};
+ghost use Rattle.reduced_sums.specs.Groups.{AreReduced};
 ghost use Rattle.log_check.specs.LineRoom.{IsLineRoom};
 ghost use Rattle.log_check.specs.Places.{HasEntries};
 
-use crate::dual::{bound_of_sums, weigh_moves};
+use crate::dual::weigh_moves;
 use crate::line_room::LineRoom;
 use crate::named_cuts::NamedCuts;
-use crate::reduced::write_prices;
 use bound_log::Uses;
 use geo_model::{Network, Node};
+use reduced_sums::{bound_of_sums, write_prices};
 
 /// The dual bound of the cuts that a line uses which is allowed at a node. It takes no memory.
 pub fn dual_bound_of_uses(

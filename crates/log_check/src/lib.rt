@@ -16,7 +16,6 @@
 #![tactic(auto)]
 
 mod dual;
-mod dual_sums;
 mod dual_uses;
 mod fault;
 mod judged;
@@ -27,7 +26,6 @@ mod named_cuts;
 mod open_nodes;
 mod parts;
 mod progress;
-mod reduced;
 mod replayer;
 mod replaying;
 mod rules;

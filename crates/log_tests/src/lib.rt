@@ -11,6 +11,8 @@ mod dual_replays;
 #[cfg(test)]
 mod log_lines;
 #[cfg(test)]
+mod migrations;
+#[cfg(test)]
 mod named_lines;
 #[cfg(test)]
 mod named_replays;

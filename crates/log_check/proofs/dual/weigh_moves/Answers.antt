@@ -1,5 +1,5 @@
-use Rattle.std.proofs.Common.{◌≡◌, ◌∙◌, ℕ, ◌*◌, ℤ, pos, ◌-ℤ◌, List, length, get_or, arith, ap, ap₂, subst}
-use Rattle.std.specs.Prelude.{◌<◌, slice_get}
+use Rattle.std.proofs.Common.{◌≡◌, ◌∙◌, ℕ, ◌*◌, ℤ, pos, ◌-ℤ◌, List, length, get_or, arith, ap, ap₂}
+use Rattle.std.specs.Prelude.{slice_get}
 use Rattle.std.proofs.lemmas.List.{with_items_is}
 use Rattle.whole_algebra.specs.Matrices.{at}
 use Rattle.geo_model.specs.Cover.{CoverOf}

@@ -1,4 +1,4 @@
-use Rattle.std.proofs.Common.{◌∙◌, ℤ, List, length, map, ap, arith, sym}
+use Rattle.std.proofs.Common.{◌∙◌, ℤ, List, map, ap, arith}
 use Rattle.std.proofs.lemmas.List.{length-map}
 use Rattle.whole_algebra.specs.Matrices.{at}
 use Rattle.bound_log.specs.DualText.{weighed_text}

@@ -1,4 +1,4 @@
-use Rattle.std.proofs.Common.{◌≡◌, ◌<◌, ◌≤◌, ℕ, zero, suc, pos, [], replicate, arith, refl}
+use Rattle.std.proofs.Common.{◌≡◌, ℕ, zero, suc, pos, [], replicate, arith, refl}
 use Rattle.std.proofs.lemmas.List.{get_or_past, length-replicate}
 use Rattle.whole_algebra.specs.Matrices.{at}
 use Rattle.log_check.proofs.named_cuts.padded.Goals as goal

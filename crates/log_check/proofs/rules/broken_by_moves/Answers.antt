@@ -5,8 +5,9 @@ use Rattle.std.proofs.lemmas.Option.{slice_get_read}
 use Rattle.whole_algebra.specs.Matrices.{at}
 use Rattle.bound_log.specs.CutText.{displaced_by}
 use Rattle.bound_log.proofs.AllowedLemmas.{cut_allowed}
-use Rattle.log_check.proofs.RuleLemmas.{cut_owner_broken, cut_holds, breaks_as}
+use Rattle.log_check.proofs.RuleLemmas.{cut_owner_broken, cut_holds}
 use Rattle.log_check.proofs.rules.broken_by_moves.Goals as goal
+use Rattle.geo_model.proofs.EnergyLemmas.{Breaks-same}
 
 pub returns-then-not-is_in_force : goal.returns-then-not-is_in_force
 returns-then-not-is_in_force c = λ cut same moving written.
@@ -25,7 +26,7 @@ returns-then-not-breaks c = λ cut same moving written.
     sym (cut_holds c.args.network.now c.args.node.now cut limit named moving
     (c.if-not-is_in_force.ensures.0 refl)
     (λ broken. false≢true ((c.if-not-breaks.ensures limit read).1
-    (breaks_as c.args.network.now c.args.node.now.upper limit (displaced_by cut.pairs) (at c.args.moves.now) written broken))))
+    (Breaks-same c.args.network.now c.args.node.now.upper limit (displaced_by cut.pairs) (at c.args.moves.now) written broken))))
 
 pub returns : goal.returns
 returns c = λ cut same moving written.
@@ -39,6 +40,6 @@ returns c = λ cut same moving written.
       named = named;
       displacement = moving;
       owned = c.if-not-is_in_force.ensures.0 refl;
-      breaks = breaks_as c.args.network.now c.args.node.now.upper limit (at c.args.moves.now) (displaced_by cut.pairs) (λ i. sym (written i))
+      breaks = Breaks-same c.args.network.now c.args.node.now.upper limit (at c.args.moves.now) (displaced_by cut.pairs) (λ i. sym (written i))
           ((c.if-not-breaks.ensures limit read).0 refl);
     }))

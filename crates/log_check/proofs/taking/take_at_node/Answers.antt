@@ -1,9 +1,9 @@
-use Rattle.std.proofs.Common.{◌≡◌, ◌<◌, [], true, length, arith, ap, sym, subst}
+use Rattle.std.proofs.Common.{length, arith, ap, sym, subst}
 use Rattle.std.proofs.lemmas.Bool.{false≢true}
 use Rattle.std.proofs.lemmas.Result.{IfErr-weaker, on_ok_weaker}
 use Rattle.bound_log.specs.declared.log_format.LogFormat.{LogFormat}
 use Rattle.bound_log.specs.declared.log_format.LogFormat.TheVariants.{First, Second}
-use Rattle.log_check.specs.Taking.{Stops, StopsBody, TakesBody, TakesText, no_body}
+use Rattle.log_check.specs.Taking.{Stops, StopsBody, TakesText, no_body}
 use Rattle.log_check.proofs.PlaceLemmas.{not_empty}
 use Rattle.log_check.proofs.taking.take_at_node.Goals as goal
 

@@ -1,6 +1,5 @@
-use Rattle.std.proofs.Common.{◌<◌, ◌≤◌, ◌&&◌, length, arith, refl, ap, ap₂, sym, ◌∙◌}
-use Rattle.std.proofs.lemmas.Bool.{false≢true, le-ltb, lt-ltb}
-use Rattle.bound_log.specs.Meanings.{is_cut_in_range}
+use Rattle.std.proofs.Common.{◌<◌, ◌≤◌, length, arith, refl, ap, sym, ◌∙◌}
+use Rattle.std.proofs.lemmas.Bool.{false≢true}
 use Rattle.bound_log.specs.Rules.{is_displacement}
 use Rattle.log_check.proofs.NamingLemmas.{full_not, limit_not, named_may, not_full}
 use Rattle.log_check.proofs.taking_named.may_name.Goals as goal

@@ -1,4 +1,4 @@
-use Rattle.std.proofs.Common.{◌≡◌, length, refl, ap, sym, ◌∙◌, true}
+use Rattle.std.proofs.Common.{refl, ap, sym, ◌∙◌}
 use Rattle.bound_log.specs.Rules.{is_displacement}
 use Rattle.log_check.proofs.NamingLemmas.{may_few, may_displace, name_broken, name_kept}
 use Rattle.log_check.proofs.PlaceLemmas.{head_tail}

@@ -1,4 +1,4 @@
-use Rattle.std.proofs.Common.{length, sym, ◌∙◌, ap, subst}
+use Rattle.std.proofs.Common.{length, sym, subst}
 use Rattle.geo_model.specs.declared.plan.Node.{Node}
 use Rattle.bound_log.specs.Meanings.{Meaning, cut_named, named_meaning}
 use Rattle.bound_log.specs.declared.named_line.NamedLine.TheVariants.{UseCut}

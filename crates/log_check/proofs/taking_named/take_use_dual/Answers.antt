@@ -1,6 +1,5 @@
-use Rattle.std.proofs.Common.{◌≡◌, ◌<◌, length, map, All, sym, ◌∙◌, ap, subst}
+use Rattle.std.proofs.Common.{length, map, sym, subst}
 use Rattle.geo_model.specs.declared.plan.Node.{Node}
-use Rattle.bound_log.specs.LogTree.{IsDualLineAt}
 use Rattle.bound_log.specs.Meanings.{Meaning, named_meaning, share_used}
 use Rattle.bound_log.specs.declared.named_line.NamedLine.TheVariants.{UseDual}
 use Rattle.log_check.specs.FirstFault.{BreaksFirst, KeepsRules}

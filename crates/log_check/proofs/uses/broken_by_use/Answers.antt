@@ -1,4 +1,4 @@
-use Rattle.std.proofs.Common.{◌≡◌, ◌<◌, ◌≤◌, length, true, arith, ap, sym, ◌∙◌, subst}
+use Rattle.std.proofs.Common.{◌<◌, ◌≤◌, length, arith, ap, sym, ◌∙◌}
 use Rattle.bound_log.specs.Meanings.{cut_named}
 use Rattle.bound_log.specs.Rules.{is_displacement}
 use Rattle.log_check.proofs.NamingLemmas.{in_range_at}

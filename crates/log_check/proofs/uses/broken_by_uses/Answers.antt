@@ -1,7 +1,7 @@
-use Rattle.std.proofs.Common.{◌≡◌, ◌&&◌, ◌<◌, ◌≤◌, length, true, false, arith, ap, sym, ◌∙◌, subst}
+use Rattle.std.proofs.Common.{◌&&◌, ◌<◌, ◌≤◌, length, arith, ap, sym, ◌∙◌}
 use Rattle.std.specs.Prelude.{ℕ}
 use Rattle.std.specs.List.{list_all}
-use Rattle.std.proofs.lemmas.Bool.{le-leb, lt-leb}
+use Rattle.std.proofs.lemmas.Bool.{le-leb}
 use Rattle.bound_log.specs.Rules.{are_few, is_weight}
 use Rattle.log_check.specs.Naming.{is_use_in_range}
 use Rattle.log_check.proofs.UsingLemmas.{fails_few, fails_later, fails_weight, uses_kept, uses_named, uses_not_owned, uses_out_of_range}

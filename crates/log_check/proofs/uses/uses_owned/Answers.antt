@@ -1,10 +1,10 @@
-use Rattle.std.proofs.Common.{◌≡◌, ◌&&◌, ◌<◌, ◌∙◌, ℕ, Bool, true, false, List, ◌∷◌, length, refl, ap, sym, subst}
+use Rattle.std.proofs.Common.{◌≡◌, ◌&&◌, ◌∙◌, ℕ, true, List, ◌∷◌, length, ap, sym}
 use Rattle.std.specs.List.{list_all}
 use Rattle.std.proofs.lemmas.Bool.{ltb-true}
 use Rattle.bound_log.specs.CutText.{CutTextOf}
 use Rattle.bound_log.specs.Meanings.{cut_named, is_named}
 use Rattle.log_check.specs.Weighing.{is_owned_at}
-use Rattle.log_check.proofs.MoveLemmas.{and_left, and_right}
+use Rattle.whole_algebra.proofs.ChainLaws.{and_left, and_right}
 use Rattle.log_check.proofs.ShareLemmas.{fails_at, holds_at}
 use Rattle.log_check.proofs.uses.uses_owned.Goals as goal
 

@@ -1,0 +1,3 @@
+pub mod FirstUse
+pub mod Migrated
+pub mod NewLog
