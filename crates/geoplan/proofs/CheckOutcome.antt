@@ -51,7 +51,7 @@ IsOutcomeOf-checked sources tables before middle now has ends text (inl (log, re
     let all = Loads-all (record { verb = verb.Check; sources = sources }) reads_tables tables before middle now has (ReadsAll-one [] (log_file sources.log) log middle middle now (ReadsAll-none middle) read) in
     IsOutcomeOf-replayed sources tables log before now all (λ files told. sym (read.has.1 files (has.read.held ∙ told))) ends text replayed
 IsOutcomeOf-checked sources tables before middle now has ends text (inr (why, fails, said)) =
-    IsOutcomeOf-refused (record { verb = verb.Check; sources = sources }) why before now ends text
+    IsOutcomeOf-refused (record { verb = verb.Check; sources = sources }) why before now ends text reads_tables
     (FailsLoad-after (record { verb = verb.Check; sources = sources }) reads_tables before middle now has.read why (record { file = log_file sources.log; one = refl; fails = fails })) said
 
 -- .. of the command that it is known to be

@@ -20,7 +20,8 @@ status_of n =
     else (if n == 6 then status.WriteFault
     else (if n == 7 then status.NoMemory
     else (if n == 8 then status.LogRefused
-    else status.FileTooLong))))))))
+    else (if n == 9 then status.FileTooLong
+    else status.TooManyCuts)))))))))
 
 read_back : (s : Status) → status_of (code_of s) ≡ s
 read_back status.Found = refl
@@ -33,12 +34,13 @@ read_back status.WriteFault = refl
 read_back status.NoMemory = refl
 read_back status.LogRefused = refl
 read_back status.FileTooLong = refl
+read_back status.TooManyCuts = refl
 
 pub from_code : (s : Status) (n : ℕ) → code_of s ≡ n → s ≡ status_of n
 from_code s n is = sym (read_back s) ∙ ap status_of is
 
 -- a status other than a write fault that stands after a failed put stood before it
-kept : (begun target : Status) → after_failed_put begun ≡ target → (target ≡ status.WriteFault → ⊥) → begun ≡ target
+pub kept : (begun target : Status) → after_failed_put begun ≡ target → (target ≡ status.WriteFault → ⊥) → begun ≡ target
 kept status.Found target is other = absurd (other (sym is))
 kept status.NoPlan target is other = absurd (other (sym is))
 kept status.WordsRefused target is other = is
@@ -49,6 +51,7 @@ kept status.WriteFault target is other = is
 kept status.NoMemory target is other = is
 kept status.LogRefused target is other = is
 kept status.FileTooLong target is other = is
+kept status.TooManyCuts target is other = is
 
 -- how a status other than of a fault was printed
 pub says-of : (target begun ended : Status) (text : List ℕ) (sink sink_now : SinkState) → (target ≡ status.WriteFault → ⊥) → (target ≡ status.NoMemory → ⊥) → ended ≡ target → Prints begun text ended sink sink_now → (begun ≡ target) × IsSaid text sink sink_now

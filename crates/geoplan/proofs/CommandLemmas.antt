@@ -1,6 +1,8 @@
 use Rattle.std.proofs.Common.{◌≡◌, ◌≤◌, ℕ, zero, suc, ◌+◌, Bool, true, false, ◌&&◌, List, [], ◌∷◌, length, drop, refl, ap, ◌∙◌, arith, Some, add-one}
 use Rattle.std.specs.Prelude.{slice_get}
 use Rattle.std.specs.List.{list_all}
+use Rattle.std.proofs.lemmas.List.{drop_all, drop_more}
+use Rattle.std.proofs.lemmas.Option.{get_or_from_slice_get, slice_get_within}
 
 -- Laws of tests on the words from a place on.
 
@@ -23,3 +25,18 @@ list_all-drop_past p [] zero past = refl
 list_all-drop_past p [] (suc k) past = refl
 list_all-drop_past p (x ∷ xs) zero past = absurd (omega arith)
 list_all-drop_past p (x ∷ xs) (suc k) past = list_all-drop_past p xs k (omega arith)
+
+-- ---- the words at their places
+
+-- the word at a place, and those after it
+word_at : (words : List (List ℕ)) (k : ℕ) (word : List ℕ) → slice_get words k ≡ Some word → drop k words ≡ word ∷ drop (k + 1) words
+word_at words k word at = drop_more words k word (slice_get_within words k word at) ∙ ap (λ first. first ∷ drop (k + 1) words) (get_or_from_slice_get words k word word at)
+
+-- eight words have six after the first two
+pub six_words : (words : List (List ℕ)) (a b c d e f : List ℕ) → length words ≡ 8 →
+    slice_get words 2 ≡ Some a → slice_get words 3 ≡ Some b → slice_get words 4 ≡ Some c → slice_get words 5 ≡ Some d → slice_get words 6 ≡ Some e → slice_get words 7 ≡ Some f →
+    drop 2 words ≡ a ∷ b ∷ c ∷ d ∷ e ∷ f ∷ []
+six_words words a b c d e f long second third fourth fifth sixth seventh =
+    let last : drop 7 words ≡ f ∷ [] = word_at words 7 f seventh ∙ ap (λ rest. f ∷ rest) (drop_all 8 words (omega (arith, long))) in
+    let three : drop 5 words ≡ d ∷ e ∷ f ∷ [] = word_at words 5 d fifth ∙ ap (λ rest. d ∷ rest) (word_at words 6 e sixth ∙ ap (λ rest. e ∷ rest) last) in
+    word_at words 2 a second ∙ ap (λ rest. a ∷ rest) (word_at words 3 b third ∙ ap (λ rest. b ∷ rest) (word_at words 4 c fourth ∙ ap (λ rest. c ∷ rest) three))

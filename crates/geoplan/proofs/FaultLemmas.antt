@@ -62,6 +62,7 @@ module _ (command : CommandOf) (before now : ShelfState) where
   stands_keep status.NoMemory text out = out.held
   stands_keep status.LogRefused text ends = keeps_of.log_refused before now text ends
   stands_keep status.FileTooLong text refused = inl refused.refuses.held
+  stands_keep status.TooManyCuts text ends = keeps_of.cuts_refused before now text ends
 
 -- ---- pieces under names
 
@@ -148,6 +149,7 @@ module _ (words : List (List ℕ)) (ended : Status) (before now : ShelfState) (s
   put_fails status.NoMemory text after cut answered = absurd (cc)
   put_fails status.LogRefused text after cut answered = absurd (cc)
   put_fails status.FileTooLong text after cut answered = absurd (cc)
+  put_fails status.TooManyCuts text after cut answered = absurd (cc)
 
   unwritten_by : (begun : Status) (text : List ℕ) → ended ≡ status.WriteFault → Answered words before now begun text → Prints begun text ended sink sink_now → OnCommand words (λ command. IsUnwritten command before now sink sink_now)
   unwritten_by begun text is answered (inl printed) =

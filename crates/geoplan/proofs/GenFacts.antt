@@ -1,5 +1,5 @@
 -- The facts of `gen`.
-use Rattle.std.proofs.Common.{◌≡◌, ◌⊎◌, inl, inr, ℕ, List, [], ◌∷◌, refl, sym, ◌∙◌, subst, arith, Option}
+use Rattle.std.proofs.Common.{◌≡◌, ◌⊎◌, inl, inr, [], ◌∷◌, refl, sym, subst, arith, Option}
 use Rattle.std.specs.Prelude.{Contains}
 use Rattle.std.proofs.lemmas.List.{append-nil}
 use Rattle.shelf_io.specs.Files.{Files}
@@ -12,8 +12,8 @@ use Rattle.geoplan.specs.CommandOf.{SourcesOf, CommandOf, names_written}
 use Rattle.geoplan.specs.Ends.{gen_ends}
 use Rattle.geoplan.specs.Input.{no_input, judged_input, input_of}
 use Rattle.geoplan.specs.Loading.{ReadsTables}
-use Rattle.geoplan.specs.WrittenTables.{with_points, with_both, BeganFile, MayHaveBegun, BeganTables, FailsAtPoints, FailsAtCandidates}
-use Rattle.geoplan.proofs.OwedFacts.{HoldsPieces, EndsKeep, EndsAnswer, OwedFacts, nothing_unrefused, nothing_refused, nothing_long}
+use Rattle.geoplan.specs.WrittenTables.{with_points, with_both, MayHaveBegun, BeganTables, FailsAtPoints, FailsAtCandidates}
+use Rattle.geoplan.proofs.OwedFacts.{HoldsPieces, EndsKeep, EndsQuiet, EndsAnswer, OwedFacts, nothing_unrefused, nothing_refused, nothing_long}
 
 module _ (sources : SourcesOf) where
   abbrev generating : CommandOf
@@ -74,8 +74,18 @@ module _ (sources : SourcesOf) where
     none = λ before now text never. absurd never;
     undecided = λ before now text never. absurd never;
     log_refused = λ before now text never. absurd never;
+    cuts_refused = λ before now text never. absurd never;
     unwritten = λ before now failed. failed_kept before now failed.stands;
     pieces = pieces_of;
+  }
+
+  quiet : EndsQuiet (gen_ends sources)
+  quiet = record {
+    completed = λ before now text writes. writes.quiet;
+    none = λ before now text never. absurd never;
+    undecided = λ before now text never. absurd never;
+    log_refused = λ before now text never. absurd never;
+    cuts_refused = λ before now text never. absurd never;
   }
 
   -- ---- its statuses: it reads no file
@@ -93,12 +103,13 @@ module _ (sources : SourcesOf) where
     none = λ files before now text told never. absurd never;
     undecided = λ files before now text told never. absurd never;
     log_refused = λ files before now text told never. absurd never;
+    cuts_refused = λ files before now text told never. absurd never;
     unwritten = λ before now failed. failed.rose;
     unwritten_files = λ files before now told failed. nothing_unrefused generating no_file files;
   }
 
 pub facts : OwedFacts verb.Gen
-facts = record { keeps = keeps; answers = answers }
+facts = record { keeps = keeps; quiet = quiet; answers = answers }
 
 -- it reads no tables
 pub never_tables : (which : Verb) → which ≡ verb.Gen → ReadsTables which → ⊥

@@ -1,5 +1,5 @@
 -- What stands once the tables of a seed are written.
-use Rattle.std.proofs.Common.{◌≡◌, ◌⊎◌, inl, inr, ℕ, List, [], sym, ◌∙◌, subst, arith, Result, Ok, Err, Vec, Global}
+use Rattle.std.proofs.Common.{◌≡◌, inl, inr, ℕ, List, [], sym, ◌∙◌, subst, Result, Ok, Err, Vec, Global}
 use Rattle.std.specs.Prelude.{IfOk, MatchResult}
 use Rattle.geo_base.specs.declared.no_memory.NoMemory.{NoMemory}
 use Rattle.shelf_io.specs.States.{ShelfState}
@@ -21,7 +21,7 @@ module _ (sources : SourcesOf) (before now : ShelfState) (ends : Status) (text :
   out_after : WritesBoth sources before now → HasNoText ends text → Generates sources before now ends text
   out_after writes (is, none) = subst (λ s. Generates sources before now s text) (sym is) (record {
     held = inr (both_began sources before.held now.held writes.written);
-    later = omega (arith, writes.quiet.same_count);
+    quiet = writes.quiet;
     printed = none;
   })
 
@@ -38,8 +38,8 @@ module _ (sources : SourcesOf) (before now : ShelfState) (ends : Status) (text :
   Generates-unwritten why fails failed is none = subst (λ s. Generates sources before now s text) (sym is) (fails.failed failed, none)
 
   -- memory ran out
-  pub Generates-out : (why : WriteAnswer) → FailsBoth sources why before now → ends ≡ status.NoMemory → text ≡ [] → Generates sources before now ends text
-  Generates-out why fails is none = subst (λ s. Generates sources before now s text) (sym is) (record { held = fails.held; later = fails.later; printed = none })
+  pub Generates-out : (why : WriteAnswer) → FailsBoth sources why before now → why ≡ write_answer.NoMemory → ends ≡ status.NoMemory → text ≡ [] → Generates sources before now ends text
+  Generates-out why fails out is none = subst (λ s. Generates sources before now s text) (sym is) (record { held = fails.held; quiet = fails.no_memory out; printed = none })
 
 -- ---- the outcome
 
@@ -51,9 +51,10 @@ generated sources before now status.TableRefused text never = absurd never
 generated sources before now status.Undecided text never = absurd never
 generated sources before now status.ReadFault text never = absurd never
 generated sources before now status.WriteFault text failed = failed
-generated sources before now status.NoMemory text out = record { held = out.held; later = out.later; printed = out.printed }
+generated sources before now status.NoMemory text out = record { held = out.held; cause = inl out.quiet; printed = out.printed }
 generated sources before now status.LogRefused text never = absurd never
 generated sources before now status.FileTooLong text never = absurd never
+generated sources before now status.TooManyCuts text never = absurd never
 
 -- .. of the command that it is known to be
 pub IsOutcomeOf-gen : (which : Verb) (sources : SourcesOf) (before now : ShelfState) (ends : Status) (text : List ℕ) → which ≡ verb.Gen → Generates sources before now ends text → IsOutcomeOf (record { verb = which; sources = sources }) before now ends text

@@ -3,11 +3,12 @@ use Rattle.std.proofs.Common.{◌≡◌, ◌<◌, ◌≤◌, ℕ, Bool, true, fa
 use Rattle.std.specs.Prelude.{nat_lt, map}
 use Rattle.std.specs.List.{AllByRecursion}
 use Rattle.std.proofs.lemmas.Bool.Decides.{nat_tests}
+use Rattle.std.proofs.lemmas.List.{map-append}
 use Rattle.shelf_io.specs.Files.{Files, bytes_of}
 use Rattle.geoplan.specs.declared.file_kind.FileKind.TheVariants as kind
-use Rattle.geoplan.specs.CommandOf.{CommandOf, FileOf, reads, file_of, files_read}
+use Rattle.geoplan.specs.CommandOf.{CommandOf, FileOf, file_of, stations_kind, behind_tables, kinds_read, files_read}
 use Rattle.geoplan.specs.Input.{InputOf, too_long_input, built_input, IsFileWithin, too_long_or, judged_input, bytes_held, input_of}
-use Rattle.geoplan.specs.Loading.{ReadsTables, tables_input, more_read}
+use Rattle.geoplan.specs.Loading.{ReadsTables, more_kinds, more_read, tables_held, tables_read}
 use Rattle.geoplan.specs.Tables.{TablesOf}
 
 is_long : (most n : ℕ) → most < n → nat_lt most n ≡ true
@@ -50,30 +51,33 @@ module _ (files : Files) where
 
 -- ---- the files of a command
 
--- the two tables come first
-pub files_read-tables : (command : CommandOf) → ReadsTables command.verb → files_read command ≡ file_of command.sources kind.Points ∷ file_of command.sources kind.Candidates ∷ more_read command
-files_read-tables command tables = ap (map (file_of command.sources)) tables.first
+-- the tables come first
+pub files_read-tables : (command : CommandOf) → ReadsTables command.verb → files_read command ≡ tables_read command ++ more_read command
+files_read-tables command tables =
+    ap (λ kinds. map (file_of command.sources) (behind_tables kinds command.sources.stations)) tables.first
+    ∙ ap (λ files. file_of command.sources kind.Points ∷ file_of command.sources kind.Candidates ∷ files)
+    (map-append (file_of command.sources) (stations_kind command.sources.stations) (more_kinds command.verb))
 
 module _ (command : CommandOf) (files : Files) where
   -- a file after such that aren't too long is
   pub input_of-long : (earlier : List FileOf) (file : FileOf) (later : List FileOf) → files_read command ≡ earlier ++ file ∷ later → AllByRecursion (IsFileWithin files) earlier → file.most < length (bytes_of files file.name) → input_of command files ≡ too_long_input file.name
   unfolding input_of
   input_of-long earlier file later order all long =
-      ap (λ read. too_long_or files read (judged_input command.sources.redundancy (bytes_held command files) (reads command.verb))) order
+      ap (λ read. too_long_or files read (judged_input command.sources.redundancy (bytes_held command files) (kinds_read command))) order
       ∙ too_long_or-first files earlier file later _ all long
 
   -- none is
-  pub input_of-short : ReadsTables command.verb → AllByRecursion (IsFileWithin files) (files_read command) → input_of command files ≡ tables_input command.sources.redundancy (bytes_of files command.sources.points) (bytes_of files command.sources.candidates)
+  pub input_of-short : ReadsTables command.verb → AllByRecursion (IsFileWithin files) (files_read command) → input_of command files ≡ tables_held command.sources files
   unfolding input_of
-  input_of-short tables all = too_long_or-within files (files_read command) _ all ∙ tables.judged command.sources.redundancy (bytes_held command files)
+  input_of-short tables all = too_long_or-within files (files_read command) _ all ∙ tables.judged command.sources.redundancy (bytes_held command files) command.sources.stations
 
   -- what accepted tables say of their files
   pub record IsAccepted (tables : TablesOf) : Type 0 where
     pub short : AllByRecursion (IsFileWithin files) (files_read command)
-    pub judged : tables_input command.sources.redundancy (bytes_of files command.sources.points) (bytes_of files command.sources.candidates) ≡ built_input tables
+    pub judged : tables_held command.sources files ≡ built_input tables
 
   pub accepted : ReadsTables command.verb → (tables : TablesOf) → input_of command files ≡ built_input tables → IsAccepted tables
   unfolding input_of
   accepted two tables built =
-      let is = all_short files (files_read command) (judged_input command.sources.redundancy (bytes_held command files) (reads command.verb)) tables built in
-      record { short = is.all; judged = sym (two.judged command.sources.redundancy (bytes_held command files)) ∙ is.rest }
+      let is = all_short files (files_read command) (judged_input command.sources.redundancy (bytes_held command files) (kinds_read command)) tables built in
+      record { short = is.all; judged = sym (two.judged command.sources.redundancy (bytes_held command files) command.sources.stations) ∙ is.rest }

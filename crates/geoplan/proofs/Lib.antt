@@ -5,6 +5,8 @@ pub mod RowsFacts
 pub mod CheckFacts
 pub mod TrialFacts
 pub mod GenFacts
+pub mod BenchFacts
+pub mod MigrateFacts
 pub mod CommandFacts
 pub mod InputLemmas
 pub mod LoadLemmas
@@ -17,6 +19,8 @@ pub mod CheckOutcome
 pub mod TrialOutcome
 pub mod WriteLemmas
 pub mod GenOutcome
+pub mod BenchOutcome
+pub mod MigrateOutcome
 pub mod PrintLemmas
 pub mod CodeLemmas
 pub mod AnswerLemmas

@@ -2,20 +2,21 @@
 use Rattle.std.proofs.Common.{◌≡◌, ◌⊎◌, inl, inr, ℕ, List, [], refl, sym, ap, ◌∙◌, subst, arith, None, Some}
 use Rattle.std.proofs.lemmas.List.{append-nil}
 use Rattle.shelf_io.specs.Files.{Files}
-use Rattle.shelf_io.specs.Faults.{Rose}
+use Rattle.shelf_io.specs.Faults.{Rose, KeepsFaults}
 use Rattle.shelf_io.specs.States.{SinkState, ShelfState}
 use Rattle.geoplan.specs.Codes.{code_of, after_failed_put}
 use Rattle.geoplan.specs.CommandOf.{CommandOf, files_read, command_of, OnCommand}
-use Rattle.geoplan.specs.Ends.{ends_of, EndsAtLog, EndsUnwritten, Began, HasReport, HasRefusal, HasText}
+use Rattle.geoplan.specs.Ends.{ends_of, EndsAtLog, EndsAtCuts, EndsUnwritten, Began, HasReport, HasRefusal, HasText}
 use Rattle.geoplan.specs.Input.{InputOf, no_input, too_long_input, refused_input, built_input, input_of}
-use Rattle.geoplan.specs.Outcomes.{RefusesTable, RefusesLength, FailsToRead}
+use Rattle.geoplan.specs.Outcomes.{RefusesTable, RefusesLength, FailsToRead, IsUnread}
 use Rattle.geoplan.specs.Printing.{WritesPrefix, WritesAll}
-use Rattle.geoplan.specs.Promises.{IsUnwritten, RanOut, IsComplete, IsRefusedBy}
+use Rattle.geoplan.specs.Promises.{IsUnwritten, HasNoWriteFault, RanOut, IsComplete, IsRefusedBy}
 use Rattle.geoplan.specs.Running.{Prints, IsWordsRefusal, Answered, IsRun}
-use Rattle.geoplan.specs.Standing.{IsOutcomeOf}
+use Rattle.geoplan.specs.Standing.{RunsOut, IsOutcomeOf}
 use Rattle.geoplan.specs.declared.status.Status.{Status}
 use Rattle.geoplan.specs.declared.status.Status.TheVariants as status
-use Rattle.geoplan.proofs.AnswerLemmas.{stands_for, not_refused}
+use Rattle.geoplan.proofs.AnswerLemmas.{by_command, stands_for, not_refused}
+use Rattle.geoplan.proofs.CodeLemmas.{from_code, kept}
 use Rattle.geoplan.proofs.CommandFacts.{facts_of}
 use Rattle.geoplan.proofs.FaultLemmas.{silent_prefix, stands_keep}
 use Rattle.geoplan.proofs.OwedFacts.{IsUnrefused, EndsAnswer}
@@ -26,6 +27,7 @@ use Rattle.geoplan.proofs.OwedFacts.{IsUnrefused, EndsAnswer}
 data View (command : CommandOf) (before now : ShelfState) (begun : Status) (text : List ℕ) : Type 0 where
   reported : HasReport command before now text → View command before now begun text
   log_refused : EndsAtLog command before now text → View command before now begun text
+  cuts_refused : EndsAtCuts command before now text → View command before now begun text
   table_refused : RefusesTable command before now text → begun ≡ status.TableRefused → View command before now begun text
   too_long : RefusesLength command before now text → begun ≡ status.FileTooLong → View command before now begun text
   unread : FailsToRead (files_read command) before now text → begun ≡ status.ReadFault → View command before now begun text
@@ -43,6 +45,7 @@ view command before now status.WriteFault text (ends, none) = unwritten ends non
 view command before now status.NoMemory text out = ran_out out.printed refl
 view command before now status.LogRefused text refused = log_refused refused
 view command before now status.FileTooLong text refused = too_long refused refl
+view command before now status.TooManyCuts text refused = cuts_refused refused
 
 -- ---- status 7
 
@@ -58,9 +61,10 @@ answered_keeps words before now begun text (inr (none, refused)) = inl (ap (λ (
 text_of : (command : CommandOf) (before now : ShelfState) (begun : Status) (text : List ℕ) → View command before now begun text → (text ≡ []) ⊎ (HasReport command before now text ⊎ HasRefusal command before now text)
 text_of command before now begun text (reported report) = inr (inl report)
 text_of command before now begun text (log_refused refused) = inr (inr (inl refused))
-text_of command before now begun text (table_refused refused is) = inr (inr (inr (inl refused)))
-text_of command before now begun text (too_long refused is) = inr (inr (inr (inr (inl refused))))
-text_of command before now begun text (unread failed is) = inr (inr (inr (inr (inr failed))))
+text_of command before now begun text (cuts_refused refused) = inr (inr (inr (inl refused)))
+text_of command before now begun text (table_refused refused is) = inr (inr (inr (inr (inl refused))))
+text_of command before now begun text (too_long refused is) = inr (inr (inr (inr (inr (inl refused)))))
+text_of command before now begun text (unread failed is) = inr (inr (inr (inr (inr (inr failed)))))
 text_of command before now begun text (unwritten ends none) = inl none
 text_of command before now begun text (ran_out none is) = inl none
 
@@ -89,13 +93,62 @@ prints_prefix begun ended text sink sink_now (inl printed) = all_prefix text sin
 prints_prefix begun ended text sink sink_now (inr (inl failed)) = failed.cut.1
 prints_prefix begun ended text sink sink_now (inr (inr out)) = out.begins
 
+-- an answer other than that of a failed write counts no fault, or a read of a file of the command failed
+caused : (command : CommandOf) (before now : ShelfState) (begun : Status) (text : List ℕ) → (begun ≡ status.WriteFault → ⊥) → IsOutcomeOf command before now begun text → KeepsFaults before now ⊎ IsUnread (files_read command) before now
+caused command before now status.Found text other ends = inl (((facts_of command.verb).quiet command.sources).completed before now text ends)
+caused command before now status.NoPlan text other ends = inl (((facts_of command.verb).quiet command.sources).none before now text ends)
+caused command before now status.WordsRefused text other never = absurd never
+caused command before now status.TableRefused text other refused = inl refused.refuses.quiet
+caused command before now status.Undecided text other ends = inl (((facts_of command.verb).quiet command.sources).undecided before now text ends)
+caused command before now status.ReadFault text other failed = inr (text, failed)
+caused command before now status.WriteFault text other ends = absurd (other refl)
+caused command before now status.NoMemory text other out = out.cause
+caused command before now status.LogRefused text other ends = inl (((facts_of command.verb).quiet command.sources).log_refused before now text ends)
+caused command before now status.FileTooLong text other refused = inl refused.refuses.quiet
+caused command before now status.TooManyCuts text other ends = inl (((facts_of command.verb).quiet command.sources).cuts_refused before now text ends)
+
+module _ (words : List (List ℕ)) (before now : ShelfState) (begun : Status) (text : List ℕ) where
+  command_cause : (command : CommandOf) → command_of words ≡ Some command → KeepsFaults before now ⊎ IsUnread (files_read command) before now → HasNoWriteFault words before now
+  command_cause command of (inl quiet) = inl quiet
+  command_cause command of (inr failed) = inr (command, of, failed)
+
+  answered_cause : (begun ≡ status.WriteFault → ⊥) → Answered words before now begun text → HasNoWriteFault words before now
+  answered_cause other (inl (command, of, stands)) = command_cause command of (caused command before now begun text other stands)
+  answered_cause other (inr (none, refused)) = inl (record { same_count = ap (λ (s : ShelfState). s.faults) refused.same; same_last = ap (λ (s : ShelfState). s.last_fault) refused.same })
+
+  -- a failed write and want of memory have no text
+  no_fault_text : OnCommand words (λ command. IsOutcomeOf command before now status.WriteFault text) → text ≡ []
+  no_fault_text (command, of, (ends, none)) = none
+
+  silent_fault : begun ≡ status.WriteFault → Answered words before now begun text → text ≡ []
+  silent_fault is answered = no_fault_text (by_command words status.WriteFault begun before now text (λ e. cc) (λ e. cc) is answered)
+
+  silent_words : begun ≡ status.NoMemory → IsWordsRefusal begun text → text ≡ []
+  silent_words is (inl (e, t)) = absurd (let same : status.NoMemory ≡ status.WordsRefused = sym is ∙ e in cc)
+  silent_words is (inr (e, t)) = t
+
+  silent_out : begun ≡ status.NoMemory → Answered words before now begun text → text ≡ []
+  silent_out is (inl (command, of, stands)) =
+      let out : RunsOut command before now text = subst (λ s. IsOutcomeOf command before now s text) is stands in out.printed
+  silent_out is (inr (none, refused)) = silent_words is refused.says
+
+  -- so a run that ends for want of memory is none in which a write or a put failed
+  unfailed : (ended : Status) (sink sink_now : SinkState) → ended ≡ status.NoMemory → Answered words before now begun text → Prints begun text ended sink sink_now → (begun ≡ status.WriteFault → ⊥) × (sink_now.faults ≡ sink.faults)
+  unfailed ended sink sink_now is answered (inl printed) = (λ e. let same : status.WriteFault ≡ status.NoMemory = sym e ∙ sym printed.same ∙ is in cc, printed.all.quiet)
+  unfailed ended sink sink_now is answered (inr (inl failed)) = absurd (failed.some (silent_out (kept begun status.NoMemory (sym failed.after ∙ is) (λ e. cc)) answered))
+  unfailed ended sink sink_now is answered (inr (inr out)) = (λ e. out.some (silent_fault e answered), out.quiet)
+
 -- the clause of status 7
-pub ran_out-of : (words : List (List ℕ)) (ended : Status) (before now : ShelfState) (sink sink_now : SinkState) → IsRun words ended before now sink sink_now → RanOut words before now sink sink_now
-ran_out-of words ended before now sink sink_now runs = record {
-  held = answered_keeps words before now runs.begun runs.text runs.answered;
-  printed = printed_prefix words before now runs.text sink sink_now (text_answered words before now runs.begun runs.text runs.answered)
-      (prints_prefix runs.begun ended runs.text sink sink_now runs.printed);
-}
+pub ran_out-of : (words : List (List ℕ)) (ended : Status) (before now : ShelfState) (sink sink_now : SinkState) → IsRun words ended before now sink sink_now → code_of ended ≡ 7 → RanOut words before now sink sink_now
+ran_out-of words ended before now sink sink_now runs is =
+    let quiet = unfailed words before now runs.begun runs.text ended sink sink_now (from_code ended 7 is) runs.answered runs.printed in
+    record {
+      cause = answered_cause words before now runs.begun runs.text quiet.0 runs.answered;
+      quiet = quiet.1;
+      held = answered_keeps words before now runs.begun runs.text runs.answered;
+      printed = printed_prefix words before now runs.text sink sink_now (text_answered words before now runs.begun runs.text runs.answered)
+          (prints_prefix runs.begun ended runs.text sink sink_now runs.printed);
+    }
 
 -- ---- complete answers
 
@@ -124,6 +177,7 @@ stands_completes command files before now status.WriteFault text told quiet (end
 stands_completes command files before now status.NoMemory text told quiet out = (answers_of command).memory files
 stands_completes command files before now status.LogRefused text told quiet ends = ((answers_of command).log_refused files before now text told ends).answers
 stands_completes command files before now status.FileTooLong text told quiet refused = (answers_of command).too_long files refused.name (refused.refuses.input files told)
+stands_completes command files before now status.TooManyCuts text told quiet ends = ((answers_of command).cuts_refused files before now text told ends).answers
 
 completes_by : (words : List (List ℕ)) (command : CommandOf) (files : Files) (before now : ShelfState) (begun ended : Status) (text : List ℕ) (sink sink_now : SinkState) → command_of words ≡ Some command → before.held ≡ Some files → (Rose before.faults now.faults → ⊥) → (Rose sink.faults sink_now.faults → ⊥) → Answered words before now begun text → Prints begun text ended sink sink_now → IsComplete command files (code_of ended)
 completes_by words command files before now begun ended text sink sink_now is told quiet quiet_sink answered (inl printed) =
@@ -188,6 +242,7 @@ module _ (command : CommandOf) (before now : ShelfState) (begun ended : Status) 
   by_view : Prints begun text ended sink sink_now → View command before now begun text → IsRefusedBy (input_of command files) (code_of ended)
   by_view prints (reported report) = by_report report (code_of ended)
   by_view prints (log_refused refused) = ((answers_of command).log_refused files before now text told refused).unrefused (code_of ended)
+  by_view prints (cuts_refused refused) = ((answers_of command).cuts_refused files before now text told refused).unrefused (code_of ended)
   by_view prints (table_refused refused is) =
       subst (λ g. IsRefusedBy g (code_of ended)) (sym (refused.refuses.input files told))
       (own_or_memory 3 (code_of ended) (ends_as status.TableRefused begun ended text sink sink_now refl is prints))

@@ -4,7 +4,7 @@ use Rattle.std.proofs.Common.{◌≡◌, ◌⊎◌, inl, inr, ℕ, List, [], ◌
 use Rattle.std.specs.Prelude.{Contains}
 use Rattle.std.specs.List.{AllByRecursion}
 use Rattle.shelf_io.specs.Files.{Files, with_bytes}
-use Rattle.shelf_io.specs.Faults.{Rose}
+use Rattle.shelf_io.specs.Faults.{Rose, KeepsFaults}
 use Rattle.shelf_io.specs.States.{ShelfState}
 use Rattle.geoplan.specs.declared.verb.Verb.{Verb}
 use Rattle.geoplan.specs.CommandOf.{SourcesOf, CommandOf, names_written}
@@ -35,8 +35,19 @@ pub record EndsKeep (ends : EndsOf) (names : List (List ℕ)) : Type 0 where
   pub none : (before now : ShelfState) (text : List ℕ) → ends.finds_none before now text → KeptBy ends before now
   pub undecided : (before now : ShelfState) (text : List ℕ) → ends.leaves_open before now text → KeptBy ends before now
   pub log_refused : (before now : ShelfState) (text : List ℕ) → ends.refuses_log before now text → KeptBy ends before now
+  pub cuts_refused : (before now : ShelfState) (text : List ℕ) → ends.refuses_cuts before now text → KeptBy ends before now
   pub unwritten : (before now : ShelfState) → ends.fails_to_write before now → KeptBy ends before now
   pub pieces : (before now : Option Files) → ends.began before now → HoldsPieces names before now
+
+-- ---- where no fault is counted
+
+-- .. but for a failed write
+pub record EndsQuiet (ends : EndsOf) : Type 0 where
+  pub completed : (before now : ShelfState) (text : List ℕ) → ends.completes before now text → KeepsFaults before now
+  pub none : (before now : ShelfState) (text : List ℕ) → ends.finds_none before now text → KeepsFaults before now
+  pub undecided : (before now : ShelfState) (text : List ℕ) → ends.leaves_open before now text → KeepsFaults before now
+  pub log_refused : (before now : ShelfState) (text : List ℕ) → ends.refuses_log before now text → KeepsFaults before now
+  pub cuts_refused : (before now : ShelfState) (text : List ℕ) → ends.refuses_cuts before now text → KeepsFaults before now
 
 -- ---- which statuses its ends have
 
@@ -47,6 +58,7 @@ pub record TablesAnswer (ends : EndsOf) : Type 0 where
   pub none : (files : Files) (before now : ShelfState) (text : List ℕ) → before.held ≡ Some files → ends.finds_none before now text → ends.answers files 1
   pub undecided : (files : Files) (before now : ShelfState) (text : List ℕ) → before.held ≡ Some files → ends.leaves_open before now text → ends.answers files 4
   pub log_refused : (files : Files) (before now : ShelfState) (text : List ℕ) → before.held ≡ Some files → ends.refuses_log before now text → ends.answers files 8
+  pub cuts_refused : (files : Files) (before now : ShelfState) (text : List ℕ) → before.held ≡ Some files → ends.refuses_cuts before now text → ends.answers files 15
   pub unwritten : (before now : ShelfState) → ends.fails_to_write before now → Rose before.faults now.faults
 
 -- what the files give is no refusal
@@ -66,6 +78,7 @@ pub record EndsAnswer (command : CommandOf) (ends : EndsOf) : Type 0 where
   pub none : (files : Files) (before now : ShelfState) (text : List ℕ) → before.held ≡ Some files → ends.finds_none before now text → HasStatus command ends files 1
   pub undecided : (files : Files) (before now : ShelfState) (text : List ℕ) → before.held ≡ Some files → ends.leaves_open before now text → HasStatus command ends files 4
   pub log_refused : (files : Files) (before now : ShelfState) (text : List ℕ) → before.held ≡ Some files → ends.refuses_log before now text → HasStatus command ends files 8
+  pub cuts_refused : (files : Files) (before now : ShelfState) (text : List ℕ) → before.held ≡ Some files → ends.refuses_cuts before now text → HasStatus command ends files 15
   pub unwritten : (before now : ShelfState) → ends.fails_to_write before now → Rose before.faults now.faults
   pub unwritten_files : (files : Files) (before now : ShelfState) → before.held ≡ Some files → ends.fails_to_write before now → IsUnrefused command files
 
@@ -73,6 +86,7 @@ pub record EndsAnswer (command : CommandOf) (ends : EndsOf) : Type 0 where
 
 pub record OwedFacts (which : Verb) : Type 0 where
   pub keeps : (sources : SourcesOf) → EndsKeep (ends_of which sources) (names_written (record { verb = which; sources = sources }))
+  pub quiet : (sources : SourcesOf) → EndsQuiet (ends_of which sources)
   pub answers : (sources : SourcesOf) → EndsAnswer (record { verb = which; sources = sources }) (ends_of which sources)
 
 -- ---- a command over two tables, from what each two tables owe
@@ -88,8 +102,18 @@ module _ (command : CommandOf) (ends : TablesOf → EndsOf) where
     none = λ before now text e. kept_on before now e.0 e.1 ((each e.0).none before now text e.2);
     undecided = λ before now text e. kept_on before now e.0 e.1 ((each e.0).undecided before now text e.2);
     log_refused = λ before now text e. kept_on before now e.0 e.1 ((each e.0).log_refused before now text e.2);
+    cuts_refused = λ before now text e. kept_on before now e.0 e.1 ((each e.0).cuts_refused before now text e.2);
     unwritten = λ before now e. kept_on before now e.0 e.1 ((each e.0).unwritten before now e.2);
     pieces = λ before now e. (each e.0).pieces before now e.2;
+  }
+
+  pub tables_quiet : ((tables : TablesOf) → EndsQuiet (ends tables)) → EndsQuiet (on_tables command ends)
+  tables_quiet each = record {
+    completed = λ before now text e. (each e.0).completed before now text e.2;
+    none = λ before now text e. (each e.0).none before now text e.2;
+    undecided = λ before now text e. (each e.0).undecided before now text e.2;
+    log_refused = λ before now text e. (each e.0).log_refused before now text e.2;
+    cuts_refused = λ before now text e. (each e.0).cuts_refused before now text e.2;
   }
 
   abbrev Answers : Files → TablesOf → ℕ → Type 0
@@ -117,6 +141,7 @@ module _ (command : CommandOf) (ends : TablesOf → EndsOf) where
       none = λ files before now text told e. built_status files e.0 1 (e.1 files told) ((each e.0).none files before now text told e.2);
       undecided = λ files before now text told e. built_status files e.0 4 (e.1 files told) ((each e.0).undecided files before now text told e.2);
       log_refused = λ files before now text told e. built_status files e.0 8 (e.1 files told) ((each e.0).log_refused files before now text told e.2);
+      cuts_refused = λ files before now text told e. built_status files e.0 15 (e.1 files told) ((each e.0).cuts_refused files before now text told e.2);
       unwritten = λ before now e. (each e.0).unwritten before now e.2;
       unwritten_files = λ files before now told e status. subst (λ given. IsRefusedBy given status) (sym (e.1 files told)) tt;
     }
@@ -142,8 +167,19 @@ module _ (completes refuses_log : ShelfState → ShelfState → List ℕ → Typ
     none = λ before now text never. absurd never;
     undecided = λ before now text never. absurd never;
     log_refused = λ before now text ends. inl (refused before now text ends);
+    cuts_refused = λ before now text never. absurd never;
     unwritten = λ before now never. absurd never;
     pieces = λ before now never. absurd never;
+  }
+
+  pub reading_quiet : ((before now : ShelfState) (text : List ℕ) → completes before now text → KeepsFaults before now)
+      → ((before now : ShelfState) (text : List ℕ) → refuses_log before now text → KeepsFaults before now) → EndsQuiet (reading_ends completes refuses_log answers)
+  reading_quiet completed refused = record {
+    completed = completed;
+    none = λ before now text never. absurd never;
+    undecided = λ before now text never. absurd never;
+    log_refused = refused;
+    cuts_refused = λ before now text never. absurd never;
   }
 
   pub reading_answers : ((files : Files) → answers files 7)
@@ -156,6 +192,7 @@ module _ (completes refuses_log : ShelfState → ShelfState → List ℕ → Typ
     none = λ files before now text told never. absurd never;
     undecided = λ files before now text told never. absurd never;
     log_refused = refused;
+    cuts_refused = λ files before now text told never. absurd never;
     unwritten = λ before now never. absurd never;
   }
 
@@ -164,6 +201,10 @@ module _ (completes : ShelfState → ShelfState → List ℕ → Type 0) where
   pub completing_keeps : (names : List (List ℕ)) → ((before now : ShelfState) (text : List ℕ) → completes before now text → now.held ≡ before.held) → EndsKeep (completing completes) names
   completing_keeps names completed =
       reading_keeps completes (λ before now text. ⊥) (λ files status. (status ≡ 0) ⊎ (status ≡ 7)) names completed (λ before now text never. absurd never)
+
+  pub completing_quiet : ((before now : ShelfState) (text : List ℕ) → completes before now text → KeepsFaults before now) → EndsQuiet (completing completes)
+  completing_quiet completed =
+      reading_quiet completes (λ before now text. ⊥) (λ files status. (status ≡ 0) ⊎ (status ≡ 7)) completed (λ before now text never. absurd never)
 
   pub completing_answers : TablesAnswer (completing completes)
   completing_answers =

@@ -133,7 +133,7 @@ reads_none name text false parts parts_now before now reads is = reads
 
 -- memory ran out after some parts
 pub FailsRead-out : (name text : List ℕ) (parts : LogParts) (before now : ShelfState) → HasReadLog name text parts before now → FailsRead (log_file name) load.NoMemory before now
-FailsRead-out name text parts before now read = record { held = read.held; later = omega (arith, read.quiet.same_count); cause = tt }
+FailsRead-out name text parts before now read = record { held = read.held; later = omega (arith, read.quiet.same_count); cause = read.quiet }
 
 -- ---- the text of a log that was handed in whole
 

@@ -1,5 +1,5 @@
 -- What stands once the network of the tables is searched, and its answer is reported.
-use Rattle.std.proofs.Common.{◌≡◌, ◌⊎◌, inl, inr, ◌≤◌, ℕ, Bool, List, [], refl, sym, ap, ◌∙◌, subst, arith, Some, Result, Ok, Err, Vec, Global, slice_get, ℤ}
+use Rattle.std.proofs.Common.{◌≡◌, ◌⊎◌, inl, inr, ℕ, Bool, List, [], refl, sym, ap, ◌∙◌, subst, Some, Result, Ok, Err, Vec, Global, slice_get, ℤ}
 use Rattle.std.specs.Prelude.{IfOk, MatchResult}
 use Rattle.std.proofs.lemmas.Option.{slice_get_within}
 use Rattle.geo_base.specs.declared.no_memory.NoMemory.{NoMemory}
@@ -98,7 +98,7 @@ module _ (tables : TablesOf) (name : List ℕ) (before now : ShelfState) (bound 
   out_after : ends ≡ status.NoMemory → text ≡ [] → Plans tables name before now ends text
   out_after is none = subst (λ s. Plans tables name before now s text) (sym is) (record {
     held = inr (whole_began tables name (record { bound = bound; counts = counts }) before now leaves);
-    later = omega (arith, leaves.quiet.same_count);
+    quiet = leaves.quiet;
     printed = none;
   })
 
@@ -159,9 +159,9 @@ Plans-unwritten tables name why before now ends text failed is ended none =
     subst (λ s. Plans tables name before now s text) (sym ended) (record { rose = fault.0; last = fault.1; held = failed.held }, none)
 
 -- once memory ran out
-pub Plans-out : (tables : TablesOf) (name : List ℕ) (why : SearchFault) (before now : ShelfState) (ends : Status) (text : List ℕ) → FailsSolve tables name why before now → ends ≡ status.NoMemory → text ≡ [] → Plans tables name before now ends text
-Plans-out tables name why before now ends text failed ended none =
-    subst (λ s. Plans tables name before now s text) (sym ended) (record { held = failed.held; later = failed.later; printed = none })
+pub Plans-out : (tables : TablesOf) (name : List ℕ) (why : SearchFault) (before now : ShelfState) (ends : Status) (text : List ℕ) → FailsSolve tables name why before now → why ≡ search.NoMemory → ends ≡ status.NoMemory → text ≡ [] → Plans tables name before now ends text
+Plans-out tables name why before now ends text failed is ended none =
+    subst (λ s. Plans tables name before now s text) (sym ended) (record { held = failed.held; quiet = failed.no_memory is; printed = none })
 
 -- the answer of a search can be reported
 can_report : (tables : TablesOf) (bound : Bound) (given : Answer) → IsAnswer tables.network bound given → IsAnswerFor tables.network given
@@ -225,9 +225,10 @@ module _ (tables : TablesOf) (name : List ℕ) (before middle now : ShelfState) 
   Plans-before status.ReadFault text never = absurd never
   Plans-before status.WriteFault text (failed, none) =
       (record { rose = subst (λ n. Rose n now.faults) quiet.same_count failed.rose; last = failed.last; held = held_before failed.held }, none)
-  Plans-before status.NoMemory text out = record { held = held_before out.held; later = subst (λ n. n ≤ now.faults) quiet.same_count out.later; printed = out.printed }
+  Plans-before status.NoMemory text out = record { held = held_before out.held; quiet = keeps before middle now out.quiet quiet; printed = out.printed }
   Plans-before status.LogRefused text never = absurd never
   Plans-before status.FileTooLong text never = absurd never
+  Plans-before status.TooManyCuts text never = absurd never
 
 -- ---- the outcome
 
@@ -241,13 +242,14 @@ module _ (sources : SourcesOf) (tables : TablesOf) (before middle now : ShelfSta
   planned status.Undecided text left = (tables, has.input, left)
   planned status.ReadFault text never = absurd never
   planned status.WriteFault text (failed, none) = ((tables, has.input, failed), none)
-  planned status.NoMemory text out = record { held = began out.held; later = out.later; printed = out.printed }
+  planned status.NoMemory text out = record { held = began out.held; cause = inl out.quiet; printed = out.printed }
     where
       began : (now.held ≡ before.held) ⊎ BeganLog tables sources.log before.held now.held → (now.held ≡ before.held) ⊎ Began (record { verb = verb.Plan; sources = sources }) before.held now.held
       began (inl same) = inl same
       began (inr piece) = inr (tables, has.input, piece)
   planned status.LogRefused text never = absurd never
   planned status.FileTooLong text never = absurd never
+  planned status.TooManyCuts text never = absurd never
 
   pub IsOutcomeOf-planned : (ends : Status) (text : List ℕ) → Plans tables sources.log middle now ends text → IsOutcomeOf (record { verb = verb.Plan; sources = sources }) before now ends text
   IsOutcomeOf-planned ends text plans = planned ends text (Plans-before tables sources.log before middle now has.held has.quiet ends text plans)

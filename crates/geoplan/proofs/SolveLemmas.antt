@@ -1,4 +1,4 @@
-use Rattle.std.proofs.Common.{◌≡◌, ◌⊎◌, inl, inr, ◌≤◌, ℕ, List, [], refl, sym, ap, ◌∙◌, subst, Option, Some, Result, Ok, Err}
+use Rattle.std.proofs.Common.{◌≡◌, ◌⊎◌, inl, inr, ◌≤◌, ℕ, List, [], refl, ap, ◌∙◌, subst, Option, Some, Result, Ok, Err}
 use Rattle.std.specs.Prelude.{IfOk, IfErr}
 use Rattle.shelf_io.specs.Files.{Files, with_bytes, with_piece}
 use Rattle.shelf_io.specs.Faults.{Rose, KeepsFaults, write_of}
@@ -15,6 +15,7 @@ use Rattle.branch_bound.specs.Logged.{Searches, BreaksLog}
 use Rattle.geoplan.specs.Outcomes.{BeganLog}
 use Rattle.geoplan.specs.Tables.{TablesOf}
 use Rattle.geoplan.specs.Solving.{Solves, FailsSolve}
+use Rattle.geoplan.proofs.LoadLemmas.{keeps}
 
 -- Laws of a log that is started and then written.
 
@@ -26,7 +27,7 @@ Solves-after tables log done before middle now started quiet found = record {
   spelled = found.log;
   searched = found.searched;
   written = found.added.written ∙ ap (λ held. with_piece held log found.text) started ∙ with_piece-with_bytes before.held log [] found.text;
-  quiet = record { same_count = found.added.quiet.same_count ∙ quiet.same_count; same_last = found.added.quiet.same_last ∙ quiet.same_last };
+  quiet = keeps before middle now found.added.quiet quiet;
 }
 
 -- a log started and begun
@@ -43,6 +44,7 @@ FailsSolve-after tables log why before middle now started quiet found = record {
   });
   later = subst (λ n. n ≤ now.faults) quiet.same_count found.broken.later;
   failed = λ is. let rose = found.broken.failed is in (subst (λ n. Rose n now.faults) quiet.same_count rose.0, rose.1);
+  no_memory = λ is. keeps before middle now (found.broken.no_memory is) quiet;
 }
 
 -- a log that could not be started stands as before, or empty
@@ -50,11 +52,12 @@ started_or_not : (tables : TablesOf) (log : List ℕ) (before now : Option Files
 started_or_not tables log before now (inl same) = inl same
 started_or_not tables log before now (inr empty) = inr (record { tree = tip Cost; text = log_text (tip Cost); piece = []; rest = log_text (tip Cost); log = cost_log tables.network; begins = refl; written = empty })
 
-pub FailsSolve-start : (tables : TablesOf) (log : List ℕ) (why : SearchFault) (before now : ShelfState) → (now.held ≡ before.held) ⊎ (now.held ≡ with_bytes before.held log []) → before.faults ≤ now.faults → (why ≡ search.WriteFault → Rose before.faults now.faults × (now.last_fault ≡ Some (write_of log))) → FailsSolve tables log why before now
-FailsSolve-start tables log why before now held later failed = record {
+pub FailsSolve-start : (tables : TablesOf) (log : List ℕ) (why : SearchFault) (before now : ShelfState) → (now.held ≡ before.held) ⊎ (now.held ≡ with_bytes before.held log []) → before.faults ≤ now.faults → (why ≡ search.WriteFault → Rose before.faults now.faults × (now.last_fault ≡ Some (write_of log))) → (why ≡ search.NoMemory → KeepsFaults before now) → FailsSolve tables log why before now
+FailsSolve-start tables log why before now held later failed no_memory = record {
   held = started_or_not tables log before.held now.held held;
   later = later;
   failed = failed;
+  no_memory = no_memory;
 }
 
 -- ---- the answer of a search after a log is started

@@ -35,7 +35,7 @@ module _ (words : List (List ℕ)) (ended : Status) (before now : ShelfState) (s
   pub undecided-of : IsRun words ended before now sink sink_now → code_of ended ≡ 4 → OnCommand words (λ command. PrintsAll (λ t. IsOutcomeOf command before now status.Undecided t) sink sink_now)
   undecided-of runs is = report-of status.Undecided (λ e. cc) (λ e. cc) (λ e. cc) (λ e. cc) runs (from_code ended 4 is)
 
-  -- ---- the status of a refusal: 3, 5, 8 or 9
+  -- ---- the status of a refusal: 3, 5, 8, 9 or 15
 
   said_in : (target : Status) (text : List ℕ) → IsSaid text sink sink_now → OnCommand words (λ command. IsOutcomeOf command before now target text) →
       OnCommand words (λ command. HasPrinted (λ t. IsOutcomeOf command before now target t) sink sink_now)
@@ -58,6 +58,9 @@ module _ (words : List (List ℕ)) (ended : Status) (before now : ShelfState) (s
 
   pub too_long-of : IsRun words ended before now sink sink_now → code_of ended ≡ 9 → OnCommand words (λ command. HasPrinted (λ t. IsOutcomeOf command before now status.FileTooLong t) sink sink_now)
   too_long-of runs is = refusal-of status.FileTooLong (λ e. cc) (λ e. cc) (λ e. cc) runs (from_code ended 9 is)
+
+  pub cuts_refused-of : IsRun words ended before now sink sink_now → code_of ended ≡ 15 → OnCommand words (λ command. HasPrinted (λ t. IsOutcomeOf command before now status.TooManyCuts t) sink sink_now)
+  cuts_refused-of runs is = refusal-of status.TooManyCuts (λ e. cc) (λ e. cc) (λ e. cc) runs (from_code ended 15 is)
 
   -- ---- status 2
 

@@ -32,7 +32,7 @@ module _ (sources : SourcesOf) (tables : TablesOf) (before middle now : ShelfSta
       )
   IsOutcomeOf-tried (inl (script, read, inr out)) = out_loaded (record { verb = verb.Trial; sources = sources }) tables before now (all_read script read) ends text out
   IsOutcomeOf-tried (inr (why, fails, said)) =
-      IsOutcomeOf-refused (record { verb = verb.Trial; sources = sources }) why before now ends text
+      IsOutcomeOf-refused (record { verb = verb.Trial; sources = sources }) why before now ends text reads_tables
       (FailsLoad-after (record { verb = verb.Trial; sources = sources }) reads_tables before middle now has.read why (record { file = file_of sources kind.Script; one = refl; fails = fails })) said
 
 -- .. of the command that it is known to be

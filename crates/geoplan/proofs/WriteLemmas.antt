@@ -1,8 +1,8 @@
 -- Laws of files that are written whole, and of the two tables of a seed.
-use Rattle.std.proofs.Common.{◌≡◌, ◌⊎◌, inl, inr, ℕ, ◌≤◌, List, [], take, drop, take-append-drop, refl, sym, ap, ◌∙◌, subst, arith, Some, Result, Ok, Err}
+use Rattle.std.proofs.Common.{◌≡◌, ◌⊎◌, inl, inr, ℕ, ◌≤◌, List, [], take, drop, take-append-drop, refl, sym, ap, ◌∙◌, subst, arith, Result, Ok, Err}
 use Rattle.std.specs.Prelude.{IfErr, OnOk, OnErr}
 use Rattle.shelf_io.specs.Files.{with_bytes, with_piece}
-use Rattle.shelf_io.specs.Faults.{Rose, KeepsFaults, HasWriteCause, write_of}
+use Rattle.shelf_io.specs.Faults.{Rose, KeepsFaults, HasWriteCause}
 use Rattle.shelf_io.specs.States.{ShelfState}
 use Rattle.shelf_io.specs.declared.write_answer.WriteAnswer.{WriteAnswer}
 use Rattle.shelf_io.specs.declared.write_answer.WriteAnswer.TheVariants as write_answer
@@ -11,7 +11,7 @@ use Rattle.gen_net.specs.Candidates.{candidates_text}
 use Rattle.gen_net.specs.Points.{points_text}
 use Rattle.geoplan.specs.CommandOf.{SourcesOf}
 use Rattle.geoplan.specs.Writing.{WritesFile, FailsFile, WritesBoth, FailsBoth}
-use Rattle.geoplan.specs.WrittenTables.{MayHaveBegun, FailsToWriteTables}
+use Rattle.geoplan.specs.WrittenTables.{MayHaveBegun}
 use Rattle.geoplan.proofs.GenFacts.{kept_points, kept_candidates}
 use Rattle.geoplan.proofs.LoadLemmas.{keeps}
 
@@ -27,6 +27,7 @@ FailsFile-start name text why answer before now is held cause = record {
   held = not_started name text before now held;
   later = cause.later;
   failed = λ failed. cause.failed (is ∙ ap Err failed);
+  no_memory = λ out. cause.no_memory (is ∙ ap Err out);
 }
 
 module _ (name text : List ℕ) (before middle now : ShelfState) (started : middle.held ≡ with_bytes before.held name []) (quiet : KeepsFaults before middle) where
@@ -49,13 +50,14 @@ module _ (name text : List ℕ) (before middle now : ShelfState) (started : midd
     });
     later = subst (λ n. n ≤ now.faults) quiet.same_count cause.later;
     failed = λ failed. let fault = cause.failed (ap Err failed) in (subst (λ n. Rose n now.faults) quiet.same_count fault.0, fault.1);
+    no_memory = λ out. keeps before middle now (cause.no_memory (ap Err out)) quiet;
   }
 
 -- ---- the two tables of a seed
 
 -- before one is written memory ran out
 pub FailsBoth-none : (sources : SourcesOf) (state : ShelfState) → FailsBoth sources write_answer.NoMemory state state
-FailsBoth-none sources state = record { held = inl refl; later = omega arith; failed = λ is. absurd (cc) }
+FailsBoth-none sources state = record { held = inl refl; later = omega arith; failed = λ is. absurd (cc); no_memory = λ is. record { same_count = refl; same_last = refl } }
 
 module _ (sources : SourcesOf) (points : List ℕ) (points_are : points ≡ points_text sources.seed) where
   -- the points were not written
@@ -64,6 +66,7 @@ module _ (sources : SourcesOf) (points : List ℕ) (points_are : points ≡ poin
     held = kept_points sources before.held now.held held;
     later = fails.later;
     failed = λ is. let fault = fails.failed is in record { rose = fault.0; stands = inl (record { last = fault.1; held = held }) };
+    no_memory = fails.no_memory;
   }
     where
       held : MayHaveBegun sources.points (points_text sources.seed) before.held now.held
@@ -87,6 +90,7 @@ module _ (sources : SourcesOf) (points : List ℕ) (points_are : points ≡ poin
       held = kept_candidates sources before.held now.held held;
       later = subst (λ n. n ≤ now.faults) first.quiet.same_count fails.later;
       failed = λ is. let fault = fails.failed is in record { rose = subst (λ n. Rose n now.faults) first.quiet.same_count fault.0; stands = inr (record { last = fault.1; held = held }) };
+      no_memory = λ is. keeps before middle now (fails.no_memory is) first.quiet;
     }
       where
         held : MayHaveBegun sources.candidates (candidates_text sources.seed) (with_bytes before.held sources.points (points_text sources.seed)) now.held

@@ -17,6 +17,7 @@ code_of status.WriteFault = 6
 code_of status.NoMemory = 7
 code_of status.LogRefused = 8
 code_of status.FileTooLong = 9
+code_of status.TooManyCuts = 15
 
 -- the status where a text could not be printed
 abbrev pub after_failed_put : Status → Status
@@ -30,3 +31,4 @@ after_failed_put status.WriteFault = status.WriteFault
 after_failed_put status.NoMemory = status.NoMemory
 after_failed_put status.LogRefused = status.LogRefused
 after_failed_put status.FileTooLong = status.FileTooLong
+after_failed_put status.TooManyCuts = status.TooManyCuts

@@ -1,5 +1,6 @@
 -- What the contract of the top call says, in the order of reading: CommandOf, Input, Tables, Texts, Outcomes, Trials,
--- WrittenTables, Ends, Printing, Promises, and Checked for the law beside it. The other modules are for private clauses and proofs.
+-- WrittenTables, Benches, Migrates, Ends, Printing, Promises, and Checked for the law beside it. The other modules are for
+-- private clauses and proofs.
 pub mod CommandOf
 pub mod Tables
 pub mod Input
@@ -7,6 +8,8 @@ pub mod Texts
 pub mod Outcomes
 pub mod Trials
 pub mod WrittenTables
+pub mod Benches
+pub mod Migrates
 pub mod Ends
 pub mod Printing
 pub mod Promises
@@ -20,4 +23,5 @@ pub mod Reporting
 pub mod Parts
 pub mod Trying
 pub mod Writing
+pub mod Migrating
 pub mod Running

@@ -13,15 +13,22 @@ use Rattle.point_tables.specs.PointTable.{points_fault, points_of}
 use Rattle.candidate_tables.specs.CandidateTable.{candidates_fault, candidates_of}
 use Rattle.point_tables.specs.declared.fault.TableAnswer.{TableAnswer}
 use Rattle.point_tables.specs.declared.fault.TableAnswer.TheVariants as answer
+use Rattle.point_tables.specs.declared.record.PointRecord.{PointRecord}
+use Rattle.station_tables.specs.declared.record.StationRecord.{StationRecord}
+use Rattle.station_tables.specs.declared.fault.StationAnswer.{StationAnswer}
+use Rattle.station_tables.specs.declared.fault.StationAnswer.TheVariants as station_answer
+use Rattle.station_tables.specs.StationTable.{read_stations, stations_fault}
 use Rattle.geoplan.specs.declared.file_kind.FileKind.{FileKind}
 use Rattle.geoplan.specs.declared.file_kind.FileKind.TheVariants as kind
+use Rattle.geoplan.specs.declared.judge_fault.JudgeFault.{JudgeFault}
+use Rattle.geoplan.specs.declared.judge_fault.JudgeFault.TheVariants as judge
 use Rattle.geoplan.specs.declared.load.LoadFault.{LoadFault}
 use Rattle.geoplan.specs.declared.load.LoadFault.TheVariants as load
 use Rattle.geoplan.specs.declared.refused_table.RefusedTable.{RefusedTable}
 use Rattle.geoplan.specs.declared.verb.Verb.{Verb}
-use Rattle.geoplan.specs.CommandOf.{CommandOf, FileOf, reads, file_of, files_read}
+use Rattle.geoplan.specs.CommandOf.{SourcesOf, CommandOf, FileOf, reads, name_of, file_of, stations_kind, behind_tables, files_read}
 use Rattle.geoplan.specs.Ends.{AreHeldTables}
-use Rattle.geoplan.specs.Input.{InputOf, too_long_input, refused_input, built_input, refused_table, refused_or, IsFileWithin, accepted_input, judged_input, input_of}
+use Rattle.geoplan.specs.Input.{InputOf, too_long_input, refused_input, built_input, refused_table, refused_stations, refused_or, IsFileWithin, accepted_input, judged_input, input_of}
 use Rattle.geoplan.specs.Tables.{TablesOf, RefusedOf}
 
 -- What reading the files of a command does. Only private clauses and proofs cite it. This project's own.
@@ -44,17 +51,63 @@ pub record IsGoodNetwork (tables : TablesOf) : Type 0 where
 
 -- ---- the tables
 
--- what the bytes of two tables give
-unfoldable pub tables_input : ℕ → List ℕ → List ℕ → InputOf
-tables_input redundancy points candidates =
+-- the refusal of a table of stations, where one is given, for its first fault
+abbrev pub stations_refusal : List PointRecord → Option (List ℕ) → Option RefusedOf
+stations_refusal points None = None
+stations_refusal points (Some stations) = option_map refused_stations (stations_fault points stations)
+
+-- what the bytes of two tables give, and of a table of stations where one is given
+unfoldable pub tables_input : ℕ → List ℕ → List ℕ → Option (List ℕ) → InputOf
+tables_input redundancy points candidates stations =
     refused_or (option_map (refused_table fault_table.Points) (points_fault points))
     (refused_or (option_map (refused_table fault_table.Candidates) (candidates_fault (points_of points) candidates))
-    (accepted_input redundancy (points_of points) (candidates_of (points_of points) candidates)))
+    (refused_or (stations_refusal (points_of points) stations)
+    (accepted_input redundancy (points_of points) (candidates_of (points_of points) candidates) (option_map (read_stations (points_of points)) stations))))
 
--- why tables were not accepted: the refusal that they give, or memory ran out
-abbrev pub IsRefusal : InputOf → TableAnswer → Type 0
-IsRefusal given (answer.Fault fault) = given ≡ refused_input (refused_table fault.table (fault.number, fault.kind))
-IsRefusal given answer.NoMemory = Unit {0}
+-- why tables were not accepted, by the answer for one of them
+abbrev pub judged_table : TableAnswer → JudgeFault
+judged_table (answer.Fault fault) = judge.Table fault
+judged_table answer.NoMemory = judge.NoMemory
+
+abbrev pub judged_stations : StationAnswer → JudgeFault
+judged_stations (station_answer.Fault fault) = judge.Stations fault
+judged_stations station_answer.NoMemory = judge.NoMemory
+
+-- the refusal that tables give, or memory ran out
+abbrev pub IsRefusal : InputOf → JudgeFault → Type 0
+IsRefusal given (judge.Table fault) = given ≡ refused_input (refused_table fault.table (fault.number, fault.kind))
+IsRefusal given (judge.Stations fault) = given ≡ refused_input (refused_stations (fault.number, fault.kind))
+IsRefusal given judge.NoMemory = Unit {0}
+
+-- the refusal that is shown is that of the fault, and none is where memory ran out
+abbrev pub IsShownAs : JudgeFault → Option RefusedTable → Type 0
+IsShownAs (judge.Table fault) (Some refused) = refused_view refused ≡ refused_table fault.table (fault.number, fault.kind)
+IsShownAs (judge.Table fault) None = ⊥
+IsShownAs (judge.Stations fault) (Some refused) = refused_view refused ≡ refused_stations (fault.number, fault.kind)
+IsShownAs (judge.Stations fault) None = ⊥
+IsShownAs judge.NoMemory (Some refused) = ⊥
+IsShownAs judge.NoMemory None = Unit {0}
+
+-- a table of stations, where one is given, has no fault and was read as these stations
+pub record ReadsStations (points : List PointRecord) (bytes : Option (List ℕ)) (stations : Option (List StationRecord)) : Type 0 where
+  pub faultless : stations_refusal points bytes ≡ None
+  pub read : stations ≡ option_map (read_stations points) bytes
+
+-- it has a first fault, and this is its refusal, or memory ran out
+abbrev pub RefusesStations : List PointRecord → Option (List ℕ) → JudgeFault → Type 0
+RefusesStations points bytes (judge.Table fault) = ⊥
+RefusesStations points bytes (judge.Stations fault) = stations_refusal points bytes ≡ Some (refused_stations (fault.number, fault.kind))
+RefusesStations points bytes judge.NoMemory = Unit {0}
+
+-- the bytes of two tables, and of a table of stations where one is given
+pub record TableBytesOf : Type 0 where
+  pub points : List ℕ
+  pub candidates : List ℕ
+  pub stations : Option (List ℕ)
+
+-- what they give
+abbrev pub judged_bytes : ℕ → TableBytesOf → InputOf
+judged_bytes redundancy bytes = tables_input redundancy bytes.points bytes.candidates bytes.stations
 
 -- ---- one file
 
@@ -78,9 +131,9 @@ abbrev pub HasReadFault : FileOf → LoadFault → ShelfState → ShelfState →
 HasReadFault file (load.TooLong other) before now = (other.now ≡ file.name) × ForSome before.held (λ files. file.most < length (bytes_of files file.name)) × KeepsFaults before now
 HasReadFault file (load.Unread other) before now = (other.now ≡ file.name) × FailsAt file.name before now
 HasReadFault file (load.Refused refused) before now = ⊥
-HasReadFault file load.NoMemory before now = Unit {0}
+HasReadFault file load.NoMemory before now = KeepsFaults before now
 
--- a file was not read: it is too long, its read failed, or memory ran out
+-- a file was not read: it is too long, its read failed, or memory ran out and no fault was counted
 pub record FailsRead (file : FileOf) (why : LoadFault) (before now : ShelfState) : Type 0 where
   pub held : now.held ≡ before.held
   pub later : before.faults ≤ now.faults
@@ -103,10 +156,12 @@ abbrev pub listed : Option FileKind → List FileKind
 listed None = []
 listed (Some kind) = kind ∷ []
 
--- a command reads the two tables first, and they are what is judged
+-- a command reads the two tables first, and they are what is judged, with a table of stations where one is given
 pub record ReadsTables (verb : Verb) : Type 0 where
   pub first : reads verb ≡ kind.Points ∷ kind.Candidates ∷ more_kinds verb
-  pub judged : (redundancy : ℕ) (bytes : FileKind → List ℕ) → judged_input redundancy bytes (reads verb) ≡ tables_input redundancy (bytes kind.Points) (bytes kind.Candidates)
+  pub judged : (redundancy : ℕ) (bytes : FileKind → List ℕ) (stations : Option (List ℕ)) →
+      judged_input redundancy bytes (behind_tables (reads verb) stations)
+      ≡ tables_input redundancy (bytes kind.Points) (bytes kind.Candidates) (option_map (λ name. bytes kind.Stations) stations)
 
 -- the files that are read after the two tables
 abbrev pub more_read : CommandOf → List FileOf
@@ -118,14 +173,41 @@ pub record FailsMore (command : CommandOf) (why : LoadFault) (before now : Shelf
   pub one : more_read command ≡ file ∷ []
   pub fails : FailsRead file why before now
 
--- the two tables
-abbrev pub tables_read : CommandOf → List FileOf
-tables_read command = file_of command.sources kind.Points ∷ file_of command.sources kind.Candidates ∷ []
+-- the table of stations, where one is given
+abbrev pub stations_files : SourcesOf → List FileOf
+stations_files sources = map (file_of sources) (stations_kind sources.stations)
 
--- what the bytes of the two tables give is this, where the shelf tells them
+-- the two tables, and the table of stations
+abbrev pub tables_read : CommandOf → List FileOf
+tables_read command = file_of command.sources kind.Points ∷ file_of command.sources kind.Candidates ∷ stations_files command.sources
+
+-- the bytes of the table of stations, where one is given, as they are held
+abbrev pub stations_held : SourcesOf → Files → Option (List ℕ)
+stations_held sources files = option_map (λ name. bytes_of files (name_of sources kind.Stations)) sources.stations
+
+-- what the bytes of the tables give, as they are held
+abbrev pub tables_held : SourcesOf → Files → InputOf
+tables_held sources files = tables_input sources.redundancy (bytes_of files sources.points) (bytes_of files sources.candidates) (stations_held sources files)
+
+-- .. is this, where the shelf tells them
 abbrev pub TablesGive : CommandOf → Option Files → InputOf → Type 0
-TablesGive command held given =
-    ForSome held (λ files. tables_input command.sources.redundancy (bytes_of files command.sources.points) (bytes_of files command.sources.candidates) ≡ given)
+TablesGive command held given = ForSome held (λ files. tables_held command.sources files ≡ given)
+
+-- the table of stations was read, where one is given, and no fault was counted
+pub record ReadsStationBytes (sources : SourcesOf) (bytes : Option (List ℕ)) (before now : ShelfState) : Type 0 where
+  pub read : ReadsAll (stations_files sources) before now
+  pub are : ForSome before.held (λ files. bytes ≡ stations_held sources files)
+
+-- it is given, and was not read
+pub record FailsStations (sources : SourcesOf) (why : LoadFault) (before now : ShelfState) : Type 0 where
+  pub name : List ℕ
+  pub given : sources.stations ≡ Some name
+  pub fails : FailsRead (file_of sources kind.Stations) why before now
+
+-- the bytes of the tables were read, and no fault was counted
+pub record ReadsTableBytes (command : CommandOf) (bytes : TableBytesOf) (before now : ShelfState) : Type 0 where
+  pub read : ReadsAll (tables_read command) before now
+  pub are : TablesGive command before.held (judged_bytes command.sources.redundancy bytes)
 
 -- the tables were read and are accepted, these are they with their network, and no fault was counted
 pub record LoadsTables (command : CommandOf) (tables : TablesOf) (before now : ShelfState) : Type 0 where
@@ -155,9 +237,10 @@ abbrev pub HasLoadFault : CommandOf → LoadFault → ShelfState → ShelfState 
 HasLoadFault command (load.TooLong name) before now = ForSome before.held (λ files. input_of command files ≡ too_long_input name.now) × KeepsFaults before now
 HasLoadFault command (load.Unread name) before now = FailsInOrder (files_read command) name.now before now
 HasLoadFault command (load.Refused refused) before now = ForSome before.held (λ files. input_of command files ≡ refused_input (refused_view refused)) × KeepsFaults before now
-HasLoadFault command load.NoMemory before now = Unit {0}
+HasLoadFault command load.NoMemory before now = KeepsFaults before now
 
--- the files were not loaded: one is too long, a read of one failed, a table is refused, or memory ran out
+-- the files were not loaded: one is too long, a read of one failed, a table is refused, or memory ran out and no fault was
+-- counted
 pub record FailsLoad (command : CommandOf) (why : LoadFault) (before now : ShelfState) : Type 0 where
   pub held : now.held ≡ before.held
   pub later : before.faults ≤ now.faults

@@ -1,4 +1,4 @@
-use Rattle.std.specs.Prelude.{◌≡◌, ◌⊎◌, ℕ, ◌<◌, ℤ, Bool, List, ◌∷◌, ◌++◌, All, Option, Some, None}
+use Rattle.std.specs.Prelude.{◌≡◌, ◌⊎◌, ℕ, ◌<◌, ℤ, Bool, List, [], ◌∷◌, ◌++◌, All, Option, Some, None}
 use Rattle.std.specs.Option.{ForSome}
 use Rattle.shelf_io.specs.Files.{Files, with_bytes}
 use Rattle.shelf_io.specs.Faults.{Rose, KeepsFaults, read_of, write_of}
@@ -19,7 +19,7 @@ use Rattle.log_check.specs.declared.replaying.Replayed.{Replayed}
 use Rattle.log_check.specs.FirstFault.{IsFirstFault}
 use Rattle.log_check.specs.Replayed.{IsReplayed}
 use Rattle.idle_splits.specs.NoIdle.{NoSplitIsIdle}
-use Rattle.geoplan.specs.CommandOf.{CommandOf, FileOf, command_of}
+use Rattle.geoplan.specs.CommandOf.{CommandOf, FileOf, command_of, files_read}
 use Rattle.geoplan.specs.Input.{InputOf, too_long_input, refused_input, IsFileWithin, input_of}
 use Rattle.geoplan.specs.Tables.{TablesOf, RefusedOf}
 use Rattle.plan_report.specs.ReportText.{no_plan_text}
@@ -149,8 +149,9 @@ pub record RefusesWords (words : List (List ℕ)) (before now : ShelfState) (tex
   pub same : now ≡ before
   pub printed : text ≡ words_text
 
--- the files give this, where the shelf tells it, and it holds what it held
+-- the command reads files, they give this, where the shelf tells it, and it holds what it held
 pub record Refuses (command : CommandOf) (given : InputOf) (before now : ShelfState) : Type 0 where
+  pub reads : files_read command ≡ [] → ⊥
   pub input : ForSome before.held (λ files. input_of command files ≡ given)
   pub held : now.held ≡ before.held
   pub quiet : KeepsFaults before now
@@ -178,3 +179,7 @@ pub record FailsToRead (files : List FileOf) (before now : ShelfState) (text : L
   pub last : now.last_fault ≡ Some (read_of file.name)
   pub held : now.held ≡ before.held
   pub printed : text ≡ cannot_read_text file.name
+
+-- .. whatever was printed of it
+abbrev pub IsUnread : List FileOf → ShelfState → ShelfState → Type 0
+IsUnread files before now = (text : List ℕ) × FailsToRead files before now text

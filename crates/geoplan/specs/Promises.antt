@@ -2,17 +2,19 @@ use Rattle.std.specs.Prelude.{◌≡◌, ◌⊎◌, ℕ, List, [], ◌∷◌, na
 use Rattle.std.specs.List.{list_any}
 use Rattle.std.specs.FinMap.{get}
 use Rattle.shelf_io.specs.Files.{Files}
+use Rattle.shelf_io.specs.Faults.{KeepsFaults}
 use Rattle.shelf_io.specs.States.{SinkState, ShelfState}
-use Rattle.geoplan.specs.CommandOf.{CommandOf, written_by, OnCommand}
+use Rattle.geoplan.specs.CommandOf.{CommandOf, files_read, written_by, OnCommand}
 use Rattle.geoplan.specs.Ends.{ends_of, EndsUnwritten, Began, HasReport, HasText}
 use Rattle.geoplan.specs.Input.{InputOf, no_input, too_long_input, refused_input, built_input}
+use Rattle.geoplan.specs.Outcomes.{IsUnread}
 use Rattle.geoplan.specs.Printing.{WritesPrefix, FailsToPut}
 
 -- What the top call promises besides the outcomes. This project's own.
 
 -- the exit statuses of the program
 abbrev pub IsStatus : ℕ → Type 0
-IsStatus status = IsTrue (list_any (nat_eq status) (0 ∷ 1 ∷ 2 ∷ 3 ∷ 4 ∷ 5 ∷ 6 ∷ 7 ∷ 8 ∷ 9 ∷ []))
+IsStatus status = IsTrue (list_any (nat_eq status) (0 ∷ 1 ∷ 2 ∷ 3 ∷ 4 ∷ 5 ∷ 6 ∷ 7 ∷ 8 ∷ 9 ∷ 15 ∷ []))
 
 -- ---- failed writes, and want of memory
 
@@ -21,9 +23,15 @@ abbrev pub IsUnwritten : CommandOf → ShelfState → ShelfState → SinkState �
 IsUnwritten command before now sink sink_now =
     (EndsUnwritten command before now × (sink_now.written ≡ sink.written)) ⊎ FailsToPut (HasReport command before now) sink sink_now
 
--- memory ran out: the shelf holds what it held, or the beginning of what the command writes besides, and nothing was
--- printed, or the beginning of the text of the outcome that stands
+-- the shelf counted no fault, or a read of a file of the command failed and is its latest fault
+abbrev pub HasNoWriteFault : List (List ℕ) → ShelfState → ShelfState → Type 0
+HasNoWriteFault words before now = KeepsFaults before now ⊎ OnCommand words (λ command. IsUnread (files_read command) before now)
+
+-- memory ran out: no write failed, and no put. The shelf holds what it held, or the beginning of what the command writes
+-- besides, and nothing was printed, or the beginning of the text of the outcome that stands
 pub record RanOut (words : List (List ℕ)) (before now : ShelfState) (sink sink_now : SinkState) : Type 0 where
+  pub cause : HasNoWriteFault words before now
+  pub quiet : sink_now.faults ≡ sink.faults
   pub held : (now.held ≡ before.held) ⊎ OnCommand words (λ command. Began command before.held now.held)
   pub printed : (sink_now.written ≡ sink.written) ⊎ ((text : List ℕ) × HasText words before now text × WritesPrefix text sink sink_now)
 

@@ -1,4 +1,4 @@
-use Rattle.std.specs.Prelude.{◌≡◌, ◌⊎◌, ℕ, List, []}
+use Rattle.std.specs.Prelude.{◌≡◌, ◌⊎◌, ℕ, Bool, true, false, List, []}
 use Rattle.geo_model.specs.Network.{NetworkOf}
 use Rattle.geo_model.specs.declared.answer.Answer.{Answer}
 use Rattle.geo_model.specs.declared.answer.Answer.TheVariants as answer
@@ -7,6 +7,7 @@ use Rattle.log_check.specs.declared.fault.LogFault.{LogFault}
 use Rattle.log_check.specs.declared.replaying.Replayed.{Replayed}
 use Rattle.log_check.specs.FirstFault.{IsFirstFault}
 use Rattle.log_check.specs.Replayed.{IsReplayed}
+use Rattle.gen_bench.specs.Bench.{BenchesPlan, BenchesOpen}
 use Rattle.geoplan.specs.Tables.{TablesOf}
 use Rattle.geoplan.specs.Loading.{refused_view}
 use Rattle.plan_report.specs.Reported.{IsReport}
@@ -51,3 +52,13 @@ Refused (load.TooLong name) ends text = Ends status.FileTooLong (too_long_text n
 Refused (load.Unread name) ends text = Ends status.ReadFault (cannot_read_text name.now) ends text
 Refused (load.Refused refused) ends text = Ends status.TableRefused (table_text (refused_view refused)) ends text
 Refused load.NoMemory ends text = HasNoText ends text
+
+-- the status of a run over the network of a seed, whose plan is decided or not
+abbrev pub bench_status : Bool → Status
+bench_status true = status.Found
+bench_status false = status.Undecided
+
+-- the status and the summary of a run over the network of a seed, where there was memory for it
+abbrev pub Benches : ℕ → Status → List ℕ → Type 0
+Benches seed ends text =
+    ((ends ≡ status.Found) × BenchesPlan seed text) ⊎ (((ends ≡ status.Undecided) × BenchesOpen seed text) ⊎ HasNoText ends text)

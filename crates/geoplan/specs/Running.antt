@@ -1,4 +1,4 @@
-use Rattle.std.specs.Prelude.{◌≡◌, ◌⊎◌, ℕ, List, None}
+use Rattle.std.specs.Prelude.{◌≡◌, ◌⊎◌, ℕ, List, [], None}
 use Rattle.shelf_io.specs.States.{SinkState, ShelfState}
 use Rattle.geoplan.specs.Codes.{after_failed_put}
 use Rattle.geoplan.specs.CommandOf.{command_of, OnCommand}
@@ -16,13 +16,15 @@ pub record IsPrinted (begun : Status) (text : List ℕ) (ended : Status) (before
   pub same : ended ≡ begun
   pub all : WritesAll text before now
 
--- a put failed, and the status is what it is after that
+-- a put of a text failed, and the status is what it is after that
 pub record BreaksOff (begun : Status) (text : List ℕ) (ended : Status) (before now : SinkState) : Type 0 where
+  pub some : text ≡ [] → ⊥
   pub after : ended ≡ after_failed_put begun
   pub cut : IsCutShort text before now
 
--- memory ran out in a put
+-- memory ran out in a put of a text
 pub record RunsOutPrinting (text : List ℕ) (ended : Status) (before now : SinkState) : Type 0 where
+  pub some : text ≡ [] → ⊥
   pub after : ended ≡ status.NoMemory
   pub quiet : now.faults ≡ before.faults
   pub begins : WritesPrefix text before now

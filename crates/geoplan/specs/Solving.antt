@@ -29,11 +29,12 @@ pub record FailsSolve (tables : TablesOf) (log : List ℕ) (why : SearchFault) (
   pub held : (now.held ≡ before.held) ⊎ BeganLog tables log before.held now.held
   pub later : before.faults ≤ now.faults
   pub failed : why ≡ search.WriteFault → Rose before.faults now.faults × (now.last_fault ≡ Some (write_of log))
+  pub no_memory : why ≡ search.NoMemory → KeepsFaults before now
 
 -- memory ran out in a search, or before its answer was spelled
 pub record RunsOutPlanning (tables : TablesOf) (log : List ℕ) (before now : ShelfState) (text : List ℕ) : Type 0 where
   pub held : (now.held ≡ before.held) ⊎ BeganLog tables log before.held now.held
-  pub later : before.faults ≤ now.faults
+  pub quiet : KeepsFaults before now
   pub printed : text ≡ []
 
 -- what a status says of a search whose answer is reported
@@ -48,3 +49,4 @@ Plans tables log before now status.WriteFault text = FailsToWrite tables log bef
 Plans tables log before now status.NoMemory text = RunsOutPlanning tables log before now text
 Plans tables log before now status.LogRefused text = ⊥
 Plans tables log before now status.FileTooLong text = ⊥
+Plans tables log before now status.TooManyCuts text = ⊥

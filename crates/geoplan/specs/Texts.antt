@@ -8,7 +8,8 @@ use Rattle.point_tables.specs.declared.fault.TableName.{TableName}
 use Rattle.point_tables.specs.declared.fault.TableName.TheVariants as table
 use Rattle.point_tables.specs.PointTable as point
 use Rattle.candidate_tables.specs.CandidateTable as candidate
-use Rattle.plan_report.specs.ReportText.{plan_text, undecided_text, which_text, open_text, checked_text}
+use Rattle.limit_lines.specs.LimitText.{limit_text}
+use Rattle.plan_report.specs.ReportText.{plan_text, undecided_text, open_text, checked_text}
 use Rattle.plan_report.specs.RowsText.{rows_text}
 use Rattle.log_check.specs.declared.fault.LogFault.{LogFault}
 use Rattle.bound_log.specs.declared.log_kind.LogKind.{LogKind}
@@ -35,6 +36,10 @@ unfoldable pub table_word : TableName → List ℕ
 table_word table.Points = codes "points"
 table_word table.Candidates = codes "candidates"
 table_word table.Network = codes "network"
+
+-- .. and that for a table of stations
+abbrev pub stations_word : List ℕ
+stations_word = codes "stations"
 
 -- the word for a kind of fault
 unfoldable pub kind_word : FaultKind → List ℕ
@@ -89,7 +94,7 @@ tables_plan_text tables plan counts =
 abbrev pub tables_undecided_text : TablesOf → List Bool → Counts → LimitKind → ℕ → ℤ → ℤ → List ℕ
 tables_undecided_text tables plan counts kind step lo hi =
     undecided_text (candidate.candidate_names tables.candidates) tables.network plan
-    (open_text (which_text (point.point_names tables.points) (candidate.candidate_names tables.candidates) kind) step lo hi) counts
+    (open_text (limit_text (point.point_names tables.points) (candidate.candidate_names tables.candidates) kind) step lo hi) counts
 
 -- .. of the unknowns and the rows of their network
 abbrev pub tables_rows_text : TablesOf → List ℕ

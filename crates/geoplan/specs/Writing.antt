@@ -21,6 +21,7 @@ pub record FailsFile (name text : List ℕ) (why : WriteAnswer) (before now : Sh
   pub held : MayHaveBegun name text before.held now.held
   pub later : before.faults ≤ now.faults
   pub failed : why ≡ write_answer.Failed → Rose before.faults now.faults × (now.last_fault ≡ Some (write_of name))
+  pub no_memory : why ≡ write_answer.NoMemory → KeepsFaults before now
 
 -- both tables of a seed stand whole under their names
 pub record WritesBoth (sources : SourcesOf) (before now : ShelfState) : Type 0 where
@@ -32,11 +33,12 @@ pub record FailsBoth (sources : SourcesOf) (why : WriteAnswer) (before now : She
   pub held : (now.held ≡ before.held) ⊎ BeganTables sources before.held now.held
   pub later : before.faults ≤ now.faults
   pub failed : why ≡ write_answer.Failed → FailsToWriteTables sources before now
+  pub no_memory : why ≡ write_answer.NoMemory → KeepsFaults before now
 
 -- memory ran out before both were written, or before that was said
 pub record RunsOutWriting (sources : SourcesOf) (before now : ShelfState) (text : List ℕ) : Type 0 where
   pub held : (now.held ≡ before.held) ⊎ BeganTables sources before.held now.held
-  pub later : before.faults ≤ now.faults
+  pub quiet : KeepsFaults before now
   pub printed : text ≡ []
 
 -- what a status says of the tables of a seed
@@ -51,3 +53,4 @@ Generates sources before now status.WriteFault text = FailsToWriteTables sources
 Generates sources before now status.NoMemory text = RunsOutWriting sources before now text
 Generates sources before now status.LogRefused text = ⊥
 Generates sources before now status.FileTooLong text = ⊥
+Generates sources before now status.TooManyCuts text = ⊥

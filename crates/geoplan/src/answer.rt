@@ -8,11 +8,13 @@ use crate::check::answer_check;
 use crate::command::Command;
 use crate::generate::answer_gen;
 use crate::load::load;
+use crate::migrate::answer_migrate;
 use crate::outcome::Outcome;
 use crate::plan::answer_plan;
 use crate::refusal::refuse;
 use crate::rows::answer_rows;
 use crate::script::answer_script;
+use crate::seed_search::answer_bench;
 use crate::verb::Verb;
 use shelf_io::Shelf;
 use std::alloc::Global;
@@ -34,7 +36,8 @@ fn answer_tables<H: Shelf>(alloc: Global, command: &Command<'_>, shelf: &mut H) 
         Verb::Rows => answer_rows(alloc, &tables),
         Verb::Check => answer_check(alloc, &tables, shelf, log),
         Verb::Trial => answer_script(alloc, &tables, shelf, &command.sources),
-        Verb::Gen => unreachable!(),
+        Verb::Migrate => answer_migrate(alloc, &tables, shelf, &command.sources),
+        Verb::Gen | Verb::Bench => unreachable!(),
     }
 }
 
@@ -45,7 +48,8 @@ pub fn answer<H: Shelf>(alloc: Global, command: &Command<'_>, shelf: &mut H) -> 
 {
     match command.verb {
         Verb::Gen => answer_gen(alloc, &command.sources, shelf),
-        Verb::Plan | Verb::Rows | Verb::Check | Verb::Trial => {
+        Verb::Bench => answer_bench(alloc, command.sources.seed),
+        Verb::Plan | Verb::Rows | Verb::Check | Verb::Trial | Verb::Migrate => {
             answer_tables(alloc, command, shelf)
         }
     }

@@ -2,7 +2,9 @@ ghost use Rattle.std.specs.Prelude.{◌≡◌, ◌≤◌, length, option_map, dr
 ghost use Rattle.std.specs.List.{list_all};
 ghost use Rattle.geoplan.specs.CommandOf.{is_plain, command_from, command_of, sources_from};
 ghost use Rattle.geoplan.specs.CommandView.{roles_for, sources_view, HasShortNumbers, command_view};
+ghost use Rattle.geoplan.specs.declared.shape.WordShape.TheVariants as shape;
 
+use crate::file_kind::FileKind;
 use crate::shape::WordShape;
 use crate::sources::Sources;
 use crate::verb::Verb;
@@ -41,7 +43,7 @@ impl<'a> Command<'a> {
             Some(verb) => verb,
             None => return None,
         };
-        match sources_of(verb.shape(), words) {
+        match sources_of(verb.shape(words.len() - 2), words) {
             Some(sources) => Some(Command { verb, sources }),
             None => None,
         }
@@ -61,6 +63,15 @@ fn sources_of<'a>(shape: WordShape, words: &'a Words) -> Option<Sources<'a>>
             }
             Sources::of_job(words.get(2), words.get(3), words.get(4), last, words.get(5))
         }
+        WordShape::JobWithStations(last) => job_with_stations(last, words),
+        WordShape::Migration => {
+            if words.len() != 7 {
+                return None;
+            }
+            let (points, candidates) = (words.get(2), words.get(3));
+            Sources::of_migration(points, candidates, words.get(4), words.get(5), words.get(6))
+        }
+        WordShape::MigrationWithStations => migration_with_stations(words),
         WordShape::Tables => {
             if words.len() != 4 {
                 return None;
@@ -71,9 +82,44 @@ fn sources_of<'a>(shape: WordShape, words: &'a Words) -> Option<Sources<'a>>
             if words.len() != 5 {
                 return None;
             }
-            Sources::of_seed(words.get(2), words.get(3), words.get(4))
+            Sources::of_seed_and_tables(words.get(2), words.get(3), words.get(4))
+        }
+        WordShape::Seed => {
+            if words.len() != 3 {
+                return None;
+            }
+            Sources::of_seed(words.get(2))
         }
     }
+}
+
+/// What the words after that of the command give where they are those of a job with a table of
+/// stations.
+fn job_with_stations<'a>(last: FileKind, words: &'a Words) -> Option<Sources<'a>>
+    requires { 2 ≤ length words.now }
+    ensures sources { option_map sources_view result ≡ sources_from (roles_for (shape.JobWithStations last)) (drop 2 words.now) }
+    ensures within { IfSome result HasShortNumbers }
+{
+    if words.len() != 7 {
+        return None;
+    }
+    let (points, candidates, redundancy) = (words.get(2), words.get(3), words.get(4));
+    let (file, stations) = (words.get(5), words.get(6));
+    Sources::of_job_with_stations(points, candidates, redundancy, last, file, stations)
+}
+
+/// .. where they are those of a migration with a table of stations.
+fn migration_with_stations<'a>(words: &'a Words) -> Option<Sources<'a>>
+    requires { 2 ≤ length words.now }
+    ensures sources { option_map sources_view result ≡ sources_from (roles_for shape.MigrationWithStations) (drop 2 words.now) }
+    ensures within { IfSome result HasShortNumbers }
+{
+    if words.len() != 8 {
+        return None;
+    }
+    let (points, candidates, redundancy) = (words.get(2), words.get(3), words.get(4));
+    let (log, new_log, stations) = (words.get(5), words.get(6), words.get(7));
+    Sources::of_migration_with_stations(points, candidates, redundancy, log, new_log, stations)
 }
 
 /// Whether a word isn't empty and doesn't begin with `-`.

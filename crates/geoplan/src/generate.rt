@@ -13,7 +13,7 @@ use shelf_io::{Shelf, WriteAnswer};
 use std::alloc::Global;
 
 /// Writes a text under a name.
-fn write_file<H: Shelf>(shelf: &mut H, name: &str, text: &[u8]) -> Result<(), WriteAnswer>
+pub fn write_file<H: Shelf>(shelf: &mut H, name: &str, text: &[u8]) -> Result<(), WriteAnswer>
     ensures written { OnOk result (WritesFile name.now text.now (H.state shelf.old) (H.state shelf.new)) }
     ensures fault { IfErr result (λ why. FailsFile name.now text.now why (H.state shelf.old) (H.state shelf.new)) }
 {

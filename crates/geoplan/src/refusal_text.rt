@@ -1,6 +1,7 @@
 //! The words of refusals.
 ghost use Rattle.std.specs.Prelude.{◌≡◌, IfOk};
 ghost use Rattle.geoplan.specs.Loading.{refused_view};
+ghost use Rattle.geoplan.specs.Migrates.{too_many_cuts_text};
 ghost use Rattle.geoplan.specs.Texts.{words_text, cannot_read_text, too_long_text, table_word, kind_word, table_text, log_kind_word, log_fault_text};
 
 use crate::refused_table::RefusedTable;
@@ -120,4 +121,11 @@ pub fn log_refusal(alloc: Global, fault: LogFault) -> Result<Vec<u8>, NoMemory>
     text.extend_from_slice(log_kind_word(fault.kind).as_bytes())?;
     text.extend_from_slice(b"\n")?;
     Ok(text)
+}
+
+/// What is printed where a log uses more cuts than a log of format 2 can name.
+pub fn cuts_refusal(alloc: Global) -> Result<Vec<u8>, NoMemory>
+    ensures { IfOk result (λ text. text.items ≡ too_many_cuts_text) }
+{
+    Ok(Vec::from_slice(alloc, b"too many cuts\n")?)
 }

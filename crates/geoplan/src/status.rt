@@ -13,6 +13,7 @@ pub enum Status {
     NoMemory,
     LogRefused,
     FileTooLong,
+    TooManyCuts,
 }
 
 impl Status {
@@ -33,6 +34,7 @@ impl Status {
             Status::NoMemory => 7,
             Status::LogRefused => 8,
             Status::FileTooLong => 9,
+            Status::TooManyCuts => 15,
         }
     }
 

@@ -3,7 +3,7 @@ ghost use Rattle.std.specs.Prelude.{◌≡◌, ◌⊎◌, [], Some, None, is_som
 ghost use Rattle.std.specs.Option.{ForSome};
 ghost use Rattle.shelf_io.specs.Faults.{Rose};
 ghost use Rattle.geoplan.specs.CommandOf.{CommandOf, command_of, files_read, written_by, OnCommand};
-ghost use Rattle.geoplan.specs.Ends.{Completes, EndsWithNone, EndsOpen, EndsAtLog};
+ghost use Rattle.geoplan.specs.Ends.{Completes, EndsWithNone, EndsOpen, EndsAtLog, EndsAtCuts};
 ghost use Rattle.geoplan.specs.Input.{input_of};
 ghost use Rattle.geoplan.specs.Outcomes.{RefusesWords, RefusesTable, RefusesLength, FailsToRead};
 ghost use Rattle.geoplan.specs.Printing.{PrintsAll, HasPrinted};
@@ -15,8 +15,8 @@ use shelf_io::{Shelf, Sink};
 use std::alloc::Global;
 
 /// Does all that the program does: reads the words of a command line, the program's name first,
-/// reads the files that they name from `shelf`, writes the log or the tables of a seed to it, prints
-/// to `out`, and answers the exit status.
+/// reads the files that they name from `shelf`, writes a log or the tables of a seed to it, prints to
+/// `out`, and answers the exit status.
 pub fn geoplan<H: Shelf, O: Sink>(alloc: Global, words: &Words, shelf: &mut H, out: &mut O) -> u8
     ensures status { IsStatus result }
 
@@ -24,7 +24,10 @@ pub fn geoplan<H: Shelf, O: Sink>(alloc: Global, words: &Words, shelf: &mut H, o
     // for all whole-number displacements, and every plan that meets them costs at least as much, which
     // the log proves. Of `check`: the text under the log's name is a log of the network, and every plan
     // that meets the limits costs at least its bound. Of `rows`: unknowns and rows. Of `trial`: the
-    // answers to the script. Of `gen`: both tables of the seed stand under their names.
+    // answers to the script. Of `gen`: both tables of the seed stand under their names. Of `bench`: the
+    // printed price is that of a certified plan of the seed's network, and no plan that meets its
+    // limits costs less. Of `migrate`: under the new log's name stands a log of format 2 with the tree
+    // of the log that was read, so with the same bound and counts.
     ensures done { result ≡ 0 → OnCommand words.now (λ command. PrintsAll
         (Completes command (H.state shelf.old) (H.state shelf.new)) (O.state out.old) (O.state out.new)) }
 
@@ -43,7 +46,8 @@ pub fn geoplan<H: Shelf, O: Sink>(alloc: Global, words: &Words, shelf: &mut H, o
         (RefusesTable command (H.state shelf.old) (H.state shelf.new)) (O.state out.old) (O.state out.new)) }
 
     // 4: the printed plan costs no more than any that meets the limits, which the log proves. It is
-    // not decided: the interval of the printed limit contains 0.
+    // not decided: the interval of the printed limit contains 0. Of `bench`: the same of the plan that
+    // has the printed price.
     ensures undecided { result ≡ 4 → OnCommand words.now (λ command. PrintsAll
         (EndsOpen command (H.state shelf.old) (H.state shelf.new)) (O.state out.old) (O.state out.new)) }
 
@@ -56,7 +60,8 @@ pub fn geoplan<H: Shelf, O: Sink>(alloc: Global, words: &Words, shelf: &mut H, o
     ensures unwritten { result ≡ 6 → OnCommand words.now (λ command. IsUnwritten command
         (H.state shelf.old) (H.state shelf.new) (O.state out.old) (O.state out.new)) }
 
-    // 7: memory ran out, for which no cause is said.
+    // 7: memory ran out, for which no cause is said. No write failed and no put: the shelf counted no
+    // fault, or its latest is a failed read of a file of the command.
     ensures out_of_memory { result ≡ 7 → RanOut words.now
         (H.state shelf.old) (H.state shelf.new) (O.state out.old) (O.state out.new) }
 
@@ -67,6 +72,11 @@ pub fn geoplan<H: Shelf, O: Sink>(alloc: Global, words: &Words, shelf: &mut H, o
     // 9: the shown file is the first one, in the order of reading, that is too long.
     ensures too_long { result ≡ 9 → OnCommand words.now (λ command. HasPrinted
         (RefusesLength command (H.state shelf.old) (H.state shelf.new)) (O.state out.old) (O.state out.new)) }
+
+    // 15: the text under the log's name is a log of the network that uses more cuts than a log of
+    // format 2 can name.
+    ensures cuts_refused { result ≡ 15 → OnCommand words.now (λ command. HasPrinted
+        (EndsAtCuts command (H.state shelf.old) (H.state shelf.new)) (O.state out.old) (O.state out.new)) }
 
     // Accepted words and no fault counted: the status is what the files give, or want of memory.
     ensures complete { (command : CommandOf) → command_of words.now ≡ Some command →

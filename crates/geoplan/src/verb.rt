@@ -1,5 +1,5 @@
 ghost use Rattle.std.specs.Prelude.{◌≡◌};
-ghost use Rattle.geoplan.specs.CommandOf.{verb_of, roles_of};
+ghost use Rattle.geoplan.specs.CommandOf.{verb_of, roles_by};
 ghost use Rattle.geoplan.specs.CommandView.{roles_for};
 ghost use Rattle.geoplan.specs.Loading.{more_kinds, listed};
 
@@ -20,6 +20,10 @@ pub enum Verb {
     Trial,
     /// Writes the two tables of a seed.
     Gen,
+    /// Searches the network of a seed, and shows how the search went.
+    Bench,
+    /// Writes a log in format 2 under another name.
+    Migrate,
 }
 
 impl Verb {
@@ -37,20 +41,26 @@ impl Verb {
             Some(Verb::Trial)
         } else if is_same(word, "gen") {
             Some(Verb::Gen)
+        } else if is_same(word, "bench") {
+            Some(Verb::Bench)
+        } else if is_same(word, "migrate") {
+            Some(Verb::Migrate)
         } else {
             None
         }
     }
 
-    /// What its further words stand for.
-    pub fn shape(self) -> WordShape
-        ensures { roles_of self ≡ roles_for result }
+    /// What so many further words of it stand for.
+    pub fn shape(self, further: u32) -> WordShape
+        ensures { roles_by self further ≡ roles_for result }
     {
         match self {
-            Verb::Plan | Verb::Check => WordShape::Job(FileKind::Log),
+            Verb::Plan | Verb::Check => WordShape::job(FileKind::Log, further),
             Verb::Rows => WordShape::Tables,
-            Verb::Trial => WordShape::Job(FileKind::Script),
+            Verb::Trial => WordShape::job(FileKind::Script, further),
             Verb::Gen => WordShape::SeedAndTables,
+            Verb::Bench => WordShape::Seed,
+            Verb::Migrate => WordShape::migration(further),
         }
     }
 
@@ -59,8 +69,8 @@ impl Verb {
         ensures { more_kinds self ≡ listed result }
     {
         match self {
-            Verb::Plan | Verb::Rows | Verb::Gen => None,
-            Verb::Check => Some(FileKind::Log),
+            Verb::Plan | Verb::Rows | Verb::Gen | Verb::Bench => None,
+            Verb::Check | Verb::Migrate => Some(FileKind::Log),
             Verb::Trial => Some(FileKind::Script),
         }
     }

@@ -1,4 +1,5 @@
 ghost use Rattle.std.specs.Prelude.{◌≡◌, ◌+◌, ◌<◌, ◌^◌, [], ◌∷◌, ◌++◌, Some, length, slice_get, OnOk, OnErr, bytes_eq};
+ghost use Rattle.geoplan.specs.CommandOf.{are_distinct};
 
 use geo_base::NoMemory;
 use std::alloc::Global;
@@ -65,4 +66,13 @@ pub fn is_same(one: &str, other: &str) -> bool
     ensures { result ≡ bytes_eq one.now other.now }
 {
     one.as_bytes() == other.as_bytes()
+}
+
+/// Whether four words differ from one another.
+pub fn are_distinct(first: &str, second: &str, third: &str, last: &str) -> bool
+    ensures { result ≡ are_distinct (first.now ∷ second.now ∷ third.now ∷ last.now ∷ []) }
+{
+    !(is_same(first, second) || is_same(first, third) || is_same(first, last))
+        && !(is_same(second, third) || is_same(second, last))
+        && !is_same(third, last)
 }

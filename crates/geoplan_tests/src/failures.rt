@@ -72,7 +72,7 @@ const PLANS: [Failure; 8] = [
         failing: Failing::Shelf(6),
         status: 6,
         printed: "",
-        log: b"geoplan-log 1\ns 0\nx 1 1",
+        log: b"geoplan-log 2\ns 0\nk 1 1 0",
     },
     Failure {
         points: HEIGHTS,
@@ -90,7 +90,7 @@ const PLANS: [Failure; 8] = [
         failing: Failing::Shelf(6),
         status: 6,
         printed: "",
-        log: b"geoplan-log 1\ns 0\ns ",
+        log: b"geoplan-log 2\ns 0\ns ",
     },
     Failure {
         points: HEIGHTS,

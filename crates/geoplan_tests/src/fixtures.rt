@@ -31,7 +31,8 @@ pub const ONE_LEVEL_REPORT: &str =
 pub const OLD_LOG: &[u8] = b"old";
 
 /// The whole log of two levels that miss a redundancy of 0.501, with cuts of displacements by 1.
-pub const REDUNDANCY_LOG: &[u8] = b"geoplan-log 1\ns 0\nx 1 1 0 1\ns 1\nx 2 1 0 1\nx 0 1 0 1\n";
+pub const REDUNDANCY_LOG: &[u8] =
+    b"geoplan-log 2\ns 0\nk 1 1 0 1\nx 0\ns 1\nk 2 1 0 1\nx 1\nk 0 1 0 1\nx 2\n";
 
 pub const PLAN: &str = "geoplan plan p.csv c.csv 0 l.log";
 

@@ -1,6 +1,10 @@
 //! Tables that are generated from a seed, and the search of their network.
-use crate::fixtures::{HEIGHTS, OLD_LOG, ONE_LEVEL, expect, failing_shelf, run, shelf_with};
+use crate::fixtures::{
+    HEIGHTS, OLD_LOG, ONE_LEVEL, expect, expect_accepted, expect_report, failing_shelf, run,
+    shelf_with,
+};
 use shelf_io::{MemShelf, MemSink};
+use std::alloc::Global;
 use std::process::Abort;
 use std::test::Fail;
 
@@ -44,6 +48,25 @@ fn a_seed_has_up_to_six_digits(rt: HostRuntime) -> Result<(), Fail> {
     let words = "geoplan gen 000007 p.csv c.csv";
     expect(&rt, alloc, &mut shelf, words, (0, "written\n"));
     assert_eq!(rt; held(&shelf, "p.csv"), POINTS.as_bytes());
+    Ok(())
+}
+
+// The ends of the tables of the greatest seed, as that program generates them.
+const LAST_POINT: &[u8] = b"\nN5,4175.827,4131.948,104.666,7.9,11.2\n";
+
+const LAST_CANDIDATE: &[u8] = b"\nl4,level,F4,N5,,10.00,,100\n";
+
+#[test]
+fn the_greatest_seed_is_generated_and_searched(rt: HostRuntime) -> Result<(), Fail> {
+    let alloc = rt.alloc();
+    let mut shelf = shelf_with(alloc, HEIGHTS, ONE_LEVEL)?;
+    let words = "geoplan gen 999999 p.csv c.csv";
+    expect(&rt, alloc, &mut shelf, words, (0, "written\n"));
+    assert!(rt; held(&shelf, "p.csv").ends_with(LAST_POINT));
+    assert!(rt; held(&shelf, "c.csv").ends_with(LAST_CANDIDATE));
+    let out = benched(&rt, alloc, "geoplan bench 999999", (Vec::new(alloc), 0))?;
+    assert!(rt; out.bytes().starts_with(b"seed 999999\ncandidates 28\n"));
+    assert!(rt; out.bytes().ends_with(b"\nbound 470\n"));
     Ok(())
 }
 
@@ -110,5 +133,68 @@ fn tables_are_whole_where_the_put_fails(rt: HostRuntime) -> Result<(), Fail> {
     assert_eq!(rt; out.bytes(), b"writ".as_slice());
     assert_eq!(rt; held(&shelf, "p.csv"), POINTS.as_bytes());
     assert_eq!(rt; held(&shelf, "c.csv"), CANDIDATES.as_bytes());
+    Ok(())
+}
+
+// The summary of the seed 7 before and behind the counts of the lines of its log, and its report
+// likewise, by another program.
+const SUMMARY: &str =
+    "seed 7\ncandidates 28\nunknowns 17\nrows 48\nlimits 58\nplan\ncost 487\nlog,";
+
+const BOUND: &str = "\nbound 487\n";
+
+/// Runs `bench` over a shelf of which each call would fail, and a sink whose puts of these numbers
+/// fail; asserts its status and that no call was made.
+fn benched(
+    rt: &impl Abort,
+    alloc: Global,
+    line: &str,
+    (failing, status): (Vec<u64>, u8),
+) -> Result<MemSink, Fail> {
+    let mut shelf = failing_shelf(alloc, (b"p", b"c"), OLD_LOG, vec![in alloc; 1, 2, 3]?)?;
+    let mut out = MemSink::new(alloc, failing);
+    assert_eq!(rt; run(rt, alloc, &mut shelf, line, &mut out), status);
+    assert_eq!(rt; held(&shelf, "p.csv"), b"p".as_slice());
+    assert_eq!(rt; held(&shelf, "c.csv"), b"c".as_slice());
+    assert_eq!(rt; held(&shelf, "l.log"), OLD_LOG);
+    Ok(out)
+}
+
+// Whichever log the search chooses, it has lines of cuts and of dual bounds.
+#[test]
+fn a_bench_says_the_same_twice(rt: HostRuntime) -> Result<(), Fail> {
+    let alloc = rt.alloc();
+    let first = benched(&rt, alloc, "geoplan bench 7", (Vec::new(alloc), 0))?;
+    let second = benched(&rt, alloc, "geoplan bench 007", (Vec::new(alloc), 0))?;
+    assert_eq!(rt; first.bytes(), second.bytes());
+    assert!(rt; first.bytes().starts_with(SUMMARY.as_bytes()));
+    assert!(rt; first.bytes().ends_with(BOUND.as_bytes()));
+    let mut counts = first.bytes().split(|byte| *byte == b',').skip(4);
+    let cuts = counts.next().expect(&rt, "a count of lines of cuts");
+    assert!(rt; !cuts.starts_with(b"0"));
+    let duals = counts.next().expect(&rt, "a count of lines of dual bounds");
+    assert!(rt; !duals.starts_with(b"0"));
+    assert!(rt; counts.next().is_none());
+    Ok(())
+}
+
+#[test]
+fn a_summary_is_cut_short_where_the_put_fails(rt: HostRuntime) -> Result<(), Fail> {
+    let alloc = rt.alloc();
+    let out = benched(&rt, alloc, "geoplan bench 7", (vec![in alloc; 1]?, 6))?;
+    assert!(rt; out.bytes().starts_with(b"seed 7\n"));
+    assert!(rt; SUMMARY.as_bytes().starts_with(out.bytes()));
+    Ok(())
+}
+
+#[test]
+fn a_generated_network_is_planned_and_checked(rt: HostRuntime) -> Result<(), Fail> {
+    let alloc = rt.alloc();
+    let mut shelf = shelf_with(alloc, HEIGHTS, ONE_LEVEL)?;
+    expect(&rt, alloc, &mut shelf, GEN, (0, "written\n"));
+    let plan = "geoplan plan p.csv c.csv 200 l.log";
+    expect_report(&rt, alloc, &mut shelf, plan, (0, "plan\ncost 487\n", BOUND));
+    let check = "geoplan check p.csv c.csv 200 l.log";
+    expect_accepted(&rt, alloc, &mut shelf, check, BOUND);
     Ok(())
 }

@@ -22,7 +22,11 @@ mod fixtures;
 #[cfg(test)]
 mod generated;
 #[cfg(test)]
+mod largest;
+#[cfg(test)]
 mod log_parts;
+#[cfg(test)]
+mod migrate;
 #[cfg(test)]
 mod plan;
 #[cfg(test)]
@@ -31,6 +35,8 @@ mod points;
 mod rows;
 #[cfg(test)]
 mod scripts;
+#[cfg(test)]
+mod stations;
 #[cfg(test)]
 mod wide_lines;
 #[cfg(test)]

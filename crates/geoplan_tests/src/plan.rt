@@ -168,17 +168,17 @@ const ONLY_LOGS: [(&str, &str, [&[u8]; 2]); 3] = [
     (
         CLOSER_HEIGHTS,
         ONE_LEVEL,
-        [b"geoplan-log 1\np 0\n", b"geoplan-log 1\nx 0 1 0 1\n"],
+        [b"geoplan-log 2\np 0\n", b"geoplan-log 2\nk 0 1 0 1\nx 0\n"],
     ),
     (
         HEIGHTS,
         "",
-        [b"geoplan-log 1\np 0\n", b"geoplan-log 1\nx 0 1 0 1\n"],
+        [b"geoplan-log 2\np 0\n", b"geoplan-log 2\nk 0 1 0 1\nx 0\n"],
     ),
     (
         "A,,,100.000,,fixed\n",
         "",
-        [b"geoplan-log 1\nc\n", b"geoplan-log 1\nc\n"],
+        [b"geoplan-log 2\nc\n", b"geoplan-log 2\nc\n"],
     ),
 ];
 

@@ -4,7 +4,7 @@ use geoplan::Words;
 use shelf_io::MemSink;
 use std::test::Fail;
 
-const REFUSED: [&str; 22] = [
+const REFUSED: [&str; 27] = [
     "geoplan",
     "geoplan plan --help",
     "geoplan plan p.csv c.csv 1000 l.log",
@@ -15,7 +15,8 @@ const REFUSED: [&str; 22] = [
     "geoplan plan p.csv p.csv 0 l.log",
     "geoplan plan p.csv c.csv 0 c.csv",
     "geoplan plan p.csv c.csv 0",
-    "geoplan plan p.csv c.csv 0 l.log x.csv",
+    "geoplan plan p.csv c.csv 0 l.log c.csv",
+    "geoplan plan p.csv c.csv 0 l.log s.csv x.csv",
     "geoplan Plan p.csv c.csv 0 l.log",
     "geoplan check p.csv c.csv 0 p.csv",
     "geoplan rows p.csv",
@@ -27,6 +28,10 @@ const REFUSED: [&str; 22] = [
     "geoplan gen 7a p.csv c.csv",
     "geoplan gen -7 p.csv c.csv",
     "geoplan gen p.csv c.csv 7",
+    "geoplan bench",
+    "geoplan bench 7 8",
+    "geoplan bench 0000007",
+    "geoplan bench +7",
 ];
 
 #[test]

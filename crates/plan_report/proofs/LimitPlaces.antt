@@ -1,8 +1,7 @@
 -- Where the limits of points stand in a network, and what holds of them.
-use Rattle.std.proofs.Common.{◌≡◌, ℕ, zero, suc, ◌+◌, ◌<◌, ◌≤◌, List, [], ◌∷◌, ◌++◌, Some, length, take, map, slice_get, refl, sym, ◌∙◌, ap, ap₂, subst, arith, append_assoc, length-append}
+use Rattle.std.proofs.Common.{◌≡◌, ℕ, zero, suc, ◌+◌, List, [], ◌∷◌, ◌++◌, Some, length, take, map, slice_get, refl, sym, ◌∙◌, ap, ap₂, subst, arith, append_assoc, length-append}
 use Rattle.std.specs.List.{IsDistinct, enumerate_from, flat_map}
 use Rattle.std.proofs.lemmas.List.{length-map}
-use Rattle.std.proofs.lemmas.Option.{slice_get_within}
 use Rattle.geo_model.specs.declared.network.Unknown.{Unknown}
 use Rattle.geo_model.specs.Limit.{LimitOf}
 use Rattle.geo_model.specs.Network.{NetworkOf}
@@ -10,7 +9,7 @@ use Rattle.point_tables.specs.declared.record.PointRecord.{PointRecord}
 use Rattle.candidate_tables.specs.declared.record.CandidateRecord.{CandidateRecord}
 use Rattle.design_rows.specs.Unknowns.{is_same, unknowns_of}
 use Rattle.design_rows.proofs.UnknownFacts.{unknowns-differ}
-use Rattle.net_build.specs.Build.{axis_limit, candidate_of, height_limit, limits_of, limits_of_part, limits_of_point, network_of, point_limits}
+use Rattle.net_build.specs.Build.{axis_limit, candidate_of, height_limit, limits_of, limits_of_point, network_of, point_limits}
 use Rattle.net_build.proofs.NetworkFacts.{owned_limits}
 use Rattle.net_build.proofs.ValueFacts.{axis-bears, height-bears}
 use Rattle.plan_report.specs.declared.length_kind.LengthKind.{LengthKind}

@@ -4,18 +4,10 @@ use Rattle.std.proofs.lemmas.List.{append-nil}
 use Rattle.geo_model.specs.Candidate.{CandidateOf}
 use Rattle.geo_model.specs.Network.{NetworkOf}
 use Rattle.geo_model.specs.declared.network.Unknown.{Unknown}
+use Rattle.limit_lines.proofs.Pieces.{before}
 use Rattle.plan_report.specs.RowsText.{numbered, rows_text, unknown_text, candidate_text}
 
 -- Laws of texts that grow.
-
--- a text that was put after another, before what was put later
-pub before : (t0 t1 t2 a b : List ℕ) → t1 ≡ t0 ++ a → t2 ≡ t1 ++ b → t2 ≡ t0 ++ (a ++ b)
-before t0 t1 t2 a b first second = second ∙ ap (λ t. t ++ b) first ∙ append_assoc t0 a b
-
--- 7 pieces, one after another
-pub pieces-7 : (t0 t1 t2 t3 t4 t5 t6 t7 p1 p2 p3 p4 p5 p6 p7 : List ℕ) → t1 ≡ t0 ++ p1 → t2 ≡ t1 ++ p2 → t3 ≡ t2 ++ p3 → t4 ≡ t3 ++ p4 → t5 ≡ t4 ++ p5 → t6 ≡ t5 ++ p6 → t7 ≡ t6 ++ p7 → t7 ≡ t0 ++ (p1 ++ (p2 ++ (p3 ++ (p4 ++ (p5 ++ (p6 ++ (p7)))))))
-pieces-7 t0 t1 t2 t3 t4 t5 t6 t7 p1 p2 p3 p4 p5 p6 p7 e1 e2 e3 e4 e5 e6 e7 =
-    before t0 t1 t7 p1 (p2 ++ (p3 ++ (p4 ++ (p5 ++ (p6 ++ (p7)))))) e1 (before t1 t2 t7 p2 (p3 ++ (p4 ++ (p5 ++ (p6 ++ (p7))))) e2 (before t2 t3 t7 p3 (p4 ++ (p5 ++ (p6 ++ (p7)))) e3 (before t3 t4 t7 p4 (p5 ++ (p6 ++ (p7))) e4 (before t4 t5 t7 p5 (p6 ++ (p7)) e5 (before t5 t6 t7 p6 p7 e6 e7)))))
 
 -- 8 pieces, one after another
 pub pieces-8 : (t0 t1 t2 t3 t4 t5 t6 t7 t8 p1 p2 p3 p4 p5 p6 p7 p8 : List ℕ) → t1 ≡ t0 ++ p1 → t2 ≡ t1 ++ p2 → t3 ≡ t2 ++ p3 → t4 ≡ t3 ++ p4 → t5 ≡ t4 ++ p5 → t6 ≡ t5 ++ p6 → t7 ≡ t6 ++ p7 → t8 ≡ t7 ++ p8 → t8 ≡ t0 ++ (p1 ++ (p2 ++ (p3 ++ (p4 ++ (p5 ++ (p6 ++ (p7 ++ (p8))))))))

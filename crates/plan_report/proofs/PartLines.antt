@@ -1,7 +1,6 @@
 -- The line of a part of a point.
-use Rattle.std.proofs.Common.{◌≡◌, ℕ, ◌+◌, ◌<◌, ◌≤◌, Bool, List, [], ◌∷◌, ◌++◌, Some, length, slice_get, refl, sym, ◌∙◌, ap, subst, arith}
+use Rattle.std.proofs.Common.{◌≡◌, ℕ, ◌+◌, Bool, List, ◌++◌, Some, length, slice_get, refl, sym, ◌∙◌, ap, subst, arith}
 use Rattle.std.proofs.lemmas.List.{append-nil}
-use Rattle.geo_model.specs.declared.network.Unknown.{Unknown}
 use Rattle.geo_model.specs.Limit.{LimitOf}
 use Rattle.geo_model.specs.Network.{NetworkOf}
 use Rattle.geo_model.specs.Values.{with_value}

@@ -5,7 +5,7 @@ use Rattle.std.proofs.lemmas.List.{append-nil, length-map, take_all}
 use Rattle.std.proofs.lemmas.Option.{slice_get-map}
 use Rattle.candidate_tables.specs.declared.record.CandidateRecord.{CandidateRecord}
 use Rattle.candidate_tables.specs.CandidateTable.{candidate_names}
-use Rattle.plan_report.proofs.Numbered.{before}
+use Rattle.limit_lines.proofs.Pieces.{before}
 use Rattle.plan_report.specs.ReportText.{take_text, takes_text}
 
 step : (n : ℕ) (names : List (List ℕ)) (plan : List Bool) (name : List ℕ) (chosen : Bool) → slice_get names n ≡ Some name → slice_get plan n ≡ Some chosen → takes_text (take (suc n) names) plan ≡ takes_text (take n names) plan ++ (if chosen then take_text name else [])

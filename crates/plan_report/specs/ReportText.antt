@@ -8,8 +8,6 @@ use Rattle.geo_model.specs.Candidate.{CandidateOf}
 use Rattle.geo_model.specs.Network.{NetworkOf}
 use Rattle.geo_model.specs.Prices.{price_of}
 use Rattle.geo_model.specs.declared.answer.Counts.{Counts}
-use Rattle.geo_model.specs.declared.limit.LimitKind.{LimitKind}
-use Rattle.geo_model.specs.declared.limit.LimitKind.TheVariants as limit
 use Rattle.point_tables.specs.declared.part.Part.{Part}
 use Rattle.point_tables.specs.declared.part.Part.TheVariants as part
 use Rattle.point_tables.specs.declared.record.PointRecord.{PointRecord}
@@ -101,13 +99,6 @@ plan_text points names limit network plan counts =
 -- the report that no plan meets the limits
 abbrev pub no_plan_text : Counts → List ℕ
 no_plan_text counts = codes "no plan\n" ++ (counts_text counts ++ codes "bound none\n")
-
--- which limit it is: the axis or the height of a point, a row of a candidate, counted from 1, or one that was added
-unfoldable pub which_text : List (List ℕ) → List (List ℕ) → LimitKind → List ℕ
-which_text points names (limit.Axis place) = codes "axis," ++ get_or points place []
-which_text points names (limit.Height place) = codes "height," ++ get_or points place []
-which_text points names (limit.Redundancy owner row) = codes "redundancy," ++ (get_or names owner [] ++ (codes "," ++ decimal (row + 1)))
-which_text points names (limit.Added number) = codes "added," ++ decimal number
 
 -- an interval, at the end of a line
 abbrev pub interval_text : ℤ → ℤ → List ℕ

@@ -1,11 +1,10 @@
 -- What is reported, and of which network. This project's own.
-use Rattle.std.specs.Prelude.{◌≡◌, ℕ, ◌+◌, ◌<◌, List, ◌++◌, All, Bool, length, Some, slice_get}
+use Rattle.std.specs.Prelude.{◌≡◌, ℕ, ◌+◌, ◌<◌, List, ◌++◌, All, length, Some, slice_get}
 use Rattle.geo_model.specs.Limit.{LimitOf}
 use Rattle.geo_model.specs.Network.{NetworkOf}
 use Rattle.geo_model.specs.declared.limit.LimitKind.TheVariants as limit
 use Rattle.geo_model.specs.declared.answer.Answer.{Answer}
 use Rattle.geo_model.specs.declared.answer.Answer.TheVariants as answer
-use Rattle.geo_model.specs.declared.answer.SearchDone.{SearchDone}
 use Rattle.geo_model.specs.declared.answer.Counts.{Counts}
 use Rattle.point_tables.specs.declared.record.PointRecord.{PointRecord}
 use Rattle.point_tables.specs.PointTable as point
@@ -14,7 +13,8 @@ use Rattle.candidate_tables.specs.CandidateTable as candidate
 use Rattle.net_build.specs.Bounds.{AreTables}
 use Rattle.net_build.specs.Build.{network_of}
 use Rattle.plan_report.specs.declared.reported.Reported.{Reported}
-use Rattle.plan_report.specs.ReportText.{plan_text, no_plan_text, undecided_text, open_text, which_text}
+use Rattle.limit_lines.specs.LimitText.{limit_text}
+use Rattle.plan_report.specs.ReportText.{plan_text, no_plan_text, undecided_text, open_text}
 
 -- a limit that was added behind those of the tables
 abbrev pub IsAdded : LimitOf → Type 0
@@ -43,7 +43,7 @@ IsReport points candidates q network counts answer.NoPlan text = text ≡ no_pla
 IsReport points candidates q network counts (answer.Undecided plan number step lo hi) text =
     (given : LimitOf) → slice_get network.limits number ≡ Some given →
     text ≡ undecided_text (candidate.candidate_names candidates) network plan
-    (open_text (which_text (point.point_names points) (candidate.candidate_names candidates) given.kind) step lo hi) counts
+    (open_text (limit_text (point.point_names points) (candidate.candidate_names candidates) given.kind) step lo hi) counts
 
 -- ---- a plan that is reported; what follows is cited by private clauses alone
 

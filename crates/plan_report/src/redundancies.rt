@@ -9,11 +9,11 @@ ghost use Rattle.plan_report.specs.ReportText.{redundancy_text, row_redundancy_t
 ghost use Rattle.plan_report.specs.RowsText.{numbered};
 
 use crate::lengths::put_values;
-use crate::numbers::put_count;
 use crate::reported::Reported;
 use crate::shown::shown_redundancy;
 use geo_base::NoMemory;
 use geo_model::Candidate;
+use limit_lines::put_count;
 use pivot_chain::ChainRoom;
 use point_tables::Name;
 

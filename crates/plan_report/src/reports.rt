@@ -6,7 +6,6 @@ ghost use Rattle.plan_report.specs.Reported.{IsNetworkFor, IsAnswerFor, IsReport
 ghost use Rattle.plan_report.specs.ReportText.{take_text, takes_text, price_text, choice_text, end_text, plan_text, no_plan_text, undecided_text, count_text, counts_text, bound_text, checked_text};
 
 use crate::lengths::put_points;
-use crate::numbers::put_count;
 use crate::open_limit::open_line;
 use crate::redundancies::put_redundancies;
 use crate::reported::Reported;
@@ -15,6 +14,7 @@ use candidate_tables::Candidates;
 use geo_base::NoMemory;
 use geo_model::{Answer, Counts, Network, Plan, SearchDone, cost};
 use itoa::Buffer;
+use limit_lines::put_count;
 use pivot_chain::ChainRoom;
 use point_tables::{Name, Points};
 use std::alloc::Global;

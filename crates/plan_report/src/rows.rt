@@ -6,10 +6,11 @@ ghost use Rattle.candidate_tables.specs.CandidateTable as candidate;
 ghost use Rattle.point_tables.specs.PointTable as point;
 ghost use Rattle.plan_report.specs.RowsText.{numbered, component_text, unknown_line, unknown_text, entry_text, row_text, candidate_text, rows_text};
 
-use crate::numbers::{put_count, put_number};
+use crate::numbers::put_number;
 use candidate_tables::Candidates;
 use geo_base::NoMemory;
 use geo_model::{Candidate, Component, Network, Row, Unknown};
+use limit_lines::put_count;
 use point_tables::{Name, Points};
 use std::alloc::Global;
 

@@ -13,7 +13,8 @@ use Rattle.trial.specs.declared.answer.Reply.{Reply}
 use Rattle.trial.specs.declared.answer.Reply.TheVariants.{Done, NoCandidate, TakenAlready, NotTaken, TooDeep, NothingToUndo, Shown, TooManyShows, NotACommand}
 use Rattle.trial.specs.Script.{session_command}
 use Rattle.trial.specs.Session.{SessionOf, is_chosen, answer_to, after, is_done, shown, change_answer, undo_answer}
-use Rattle.trial.specs.TrialText.{SurveyOf, is_in_force, limit_text, limit_line, verdict_text, answer_text, reply_text}
+use Rattle.limit_lines.specs.LimitText.{limit_text}
+use Rattle.trial.specs.TrialText.{SurveyOf, is_in_force, limit_line, verdict_text, answer_text, reply_text}
 
 -- ---- limits in force
 
@@ -39,16 +40,16 @@ pub no_line : (survey : SurveyOf) (plan : List Bool) (read limit : LimitOf) (sai
 unfolding limit_line
 no_line survey plan read limit said same tests is =
     let never : is_in_force plan limit ≡ true → ⊥ = λ forced. let said_so : said ≡ true = tests.1 (subst (λ (l : LimitOf). IsInForce l plan) (sym same) (in_force plan limit.owner forced)) in absurd (cc) in
-    ap (λ (b : Bool). if b then limit_text survey limit.kind ++ verdict_text (verdict_of survey.network plan limit) else []) (not_told (is_in_force plan limit) never)
+    ap (λ (b : Bool). if b then limit_text survey.points survey.candidates limit.kind ++ verdict_text (verdict_of survey.network plan limit) else []) (not_told (is_in_force plan limit) never)
 
 -- .. and one that is has its verdict
 pub one_line : (survey : SurveyOf) (plan : List Bool) (read limit : LimitOf) (said : Bool) → read ≡ limit → (IsTrue said ↔ IsInForce read plan) → said ≡ true
-    → limit_line survey plan limit ≡ limit_text survey read.kind ++ verdict_text (verdict_of survey.network plan limit)
+    → limit_line survey plan limit ≡ limit_text survey.points survey.candidates read.kind ++ verdict_text (verdict_of survey.network plan limit)
 unfolding limit_line
 one_line survey plan read limit said same tests is =
     let forced : IsInForce limit plan = subst (λ (l : LimitOf). IsInForce l plan) same (tests.0 is) in
-    ap (λ (b : Bool). if b then limit_text survey limit.kind ++ verdict_text (verdict_of survey.network plan limit) else []) (told plan limit.owner forced)
-    ∙ ap (λ (l : LimitOf). limit_text survey l.kind ++ verdict_text (verdict_of survey.network plan limit)) (sym same)
+    ap (λ (b : Bool). if b then limit_text survey.points survey.candidates limit.kind ++ verdict_text (verdict_of survey.network plan limit) else []) (told plan limit.owner forced)
+    ∙ ap (λ (l : LimitOf). limit_text survey.points survey.candidates l.kind ++ verdict_text (verdict_of survey.network plan limit)) (sym same)
 
 -- ---- answers
 

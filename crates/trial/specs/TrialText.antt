@@ -1,18 +1,17 @@
 -- The text of a session: an answer to each line of a script. Each line of the text ends with LF.
 -- This project's own.
-use Rattle.std.specs.Prelude.{ℕ, ◌+◌, ℤ, Bool, true, if◌then◌else◌, List, [], ◌∷◌, ◌++◌, length, flat_map, get_or, codes}
+use Rattle.std.specs.Prelude.{ℕ, ℤ, Bool, true, if◌then◌else◌, List, [], ◌∷◌, ◌++◌, length, flat_map, codes}
 use Rattle.std.specs.Fmt.{decimal}
 use Rattle.std.specs.Option.{option_map_or}
 use Rattle.text_num.specs.Whole.{whole_text}
 use Rattle.geo_model.specs.Limit.{LimitOf}
 use Rattle.geo_model.specs.Network.{NetworkOf}
 use Rattle.geo_model.specs.Prices.{chooses, price_of}
-use Rattle.geo_model.specs.declared.limit.LimitKind.{LimitKind}
-use Rattle.geo_model.specs.declared.limit.LimitKind.TheVariants as limit
 use Rattle.geo_model.specs.declared.verdict.Verdict.{Verdict}
 use Rattle.geo_model.specs.declared.verdict.Verdict.TheVariants.{Met, Refuted, Open}
 use Rattle.lent_parts.specs.Pieces.{lines_of}
 use Rattle.pivot_chain.specs.Verdict.{verdict_of}
+use Rattle.limit_lines.specs.LimitText.{limit_text}
 use Rattle.trial.specs.declared.answer.Reply.{Reply}
 use Rattle.trial.specs.declared.answer.Reply.TheVariants as answer
 use Rattle.trial.specs.Script.{bodies, session_command}
@@ -25,14 +24,6 @@ pub record SurveyOf : Type 0 where
   pub network : NetworkOf
 
 -- ---- a plan that is shown
-
--- which limit it is: the axis or the height of a point, a row of a candidate, counted from 1,
--- or one that was added
-unfoldable pub limit_text : SurveyOf → LimitKind → List ℕ
-limit_text survey (limit.Axis place) = codes "axis," ++ get_or survey.points place []
-limit_text survey (limit.Height place) = codes "height," ++ get_or survey.points place []
-limit_text survey (limit.Redundancy owner row) = codes "redundancy," ++ (get_or survey.candidates owner [] ++ (codes "," ++ decimal (row + 1)))
-limit_text survey (limit.Added number) = codes "added," ++ decimal number
 
 -- an open verdict, at the end of a line: the step of its chain, and the interval there
 abbrev pub open_verdict_text : ℕ → ℤ → ℤ → List ℕ
@@ -51,7 +42,7 @@ is_in_force plan limit = option_map_or (chooses plan) limit.owner true
 -- the line of a limit, where it is in force: its verdict is that of the plan, from nothing
 unfoldable pub limit_line : SurveyOf → List Bool → LimitOf → List ℕ
 limit_line survey plan limit =
-    if is_in_force plan limit then limit_text survey limit.kind ++ verdict_text (verdict_of survey.network plan limit) else []
+    if is_in_force plan limit then limit_text survey.points survey.candidates limit.kind ++ verdict_text (verdict_of survey.network plan limit) else []
 
 -- the price of a plan, and the lines of the limits in force, in their order
 abbrev pub shown_plan_text : SurveyOf → List Bool → List ℕ

@@ -10,7 +10,6 @@
 mod answer;
 mod command;
 mod laws;
-mod limit_name;
 mod script;
 mod session;
 mod shown;

@@ -5,11 +5,11 @@ ghost use Rattle.trial.specs.Stacks.{IsSessionOf};
 ghost use Rattle.trial.specs.Surveyed.{survey_of};
 ghost use Rattle.trial.specs.TrialText.{limit_line, open_verdict_text, shown_plan_text, verdict_text};
 
-use crate::limit_name::{put_count, put_limit_name};
 use crate::session::Session;
 use crate::survey::Survey;
 use geo_base::NoMemory;
 use geo_model::{Verdict, cost};
+use limit_lines::{put_count, put_limit_name};
 use text_num::put_whole;
 
 // Appends the step and the interval of an open verdict, and ends its line.
@@ -55,7 +55,7 @@ fn put_limit(
     if !limit.is_in_force(&session.plan) {
         return Ok(());
     }
-    put_limit_name(text, survey, limit.kind)?;
+    put_limit_name(text, survey.points, survey.candidates, limit.kind)?;
     put_verdict(text, session.stacks[number].verdict())
 }
 

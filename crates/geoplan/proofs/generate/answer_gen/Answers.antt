@@ -16,5 +16,5 @@ returns-in-Err-Failed g c =
 pub returns-in-Err-NoMemory : goal.returns-in-Err-NoMemory
 returns-in-Err-NoMemory g c =
     Generates-out (sources_view c.args.sources.now) (g.H.Shelf.state c.args.shelf.now) (g.H.Shelf.state c.write_tables.new.shelf)
-    c.silent-in-Err-NoMemory.result.status c.silent-in-Err-NoMemory.result.text.items c.in-Err-NoMemory.field-0 c.in-Err-NoMemory.ensures.fault
+    c.silent-in-Err-NoMemory.result.status c.silent-in-Err-NoMemory.result.text.items c.in-Err-NoMemory.field-0 c.in-Err-NoMemory.ensures.fault c.in-Err-NoMemory.field-0-is
     c.silent-in-Err-NoMemory.ensures.status c.silent-in-Err-NoMemory.ensures.text

@@ -18,4 +18,4 @@ returns-in-Err-WriteFault g c =
 pub returns-in-Err-NoMemory : goal.returns-in-Err-NoMemory
 returns-in-Err-NoMemory g c =
     Plans-out c.args.tables.now c.args.log.now c.in-Err-NoMemory.field-0 (g.H.Shelf.state c.args.shelf.now) (g.H.Shelf.state c.solve.new.shelf)
-    c.silent-in-Err-NoMemory.result.status c.silent-in-Err-NoMemory.result.text.items c.in-Err-NoMemory.ensures.fault c.silent-in-Err-NoMemory.ensures.status c.silent-in-Err-NoMemory.ensures.text
+    c.silent-in-Err-NoMemory.result.status c.silent-in-Err-NoMemory.result.text.items c.in-Err-NoMemory.ensures.fault c.in-Err-NoMemory.field-0-is c.silent-in-Err-NoMemory.ensures.status c.silent-in-Err-NoMemory.ensures.text

@@ -8,14 +8,14 @@ returns-in-Err-Failed-clause-fault g c =
     FailsSolve-start c.args.tables.now c.args.log.now search.WriteFault
     (g.H.Shelf.state c.args.shelf.now)
     (g.H.Shelf.state c.start.new.self)
-    c.in-Err-Failed.ensures.refused c.start.ensures.cause.later (λ is. c.start.ensures.cause.failed (c.in-Err-Failed.is ∙ ap Err c.in-Err-Failed.field-0-is))
+    c.in-Err-Failed.ensures.refused c.start.ensures.cause.later (λ is. c.start.ensures.cause.failed (c.in-Err-Failed.is ∙ ap Err c.in-Err-Failed.field-0-is)) (λ is. absurd (cc))
 
 pub returns-in-Err-NoMemory-clause-fault : goal.returns-in-Err-NoMemory-clause-fault
 returns-in-Err-NoMemory-clause-fault g c =
     FailsSolve-start c.args.tables.now c.args.log.now search.NoMemory
     (g.H.Shelf.state c.args.shelf.now)
     (g.H.Shelf.state c.start.new.self)
-    c.in-Err-NoMemory.ensures.refused c.start.ensures.cause.later (λ is. absurd (cc))
+    c.in-Err-NoMemory.ensures.refused c.start.ensures.cause.later (λ is. absurd (cc)) (λ is. c.start.ensures.cause.no_memory (c.in-Err-NoMemory.is ∙ ap Err c.in-Err-NoMemory.field-0-is))
 
 pub returns-clause-solved : goal.returns-clause-solved
 returns-clause-solved g c =

@@ -1,7 +1,7 @@
 use Rattle.std.proofs.Common.{sym, ◌∙◌}
 use Rattle.geoplan.proofs.FaultLemmas.{unwritten-of, others-of, untouched-of, shelf_told-of, out_told-of}
 use Rattle.geoplan.proofs.MemoryLemmas.{ran_out-of, complete-of, refused-of, refusals-of}
-use Rattle.geoplan.proofs.TopLemmas.{done-of, none-of, undecided-of, words-of, refused_table-of, unread-of, log_refused-of, too_long-of}
+use Rattle.geoplan.proofs.TopLemmas.{done-of, none-of, undecided-of, words-of, refused_table-of, unread-of, log_refused-of, too_long-of, cuts_refused-of}
 use Rattle.geoplan.proofs.top.geoplan.Goals as goal
 
 pub returns-clause-done : goal.returns-clause-done
@@ -58,6 +58,12 @@ returns-clause-log_refused g c = λ is.
     (g.H.Shelf.state c.args.shelf.now) (g.H.Shelf.state c.run.new.shelf) (g.O.Sink.state c.args.out.now) (g.O.Sink.state c.run.new.out)
     c.run.ensures (sym c.code.ensures ∙ is)
 
+pub returns-clause-cuts_refused : goal.returns-clause-cuts_refused
+returns-clause-cuts_refused g c = λ is.
+    cuts_refused-of c.args.words.now c.run.result
+    (g.H.Shelf.state c.args.shelf.now) (g.H.Shelf.state c.run.new.shelf) (g.O.Sink.state c.args.out.now) (g.O.Sink.state c.run.new.out)
+    c.run.ensures (sym c.code.ensures ∙ is)
+
 pub returns-clause-refused : goal.returns-clause-refused
 returns-clause-refused g c = λ none.
     rw c.code.ensures (refused-of c.args.words.now c.run.result
@@ -68,7 +74,7 @@ pub returns-clause-out_of_memory : goal.returns-clause-out_of_memory
 returns-clause-out_of_memory g c = λ is.
     ran_out-of c.args.words.now c.run.result
     (g.H.Shelf.state c.args.shelf.now) (g.H.Shelf.state c.run.new.shelf) (g.O.Sink.state c.args.out.now) (g.O.Sink.state c.run.new.out)
-    c.run.ensures
+    c.run.ensures (sym c.code.ensures ∙ is)
 
 pub returns-clause-complete : goal.returns-clause-complete
 returns-clause-complete g c = λ command is quiet quiet_sink files told.

@@ -1,10 +1,8 @@
-use Rattle.std.proofs.Common.{rules, ◌≡◌, ◌+◌, ◌<◌, ◌≤◌, Some, length, slice_get, sym, ◌∙◌, subst, arith, Fits, w32}
-use Rattle.std.proofs.lemmas.Option.{slice_get_within}
-use Rattle.geo_model.specs.Limit.{LimitOf}
-use Rattle.pivot_chain.proofs.Values.{same_found}
+use Rattle.std.proofs.Common.{rules, ◌<◌, ◌≤◌, length, sym, ◌∙◌, subst}
+use Rattle.std.proofs.lemmas.Option.{slice_get_within, same_Some}
 use Rattle.plan_report.specs.Shown.{length_limit, limited_part, TakesLengths}
 use Rattle.plan_report.proofs.LimitPlaces.{takes_lengths}
-use Rattle.plan_report.proofs.PartLines.{no_line, no_limit, part_stands, one_limit, shown_is, one_line}
+use Rattle.plan_report.proofs.PartLines.{no_line, no_limit, part_stands, shown_is, one_line}
 use Rattle.plan_report.proofs.lengths.put_part.Goals as goal
 
 pub returns-in_default : goal.returns-in_default
@@ -25,7 +23,7 @@ shown_length-shown-requires-clause-takes c = λ l found.
     let reported = c.args.reported.now in
     let given = length_limit c.args.kind reported.network.now.unknowns c.args.place c.in-New.limit in
     let stands = part_stands reported.network.now.limits c.args.number c.in-New.limit (length_limit c.args.kind reported.network.now.unknowns c.args.place) (limited_part c.args.kind c.args.point.now) c.in-New.ensures c.requires.number in
-    subst (TakesLengths reported.network.now) (same_found given l (sym stands ∙ found))
+    subst (TakesLengths reported.network.now) (same_Some given l (sym stands ∙ found))
     (takes_lengths reported.points.now reported.candidates.now reported.q reported.network.now c.args.kind c.args.place c.in-New.limit c.requires.reported.network)
 
 pub overflow_add-result : goal.overflow_add-result

@@ -1,7 +1,6 @@
-use Rattle.std.proofs.Common.{◌≡◌, ◌+◌, ◌++◌, length, sym, ◌∙◌, ap, arith, length-append}
+use Rattle.std.proofs.Common.{arith, length-append}
 use Rattle.net_build.specs.Build.{axis_limit, height_limit, limits_of_part, limits_of_point}
 use Rattle.plan_report.proofs.LimitPlaces.{stand_first, stand_second}
-use Rattle.plan_report.proofs.Numbered.{before}
 use Rattle.plan_report.proofs.lengths.put_point.Goals as goal
 
 pub put_part-requires-clause-number : goal.put_part-requires-clause-number

@@ -1,4 +1,4 @@
-use Rattle.std.proofs.Common.{rules, ◌≡◌, arith}
+use Rattle.std.proofs.Common.{rules, arith}
 use Rattle.std.proofs.lemmas.Option.{slice_get_within}
 use Rattle.candidate_tables.specs.CandidateTable.{candidate_names}
 use Rattle.plan_report.proofs.RedundancyLines.{chosen_is, left_is}

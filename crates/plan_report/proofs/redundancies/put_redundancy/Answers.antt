@@ -2,7 +2,7 @@ use Rattle.std.specs.Prelude.{codes}
 use Rattle.std.specs.Fmt.{decimal}
 use Rattle.std.proofs.Common.{◌++◌, ◌∙◌, ap}
 use Rattle.plan_report.specs.ReportText.{values_text}
-use Rattle.plan_report.proofs.Numbered.{before}
+use Rattle.limit_lines.proofs.Pieces.{before}
 use Rattle.plan_report.proofs.redundancies.put_redundancy.Goals as goal
 
 pub returns : goal.returns

@@ -1,4 +1,4 @@
-use Rattle.std.proofs.Common.{◌≡◌, ◌+◌, ◌++◌, ◌∙◌, ap, ap₂}
+use Rattle.std.proofs.Common.{◌+◌, ◌++◌, ◌∙◌, ap₂}
 use Rattle.plan_report.specs.ReportText.{redundancy_text}
 use Rattle.plan_report.specs.Shown.{redundancy_of}
 use Rattle.plan_report.proofs.redundancies.put_row.Goals as goal

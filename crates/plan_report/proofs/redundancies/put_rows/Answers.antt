@@ -1,11 +1,10 @@
 use Rattle.std.specs.Prelude.{sum_by}
 use Rattle.std.proofs.Common.{rules, ◌≡◌, ◌<◌, ◌≤◌, ◌++◌, [], get_or, length, sym, ◌∙◌, ap, subst, arith}
 use Rattle.std.proofs.lemmas.List.{append-nil, take_all}
-use Rattle.std.proofs.lemmas.Option.{slice_get_within}
+use Rattle.std.proofs.lemmas.Option.{slice_get_within, same_Some}
 use Rattle.geo_model.specs.Candidate.{CandidateOf}
 use Rattle.candidate_tables.specs.CandidateTable.{candidate_names}
 use Rattle.candidate_tables.specs.declared.record.CandidateRecord.{CandidateRecord}
-use Rattle.pivot_chain.proofs.Values.{same_found}
 use Rattle.plan_report.specs.ReportText.{row_redundancy_text}
 use Rattle.plan_report.specs.RowsText.{numbered}
 use Rattle.plan_report.proofs.LimitPlaces.{as_many}
@@ -43,7 +42,7 @@ put_row-requires-clause-row c = λ owner found.
     let size : c.len-place-end.result ≡ length c.args.candidate.now.rows = c.len-place-end.ensures ∙ c.candidate.inside.rows.ok.0 ∙ ap (λ (v : CandidateOf). length v.rows) c.candidate.view_is in
     let test = c.rows-test.true in
     let here : c.rows.place < length c.args.candidate.now.rows = omega arith in
-    subst (λ (v : CandidateOf). c.rows.place < length v.rows) (same_found c.args.candidate.now owner (sym c.requires.owner ∙ found)) here
+    subst (λ (v : CandidateOf). c.rows.place < length v.rows) (same_Some c.args.candidate.now owner (sym c.requires.owner ∙ found)) here
 
 pub rows-preserved : goal.rows-preserved
 rows-preserved c =

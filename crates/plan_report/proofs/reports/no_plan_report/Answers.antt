@@ -1,5 +1,4 @@
 use Rattle.std.specs.Prelude.{codes}
-use Rattle.std.proofs.Common.{◌++◌}
 use Rattle.plan_report.specs.ReportText.{counts_text}
 use Rattle.plan_report.proofs.ReportLines.{three_pieces}
 use Rattle.plan_report.proofs.reports.no_plan_report.Goals as goal

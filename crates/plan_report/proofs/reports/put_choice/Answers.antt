@@ -4,7 +4,7 @@ use Rattle.geo_model.specs.Prices.{price_of}
 use Rattle.candidate_tables.specs.CandidateTable.{candidate_names}
 use Rattle.plan_report.specs.ReportText.{price_text, takes_text}
 use Rattle.plan_report.proofs.LimitPlaces.{as_many}
-use Rattle.plan_report.proofs.Numbered.{before}
+use Rattle.limit_lines.proofs.Pieces.{before}
 use Rattle.plan_report.proofs.reports.put_choice.Goals as goal
 
 pub put_takes-requires : goal.put_takes-requires

@@ -2,7 +2,7 @@ use Rattle.std.specs.Prelude.{codes}
 use Rattle.std.proofs.Common.{◌++◌, ◌∙◌, ap}
 use Rattle.geo_model.specs.Prices.{price_of}
 use Rattle.plan_report.specs.ReportText.{price_text, counts_text}
-use Rattle.plan_report.proofs.Numbered.{before}
+use Rattle.limit_lines.proofs.Pieces.{before}
 use Rattle.plan_report.proofs.reports.put_end.Goals as goal
 
 pub returns : goal.returns

@@ -1,5 +1,4 @@
 use Rattle.std.specs.Prelude.{codes}
-use Rattle.std.proofs.Common.{◌++◌}
 use Rattle.candidate_tables.specs.CandidateTable.{candidate_names}
 use Rattle.plan_report.specs.ReportText.{choice_text, end_text, undecided_text}
 use Rattle.plan_report.proofs.ReportLines.{four_pieces}

@@ -1,8 +1,8 @@
-use Rattle.std.proofs.Common.{rules, ◌≡◌, ◌+◌, ◌/◌, ◌≤◌, true, false, refl, sym, ◌∙◌, ap, arith, Fits, w32}
+use Rattle.std.proofs.Common.{rules, refl, sym, ◌∙◌, ap, arith}
 use Rattle.std.specs.Prelude.{not}
 use Rattle.geo_model.specs.Values.{row_limit}
 use Rattle.pivot_chain.specs.Verdict.{verdict_of}
-use Rattle.plan_report.specs.Shown.{is_met, halved}
+use Rattle.plan_report.specs.Shown.{is_met}
 use Rattle.plan_report.proofs.Halving.{halved_near, halved_down, halved_up, middle_below, middle_above}
 use Rattle.plan_report.proofs.shown.shown_redundancy.Goals as goal
 

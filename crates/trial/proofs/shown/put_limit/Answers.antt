@@ -9,7 +9,8 @@ use Rattle.pivot_chain.specs.Verdict.{verdict_of}
 use Rattle.geo_model.proofs.SumSteps.{same_limit}
 use Rattle.trial.specs.Stacks.{IsStackAt}
 use Rattle.trial.specs.Surveyed.{survey_of}
-use Rattle.trial.specs.TrialText.{limit_text, verdict_text}
+use Rattle.limit_lines.specs.LimitText.{limit_text}
+use Rattle.trial.specs.TrialText.{verdict_text}
 use Rattle.trial.proofs.Zips.{zip_at, zip_long}
 use Rattle.trial.proofs.Lines.{no_line, one_line}
 use Rattle.trial.proofs.shown.put_limit.Goals as goal
@@ -42,7 +43,7 @@ returns c = λ limit found.
     let verdict = c.verdict.ensures.exact network limit c.limits.ensures.bounds one.made (ap (slice_get network.limits) one.limit ∙ found) ∙ ap (λ (p : List Bool). verdict_of c.args.survey.now.network.now p limit) one.holds in
     let kind = ap (λ (l : LimitOf). l.kind) c.limit.view_is in
     subst (λ (t : List ℕ). OnOk c.put_verdict.result (c.put_verdict.new.text.items ≡ t))
-    (ap (λ (t : List ℕ). t ++ verdict_text c.verdict.result) c.in_ok-put_limit_name.ensures ∙ append_assoc before (limit_text survey c.limit.inside.kind) (verdict_text c.verdict.result)
+    (ap (λ (t : List ℕ). t ++ verdict_text c.verdict.result) c.in_ok-put_limit_name.ensures ∙ append_assoc before (limit_text survey.points survey.candidates c.limit.inside.kind) (verdict_text c.verdict.result)
     ∙ ap (λ (t : List ℕ). c.args.text.now.items ++ t)
-    (ap₂ (λ (k : LimitKind) (v : Verdict). limit_text (survey_of c.args.survey.now) k ++ verdict_text v) kind verdict
+    (ap₂ (λ (k : LimitKind) (v : Verdict). limit_text survey.points survey.candidates k ++ verdict_text v) kind verdict
     ∙ sym (one_line survey session.plan read limit c.is_in_force.result same c.is_in_force.ensures c.if-not-is_in_force.false))) c.put_verdict.ensures

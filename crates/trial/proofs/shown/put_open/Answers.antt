@@ -3,7 +3,7 @@ use Rattle.std.specs.Fmt.{decimal}
 use Rattle.std.proofs.Common.{◌++◌, ◌∙◌, ap}
 use Rattle.std.proofs.lemmas.Int.{to_z-of_z}
 use Rattle.text_num.specs.Whole.{whole_text}
-use Rattle.trial.proofs.Texts.{seven_pieces}
+use Rattle.limit_lines.proofs.Pieces.{seven_pieces}
 use Rattle.trial.proofs.shown.put_open.Goals as goal
 
 pub returns : goal.returns
