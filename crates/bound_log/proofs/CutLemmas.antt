@@ -1,18 +1,18 @@
 -- The words of cuts: their bytes, and that each cut has its own.
 use Rattle.std.proofs.Common.{◌≡◌, ◌==◌, if◌then◌else◌, ℕ, suc, ◌<◌, false, List, [], ◌∷◌, get_or, length, All, arith, refl, ap, ap₂, sym, ◌∙◌, subst}
-use Rattle.std.specs.Prelude.{ℤ, pos, negsuc, neg_ℤ, unsigned_abs, flat_map}
+use Rattle.std.specs.Prelude.{ℤ, pos, negsuc, neg_ℤ, unsigned_abs}
 use Rattle.std.specs.Fmt.{decimal, signed_decimal}
 use Rattle.std.specs.Int.{IsInRange}
 use Rattle.std.specs.Str.Parse.{AllDigits, digits_value}
 use Rattle.std.proofs.lemmas.Bool.{ne_eqb}
 use Rattle.std.proofs.lemmas.Fmt.{decimal_nonempty}
-use Rattle.std.proofs.lemmas.List.Elements.{All-nil, All-cons, All-weaker}
+use Rattle.std.proofs.lemmas.List.Elements.{All-nil, All-cons}
 use Rattle.std.proofs.lemmas.Str.Parse.{digit_from_value}
 use Rattle.bound_log.specs.CutReading.{PairBegins, CutBegins, after_cut, after_pair, cut_in, pair_in, signed_value}
-use Rattle.bound_log.specs.CutText.{CutTextOf, cut_numbers, cut_words, pair_numbers, pair_words, pairs_words}
+use Rattle.bound_log.specs.CutText.{CutTextOf, cut_numbers, cut_words, pair_numbers, pair_words}
 use Rattle.bound_log.specs.Numbers.{AreShort, IsNumberText, IsSigned, number_bound}
-use Rattle.bound_log.proofs.ItemLemmas.{Kind, head_reads, some_words}
-use Rattle.bound_log.proofs.NumberLemmas.{decimal-apart, decimal-bytes, decimal-digits, decimal-value}
+use Rattle.bound_log.proofs.ItemLemmas.{Kind, head_reads, some_words, head_bytes, number_bytes}
+use Rattle.bound_log.proofs.NumberLemmas.{decimal-apart, decimal-digits, decimal-value}
 
 -- ---- numbers with a sign
 
@@ -25,28 +25,6 @@ no_minus n rest small same =
 
 after_first : (c : ℕ) (xs ys : List ℕ) → c ∷ xs ≡ c ∷ ys → xs ≡ ys
 after_first c xs ys same = cc
-
--- ---- bytes
-
--- what holds of digits and of `-` holds of each byte of a number
-module _ (P : ℕ → Type 0) (digit : (c : ℕ) → IsInRange 48 57 c → P c) (minus : P 45) where
-  pub number_bytes : (n : ℕ) → n < number_bound → All P (decimal n)
-  number_bytes n small = All-weaker (IsInRange 48 57) P digit (decimal n) (decimal-bytes n small)
-
-  signed_bytes : (z : ℤ) → unsigned_abs z < number_bound → All P (signed_decimal z)
-  signed_bytes (pos n) small = number_bytes n small
-  signed_bytes (negsuc n) small = All-cons P 45 (decimal (suc n)) minus (number_bytes (suc n) small)
-
-  pairs_bytes : (pairs : List (ℕ × ℤ)) → AreShort (flat_map pair_numbers pairs) → All (All P) (pairs_words pairs)
-  pairs_bytes [] short = All-nil (All P)
-  pairs_bytes (pair ∷ pairs) short =
-      All-cons (All P) (decimal pair.0) (signed_decimal pair.1 ∷ pairs_words pairs) (number_bytes pair.0 short.0)
-      (All-cons (All P) (signed_decimal pair.1) (pairs_words pairs) (signed_bytes pair.1 short.1.0) (pairs_bytes pairs short.1.1))
-
-  pub cut_bytes : (cut : CutTextOf) → AreShort (cut_numbers cut) → All (All P) (cut_words cut)
-  cut_bytes cut short =
-      All-cons (All P) (decimal cut.limit) (decimal (length cut.pairs) ∷ pairs_words cut.pairs) (number_bytes cut.limit short.0)
-      (All-cons (All P) (decimal (length cut.pairs)) (pairs_words cut.pairs) (number_bytes (length cut.pairs) short.1.0) (pairs_bytes cut.pairs short.1.1))
 
 -- ---- pairs are read from their words
 
@@ -73,6 +51,22 @@ pair_reads front pair rest begins =
 -- pairs as items
 abbrev pub pair_kind : Kind (ℕ × ℤ)
 pair_kind = record { words = pair_words; numbers = pair_numbers; read = pair_in; after = after_pair; reads = pair_reads; some = λ pair rest is. some_words (decimal pair.0) (signed_decimal pair.1 ∷ rest) is }
+
+-- ---- bytes
+
+-- what holds of digits and of `-` holds of each byte of a cut
+module _ (P : ℕ → Type 0) (digit : (c : ℕ) → IsInRange 48 57 c → P c) (minus : P 45) where
+  signed_bytes : (z : ℤ) → unsigned_abs z < number_bound → All P (signed_decimal z)
+  signed_bytes (pos n) small = number_bytes P digit n small
+  signed_bytes (negsuc n) small = All-cons P 45 (decimal (suc n)) minus (number_bytes P digit (suc n) small)
+
+  pair_bytes : (pair : ℕ × ℤ) → AreShort (pair_numbers pair) → All (All P) (pair_words pair)
+  pair_bytes pair short =
+      All-cons (All P) (decimal pair.0) (signed_decimal pair.1 ∷ []) (number_bytes P digit pair.0 short.0)
+      (All-cons (All P) (signed_decimal pair.1) [] (signed_bytes pair.1 short.1.0) (All-nil (All P)))
+
+  pub cut_bytes : (cut : CutTextOf) → AreShort (cut_numbers cut) → All (All P) (cut_words cut)
+  cut_bytes cut short = head_bytes pair_kind P digit pair_bytes cut.limit cut.pairs short
 
 -- ---- cuts are read from their words
 

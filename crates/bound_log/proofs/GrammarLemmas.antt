@@ -20,8 +20,8 @@ use Rattle.bound_log.specs.CutText.{CutTextOf, cut_numbers, cut_words}
 use Rattle.bound_log.specs.DualText.{dual_numbers, dual_words}
 use Rattle.bound_log.specs.Numbers.{AreShort}
 use Rattle.bound_log.proofs.CutLemmas.{cut_bytes, cut_reads}
-use Rattle.bound_log.proofs.DualLemmas.{after_dual, divisor_in, dual_bytes, dual_reads, dual_shares_in}
-use Rattle.bound_log.proofs.ItemLemmas.{some_words}
+use Rattle.bound_log.proofs.DualLemmas.{dual_bytes, share_kind}
+use Rattle.bound_log.proofs.ItemLemmas.{some_words, after_head, head_items, head_number, head_reads}
 use Rattle.bound_log.proofs.NumberLemmas.{decimal-bytes, decimal-value}
 
 -- ---- bytes that no word has
@@ -136,14 +136,14 @@ line_as kind words =
     if kind == 115 then Split (digits_value 10 (first_word words))
     else (if kind == 112 then Leaf (Pivot (digits_value 10 (first_word words)))
     else (if kind == 120 then Leaf (Cut (cut_in words))
-    else (if kind == 100 then Leaf (Dual (divisor_in words) (dual_shares_in words)) else Leaf Cost)))
+    else (if kind == 100 then Leaf (Dual (head_number words) (head_items share_kind words)) else Leaf Cost)))
 
 abbrev after_as : ℕ → List (List ℕ) → List (List ℕ)
 after_as kind words =
     if kind == 115 then later_words words
     else (if kind == 112 then later_words words
     else (if kind == 120 then after_cut words
-    else (if kind == 100 then after_dual words else words)))
+    else (if kind == 100 then after_head share_kind words else words)))
 
 -- the line that words may begin with, and the words after it
 abbrev pub line_in : List (List ℕ) → LogLine
@@ -169,8 +169,8 @@ reads_line (Leaf (Cut cut)) rest small =
     let reads = cut_reads (cut_words cut ++ rest) cut rest (record { spelled = refl; short = small }) in
     record { line_is = ap (λ (c : CutTextOf). Leaf (Cut c)) reads.0; after_is = reads.1 }
 reads_line (Leaf (Dual divisor shares)) rest small =
-    let reads = dual_reads divisor shares rest small in
-    record { line_is = ap₂ (λ (d : ℕ) (s : List (ℕ × CutTextOf)). Leaf (Dual d s)) reads.divisor_is reads.shares_are; after_is = reads.after_is }
+    let reads = head_reads share_kind divisor shares rest small in
+    record { line_is = ap₂ (λ (d : ℕ) (s : List (ℕ × CutTextOf)). Leaf (Dual d s)) reads.number_is reads.items_are; after_is = reads.after_is }
 
 record SameLine (a b : LogLine) (x y : List (List ℕ)) : Type 0 where
   line : a ≡ b

@@ -1,14 +1,16 @@
 -- What is spelled by words, one after another: pairs of a cut, shares of a dual bound.
-use Rattle.std.proofs.Common.{◌≡◌, ℕ, zero, suc, ◌+◌, ◌-◌, ◌<◌, ◌≤◌, List, [], ◌∷◌, ◌++◌, length, length-append, Option, Some, None, IfSome, IfNone, MatchOption, append-nil, append_assoc, arith, refl, ap, ap₂, sym, ◌∙◌, subst}
+use Rattle.std.proofs.Common.{◌≡◌, ℕ, zero, suc, ◌+◌, ◌-◌, ◌<◌, ◌≤◌, List, [], ◌∷◌, ◌++◌, length, length-append, Option, Some, None, IfSome, IfNone, MatchOption, append-nil, append_assoc, arith, refl, ap, ap₂, sym, ◌∙◌, subst, All}
 use Rattle.std.specs.Prelude.{flat_map}
 use Rattle.std.proofs.lemmas.Grind.{flat_map-append}
 use Rattle.std.specs.Fmt.{decimal}
 use Rattle.std.specs.Str.Parse.{digits_value}
+use Rattle.std.specs.Int.{IsInRange}
+use Rattle.std.proofs.lemmas.List.Elements.{All-nil, All-cons, All-append, All-weaker}
 use Rattle.lent_parts.specs.Pieces.{TokenOf}
 use Rattle.lent_parts.specs.Pieces.{words_of}
 use Rattle.bound_log.specs.Numbers.{AreShort, IsNumberText, number_bound}
 use Rattle.bound_log.specs.Reading.{BeginsWithItem, ManyBegin, after_items, items_in}
-use Rattle.bound_log.proofs.NumberLemmas.{decimal-apart, decimal-value}
+use Rattle.bound_log.proofs.NumberLemmas.{decimal-apart, decimal-value, decimal-bytes}
 
 -- ---- short numbers
 
@@ -257,6 +259,21 @@ pub record HeadBegins {X : Type 0} (kind : Kind X) (words : List (List ℕ)) (nu
   pub spelled : words ≡ decimal number ∷ decimal (length items) ∷ (flat_map kind.words items ++ rest)
   pub short : AreShort (number ∷ length items ∷ flat_map kind.numbers items)
 
+-- what is read where words begin so, and the words after it
+abbrev pub head_number : List (List ℕ) → ℕ
+head_number [] = 0
+head_number (number ∷ words) = digits_value 10 number
+
+abbrev pub head_items : {X : Type 0} → Kind X → List (List ℕ) → List X
+head_items kind [] = []
+head_items kind (number ∷ []) = []
+head_items kind (number ∷ count ∷ words) = read_items kind (digits_value 10 count) words
+
+abbrev pub after_head : {X : Type 0} → Kind X → List (List ℕ) → List (List ℕ)
+after_head kind [] = []
+after_head kind (number ∷ []) = []
+after_head kind (number ∷ count ∷ words) = after_read kind (digits_value 10 count) words
+
 -- they are what is read there
 pub record HeadReads {X : Type 0} (kind : Kind X) (number : ℕ) (items : List X) (rest : List (List ℕ)) : Type 0 where
   pub number_is : number ≡ digits_value 10 (decimal number)
@@ -302,3 +319,24 @@ no_head kind words first second l m number count is_number front is_count middle
     let both = two_words l m (decimal other) (decimal (length items)) second (flat_map kind.words items ++ rest) (sym (front ∙ ap (λ (ws : List (List ℕ)). l ∷ ws) middle) ∙ begins.spelled) in
     let same : length items ≡ count = one_number m (length items) count (record { spelled = both.second; size = begins.short.1.0 }) is_count in
     missing items rest (record { counted = same; spelled = both.rest; short = begins.short.1.1 })
+
+-- ---- bytes
+
+-- what holds of each digit holds of each byte of a number
+pub number_bytes : (P : ℕ → Type 0) → ((c : ℕ) → IsInRange 48 57 c → P c) → (n : ℕ) → n < number_bound → All P (decimal n)
+number_bytes P digit n small = All-weaker (IsInRange 48 57) P digit (decimal n) (decimal-bytes n small)
+
+-- where it holds of each byte of an item, it does of items, and of a number, how many items follow, and the items
+items_bytes : {X : Type 0} (kind : Kind X) (P : ℕ → Type 0) → ((item : X) → AreShort (kind.numbers item) → All (All P) (kind.words item)) →
+    (items : List X) → AreShort (flat_map kind.numbers items) → All (All P) (flat_map kind.words items)
+items_bytes kind P one [] short = All-nil (All P)
+items_bytes kind P one (item ∷ items) short =
+    All-append (All P) (kind.words item) (flat_map kind.words items)
+    (one item (short_first (kind.numbers item) (flat_map kind.numbers items) short))
+    (items_bytes kind P one items (short_rest (kind.numbers item) (flat_map kind.numbers items) short))
+
+pub head_bytes : {X : Type 0} (kind : Kind X) (P : ℕ → Type 0) → ((c : ℕ) → IsInRange 48 57 c → P c) → ((item : X) → AreShort (kind.numbers item) → All (All P) (kind.words item)) →
+    (number : ℕ) (items : List X) → AreShort (number ∷ length items ∷ flat_map kind.numbers items) → All (All P) (decimal number ∷ decimal (length items) ∷ flat_map kind.words items)
+head_bytes kind P digit one number items short =
+    All-cons (All P) (decimal number) (decimal (length items) ∷ flat_map kind.words items) (number_bytes P digit number short.0)
+    (All-cons (All P) (decimal (length items)) (flat_map kind.words items) (number_bytes P digit (length items) short.1.0) (items_bytes kind P one items short.1.1))

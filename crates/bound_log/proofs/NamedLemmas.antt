@@ -18,19 +18,18 @@ use Rattle.bound_log.specs.UseText.{use_dual_numbers, use_dual_words}
 use Rattle.bound_log.specs.declared.named_line.NamedLine.{NamedLine}
 use Rattle.bound_log.specs.declared.named_line.NamedLine.TheVariants.{Split, Cost, Pivot, Named, UseCut, UseDual}
 use Rattle.bound_log.proofs.CutLemmas.{cut_reads}
-use Rattle.bound_log.proofs.DualLemmas.{divisor_in}
 use Rattle.bound_log.proofs.GrammarLemmas.{NoFeed, NoSpace, cut_no_feed, cut_no_space, first_word, joined_words, later_words, one_byte, pair_no_feed, pair_no_space}
-use Rattle.bound_log.proofs.ItemLemmas.{some_words}
+use Rattle.bound_log.proofs.ItemLemmas.{some_words, after_head, head_items, head_number, head_reads}
 use Rattle.bound_log.proofs.NumberLemmas.{decimal-value}
-use Rattle.bound_log.proofs.UseLemmas.{after_use_dual, dual_uses_in, use_dual_bytes, use_dual_reads}
+use Rattle.bound_log.proofs.UseLemmas.{use_dual_bytes, use_kind}
 
 -- ---- bytes that no word has
 
 use_no_space : (divisor : ℕ) (uses : List (ℕ × ℕ)) → AreShort (use_dual_numbers divisor uses) → All (All NoSpace) (use_dual_words divisor uses)
-use_no_space divisor uses short = use_dual_bytes NoSpace (λ c digit. ne_eqb c 32 (λ same. omega (arith, digit.0))) refl divisor uses short
+use_no_space divisor uses short = use_dual_bytes NoSpace (λ c digit. ne_eqb c 32 (λ same. omega (arith, digit.0))) divisor uses short
 
 use_no_feed : (divisor : ℕ) (uses : List (ℕ × ℕ)) → AreShort (use_dual_numbers divisor uses) → All (All NoFeed) (use_dual_words divisor uses)
-use_no_feed divisor uses short = use_dual_bytes NoFeed (λ c digit. ne_eqb c 10 (λ same. omega (arith, digit.0))) refl divisor uses short
+use_no_feed divisor uses short = use_dual_bytes NoFeed (λ c digit. ne_eqb c 10 (λ same. omega (arith, digit.0))) divisor uses short
 
 pub named_body-no_feed : (line : NamedLine) → AreShort (named_numbers line) → All NoFeed (named_body line)
 named_body-no_feed (Split candidate) small = pair_no_feed 115 candidate refl small.0
@@ -92,7 +91,7 @@ named_as kind words =
     else (if kind == 112 then Pivot (digits_value 10 (first_word words))
     else (if kind == 107 then Named (cut_in words)
     else (if kind == 120 then UseCut (digits_value 10 (first_word words))
-    else (if kind == 100 then UseDual (divisor_in words) (dual_uses_in words) else Cost))))
+    else (if kind == 100 then UseDual (head_number words) (head_items use_kind words) else Cost))))
 
 abbrev after_named_as : ℕ → List (List ℕ) → List (List ℕ)
 after_named_as kind words =
@@ -100,7 +99,7 @@ after_named_as kind words =
     else (if kind == 112 then later_words words
     else (if kind == 107 then after_cut words
     else (if kind == 120 then later_words words
-    else (if kind == 100 then after_use_dual words else words))))
+    else (if kind == 100 then after_head use_kind words else words))))
 
 -- the line that words may begin with, and the words after it
 abbrev pub named_line_in : List (List ℕ) → NamedLine
@@ -127,8 +126,8 @@ reads_named (Named cut) rest small =
     record { line_is = ap (λ (c : CutTextOf). Named c) reads.0; after_is = reads.1 }
 reads_named (UseCut number) rest small = record { line_is = ap UseCut (sym (decimal-value number small.0)); after_is = refl }
 reads_named (UseDual divisor uses) rest small =
-    let reads = use_dual_reads divisor uses rest small in
-    record { line_is = ap₂ (λ (d : ℕ) (s : List (ℕ × ℕ)). UseDual d s) reads.divisor_is reads.uses_are; after_is = reads.after_is }
+    let reads = head_reads use_kind divisor uses rest small in
+    record { line_is = ap₂ (λ (d : ℕ) (s : List (ℕ × ℕ)). UseDual d s) reads.number_is reads.items_are; after_is = reads.after_is }
 
 record SameNamed (a b : NamedLine) (x y : List (List ℕ)) : Type 0 where
   line : a ≡ b

@@ -7,7 +7,7 @@ use Rattle.std.proofs.lemmas.Nat.{mul-le}
 use Rattle.whole_algebra.specs.Rounding.{is_zero, floor_over, gap_over}
 use Rattle.whole_algebra.specs.Matrices.{at}
 use Rattle.whole_algebra.specs.Chains.{size_limit, is_too_large, step_of, is_stop}
-use Rattle.whole_algebra.proofs.Order.{square_nonneg, mul_nonneg, mul_le_mul_right}
+use Rattle.whole_algebra.proofs.Order.{square_nonneg, mul_nonneg, mul_le_mul_right, le_trans}
 use Rattle.whole_algebra.proofs.Ring.{mul_zero}
 use Rattle.whole_algebra.proofs.Rounding.{floor_at_most, ceil_at_most}
 use Rattle.whole_algebra.proofs.ChainLaws.{step_cases, is_zero-true, and_left, and_right, positive}
@@ -21,7 +21,8 @@ pub record IsPivot (pivot : List ℤ) : Type 0 where
   pub small : (j : ℕ) → 1 ≤ j → (at pivot j *ℤ at pivot j) ≤ℤ (at pivot 0 *ℤ size_limit)
   pub taken_size : (i j : ℕ) → 1 ≤ i → 1 ≤ j → unsigned_abs (taken pivot i j) ≤ 2 ^ 61
 
-at_zeros : (b : List ℤ) (k : ℕ) → list_all is_zero b ≡ true → at b k ≡ pos 0
+-- a row of zeros, read at any place
+pub at_zeros : (b : List ℤ) (k : ℕ) → list_all is_zero b ≡ true → at b k ≡ pos 0
 at_zeros [] k e = refl
 at_zeros (c ∷ b) zero e = is_zero-true c (and_left (is_zero c) (list_all is_zero b) e)
 at_zeros (c ∷ b) (suc k) e = at_zeros b k (and_right (is_zero c) (list_all is_zero b) e)
@@ -87,12 +88,9 @@ dividing row p few head = record {
     first : (a : ℤ) → pos 0 <ℤ a → a ≤ℤ pos (2 ^ 61) → unsigned_abs a ≤ 2 ^ 61
     first a low high = omega (arith, ints)
 
-    trans : (p q r : ℤ) → p ≤ℤ q → q ≤ℤ r → p ≤ℤ r
-    trans p q r h g = omega (arith, ints)
-
     sizes : (j : ℕ) → unsigned_abs (at row j) ≤ 2 ^ 61
     sizes zero = first (at row 0) p.above head
-    sizes (suc j) = root_size (at row (suc j)) (trans (at row (suc j) *ℤ at row (suc j)) (at row 0 *ℤ size_limit) (pos (2 ^ 122)) (p.small (suc j) (omega arith)) most)
+    sizes (suc j) = root_size (at row (suc j)) (le_trans (at row (suc j) *ℤ at row (suc j)) (at row 0 *ℤ size_limit) (pos (2 ^ 122)) (p.small (suc j) (omega arith)) most)
 
 -- ---- on the diagonal nothing is added
 below_zero : (a q : ℤ) → pos 0 ≤ℤ q → neg_ℤ q ≤ℤ (a *ℤ pos 0)

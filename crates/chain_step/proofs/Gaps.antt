@@ -7,6 +7,7 @@ use Rattle.whole_algebra.specs.Matrices.{at}
 use Rattle.whole_algebra.specs.Chains.{beside}
 use Rattle.whole_algebra.proofs.Ring.{add_zero, zero_add, add_assoc}
 use Rattle.whole_algebra.proofs.Rounding.{gap_range}
+use Rattle.whole_algebra.proofs.Order.{add_nonneg}
 use Rattle.chain_step.specs.Step.{gap_at, sum_from, left_of, right_of, slack_of}
 
 -- ---- sums of numbers from a place on
@@ -63,11 +64,8 @@ counted f p zero h = (omega (arith, ints), omega (arith, ints))
 counted f p (suc n) h =
     let more = counted f p n h in
     let one = h (p + n) in
-    (low (sum_from f p n) (f (p + n)) more.0 one.0, high (sum_from f p n) (f (p + n)) n more.1 one.1)
+    (add_nonneg (sum_from f p n) (f (p + n)) more.0 one.0, high (sum_from f p n) (f (p + n)) n more.1 one.1)
   where
-    low : (s t : ℤ) → pos 0 ≤ℤ s → pos 0 ≤ℤ t → pos 0 ≤ℤ (s +ℤ t)
-    low s t h g = omega (arith, ints)
-
     high : (s t : ℤ) (n : ℕ) → s ≤ℤ pos n → t ≤ℤ pos 1 → (s +ℤ t) ≤ℤ pos (suc n)
     high s t n h g = omega (arith, ints)
 
@@ -115,9 +113,6 @@ slack_and_own (a ∷ b) (suc i) one lt =
     turned l k r g e = omega (arith, ints)
 
 -- ---- sums that a loop takes
-pub added_low : (s t : ℤ) → pos 0 ≤ℤ s → pos 0 ≤ℤ t → pos 0 ≤ℤ (s +ℤ t)
-added_low s t h g = omega (arith, ints)
-
 pub added_high : (s t : ℤ) (k n : ℕ) → n ≡ suc k → s ≤ℤ pos k → t ≤ℤ pos 1 → (s +ℤ t) ≤ℤ pos n
 added_high s t k n e h g = omega (arith, ints)
 

@@ -11,6 +11,7 @@ use Rattle.whole_algebra.specs.Chains.{size_limit, is_too_large, step_of, stop, 
 use Rattle.whole_algebra.proofs.Order.{square_nonneg, mul_le_mul_right}
 use Rattle.whole_algebra.proofs.ChainLaws.{step_cases, is_zero-true, and_left, and_right, positive}
 use Rattle.whole_algebra.proofs.Refutation.{false_is_not_true}
+use Rattle.whole_algebra.proofs.Sizes.{or_parts}
 
 -- past its end a row has zeros
 pub nothing_past : (xs : List ℤ) (i : ℕ) → length xs ≤ i → at xs i ≡ pos 0
@@ -53,10 +54,6 @@ pub neither : (t u : Bool) → t ≡ false → u ≡ false → t || u ≡ false
 neither true u e f = e
 neither false u e f = f
 
-pub parts : (t u : Bool) → t || u ≡ false → (t ≡ false) × (u ≡ false)
-parts true u e = absurd (false_is_not_true (sym e))
-parts false u e = (refl, e)
-
 only_false : (t : Bool) → (t ≡ true → ⊥) → t ≡ false
 only_false true h = absurd (h refl)
 only_false false h = refl
@@ -73,11 +70,11 @@ not_large s (c ∷ b) h =
 
 pub all_small : (s : ℤ) (b : List ℤ) → is_too_large s b ≡ false → All (λ c. (c *ℤ c) ≤ℤ (s *ℤ size_limit)) b
 all_small s [] e k d lt = absurd (omega arith)
-all_small s (c ∷ b) e zero d lt = at_most (s *ℤ size_limit) (c *ℤ c) (parts (int_lt (s *ℤ size_limit) (c *ℤ c)) (is_too_large s b) e).0
+all_small s (c ∷ b) e zero d lt = at_most (s *ℤ size_limit) (c *ℤ c) (or_parts (int_lt (s *ℤ size_limit) (c *ℤ c)) (is_too_large s b) e).0
   where
     at_most : (k q : ℤ) → int_lt k q ≡ false → q ≤ℤ k
     at_most k q h = omega (arith, ints)
-all_small s (c ∷ b) e (suc k) d lt = all_small s b (parts (int_lt (s *ℤ size_limit) (c *ℤ c)) (is_too_large s b) e).1 k d (omega arith)
+all_small s (c ∷ b) e (suc k) d lt = all_small s b (or_parts (int_lt (s *ℤ size_limit) (c *ℤ c)) (is_too_large s b) e).1 k d (omega arith)
 
 -- ---- cases that rule one another out
 pub apart_zero : (a : ℤ) → pos 0 <ℤ a → a ≡ pos 0 → ⊥

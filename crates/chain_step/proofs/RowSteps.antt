@@ -13,6 +13,7 @@ use Rattle.whole_algebra.proofs.Shapes.{triangle-schur, triangle-lower_over, tri
 use Rattle.whole_algebra.proofs.PivotStep.{lower_step-right, lower_step-diagonal, upper_step-right, upper_step-diagonal, slack_of_step}
 use Rattle.whole_algebra.proofs.ChainLaws.{step_cases, positive, is_zero-true, and_left}
 use Rattle.whole_algebra.proofs.Refutation.{false_is_not_true}
+use Rattle.whole_algebra.proofs.Places.{same_list}
 use Rattle.lent_parts.proofs.Triangles.{length-tri_row}
 use Rattle.chain_step.proofs.RowLaws.{nothing_past}
 use Rattle.chain_step.specs.Step.{over_of, IsPivotRow, IsDividing, taken, gap_at, left_of, right_of, slack_of, with_slack, with_left}
@@ -26,13 +27,6 @@ pub record IsStepped (side : Side) (pivot old new : List ℤ) (k : ℕ) : Type 0
   pub long : length new ≡ length old
   pub right : (m : ℕ) → 1 ≤ m → m < length old → at new m ≡ at old m +ℤ taken pivot k (k + m)
   pub diagonal : at new 0 ≡ with_slack side (at old 0 +ℤ taken pivot k k) (gap_at pivot k k) (slack_of pivot k)
-
--- ---- lists by their places
-pub same_list : (xs ys : List ℤ) → length xs ≡ length ys → ((m : ℕ) → m < length xs → at xs m ≡ at ys m) → xs ≡ ys
-same_list [] [] e h = refl
-same_list [] (y ∷ ys) e h = absurd (omega arith)
-same_list (x ∷ xs) [] e h = absurd (omega arith)
-same_list (x ∷ xs) (y ∷ ys) e h = ap₂ ◌∷◌ (h zero (omega arith)) (same_list xs ys (omega arith) (λ m lt. h (suc m) (omega arith)))
 
 -- ---- the matrix of a step
 pub triangle_over : (side : Side) (a : ℤ) (n : ℕ) (m : List (List ℤ)) → IsTriangle n m → IsTriangle n (over_of side a m)

@@ -3,13 +3,14 @@ use Rattle.std.proofs.Common.{◌≡◌, ℕ, zero, suc, ◌+◌, ◌-◌, ◌<�
 use Rattle.whole_algebra.specs.Matrices.{at, schur, IsTriangle}
 use Rattle.whole_algebra.specs.Chains.{next, left_after, chain_rows}
 use Rattle.whole_algebra.specs.Grid.{row_at, SameFirstRows}
-use Rattle.whole_algebra.proofs.Shapes.{triangle-schur, triangle-lower_over, triangle-upper_over}
+use Rattle.whole_algebra.proofs.Shapes.{triangle-schur}
 use Rattle.whole_algebra.proofs.Places.{at-row_at-schur}
 use Rattle.whole_algebra.proofs.ChainLaws.{step_cases, positive}
 use Rattle.whole_algebra.proofs.FirstRows.{rows_by_places, lower_over-first_rows, upper_over-first_rows}
 use Rattle.chain_step.specs.Step.{over_of}
 use Rattle.chain_step.specs.declared.side.Side.{Side}
 use Rattle.chain_step.specs.declared.side.Side.TheVariants.{Lower, Upper}
+use Rattle.chain_step.proofs.RowSteps.{triangle_over}
 
 -- what a pivot leaves, before it is divided
 schur-same : (a : ℤ) (b : List ℤ) (n count : ℕ) (m o : List (List ℤ)) → length b ≡ n → IsTriangle n m → IsTriangle n o → SameFirstRows count m o
@@ -17,10 +18,6 @@ schur-same : (a : ℤ) (b : List ℤ) (n count : ℕ) (m o : List (List ℤ)) �
 schur-same a b n count m o long left right same i lt =
     rows_by_places n (schur a b m) (schur a b o) i (triangle-schur a n b m long left) (triangle-schur a n b o long right)
     (λ inside k. at-row_at-schur a b m i k ∙ (ap (λ row. a *ℤ at row k -ℤ at b i *ℤ at b (i + k)) (same i lt) ∙ sym (at-row_at-schur a b o i k)))
-
-over-triangle : (side : Side) (a : ℤ) (n : ℕ) (m : List (List ℤ)) → IsTriangle n m → IsTriangle n (over_of side a m)
-over-triangle Lower a n m t = triangle-lower_over a n m t
-over-triangle Upper a n m t = triangle-upper_over a n m t
 
 over-same : (side : Side) (a : ℤ) (n count : ℕ) (m o : List (List ℤ)) → pos 0 <ℤ a → IsTriangle n m → IsTriangle n o → SameFirstRows count m o
     → SameFirstRows count (over_of side a m) (over_of side a o)
@@ -42,7 +39,7 @@ next-same side steps n count (a ∷ b) m o long left right same shorter i lt =
     (λ above _.
     let p = triangle-schur a n b m beside left in
     let q = triangle-schur a n b o beside right in
-    shorter (over a (schur a b m)) (over a (schur a b o)) (over-triangle side a n (schur a b m) p) (over-triangle side a n (schur a b o) q)
+    shorter (over a (schur a b m)) (over a (schur a b o)) (triangle_over side a n (schur a b m) p) (triangle_over side a n (schur a b o) q)
     (over-same side a n count (schur a b m) (schur a b o) (positive a above) p q (schur-same a b n count m o beside left right same)) i lt)
 
 pub chain_rows_same : (side : Side) (steps n count : ℕ) (m o : List (List ℤ)) → IsTriangle n m → IsTriangle n o → SameFirstRows count m o

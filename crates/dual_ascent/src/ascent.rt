@@ -2,7 +2,7 @@ ghost use Rattle.std.specs.Prelude.{◌≡◌, ◌<◌, ◌≤◌, ◌^◌, ℕ,
 ghost use Rattle.dual_ascent.specs.Duals.{IsNamedAt, IsDualWithin};
 
 use crate::dual::Dual;
-use crate::multipliers::{divisor_of, share_shift, shares_of};
+use crate::multipliers::{Multiplier, divisor_of, share_shift, shares_of};
 use crate::naming::first_named;
 use crate::relaxation::{Relaxation, RelaxationEnd, price_shift};
 use cut_pool::{CutPool, Share};
@@ -24,6 +24,30 @@ fn divisor_bits(kind: Option<RelaxationEnd>, price_shift: u32, share_shift: u32)
         Some(RelaxationEnd::Ray) => 0,
         None => DIVISOR_BITS,
     }
+}
+
+/// Multipliers of cuts, the greatest first, as a divisor and whole shares: those of a bound at the
+/// node, or those of a ray. At most 64 of cuts that may be named at the node are taken; none where
+/// there is no such one. Refused for want of memory alone.
+pub fn dual_of(
+    alloc: Global,
+    network: &Network,
+    node: &Node,
+    pool: &CutPool,
+    kind: RelaxationEnd,
+    multipliers: &[Multiplier],
+) -> Result<Option<Dual>, NoMemory>
+    requires inside { length node.now.inside ≡ length network.now.candidates }
+    requires limits { All (λ cut. cut.limit < length network.now.limits) pool.now }
+    ensures dual { IfOk result (λ found. IfSome found (IsDualWithin network.now node.now pool.now)) }
+{
+    let shares = shares_of(alloc, network, node, pool, multipliers)?;
+    if shares.is_empty() {
+        return Ok(None);
+    }
+    let shift = share_shift(pool, multipliers);
+    let d = divisor_of(divisor_bits(Some(kind), price_shift(network), shift));
+    Ok(Some(Dual { d, shares }))
 }
 
 /// Multipliers for cuts of the pool, for a dual bound of the node: a divisor, and from one to 64

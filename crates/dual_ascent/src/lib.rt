@@ -5,7 +5,7 @@
 //! whose limit has no owner or one that each plan of the node chooses; nothing is proposed only where
 //! the pool has no such cut. How high the bound is isn't proved.
 //!
-//! Said by: `ascend`, clauses `dual`, `none`.
+//! Said by: `ascend`, clauses `dual`, `none`; `dual_of`, clause `dual`.
 #![tactic(auto)]
 
 mod ascent;
@@ -14,6 +14,7 @@ mod multipliers;
 mod naming;
 mod relaxation;
 
-pub use ascent::ascend;
+pub use ascent::{ascend, dual_of};
 pub use cut_pool::Share;
 pub use dual::Dual;
+pub use relaxation::{RelaxationEnd, price_shift, scaled_prices};

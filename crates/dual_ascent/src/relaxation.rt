@@ -35,7 +35,7 @@ pub enum RelaxationEnd {
 
 // A cut that the present shares of the candidates break.
 #[derive(Clone, Copy)]
-struct Broken {
+struct BrokenCut {
     cut: u32,
     lacking: i64,
 }
@@ -48,7 +48,7 @@ pub struct Relaxation {
     values: Vec<i64>,
     // The coefficients of a cut over its bound.
     line: Vec<i64>,
-    broken: Vec<Broken>,
+    broken: Vec<BrokenCut>,
 }
 
 /// The power of two by which prices are divided in a tableau.
@@ -62,10 +62,9 @@ pub fn price_shift(network: &Network) -> u32
     (64 - (total >> PRICE_BITS).leading_zeros()).min(32)
 }
 
-// The price of each candidate over a power of two, in fixed point.
-fn scaled_prices(alloc: Global, network: &Network, shift: u32) -> Result<Vec<i64>, NoMemory>
-    requires { shift < 33 }
-{
+/// The price of each candidate over that power of two, in fixed point: what a tableau starts with.
+pub fn scaled_prices(alloc: Global, network: &Network) -> Result<Vec<i64>, NoMemory> {
+    let shift = price_shift(network);
     let mut prices = Vec::new(alloc);
     for candidate in network.candidates() {
         prices.push(candidate.price.wrapping_shl(32 - shift).min(1 << 60) as i64)?;
@@ -103,7 +102,7 @@ impl Relaxation {
         requires inside { length node.now.inside ≡ length network.now.candidates }
         requires upper { length node.now.upper ≡ length network.now.candidates }
     {
-        let prices = scaled_prices(alloc, network, price_shift(network))?;
+        let prices = scaled_prices(alloc, network)?;
         self.tableau.start(prices.as_slice())?;
         self.values.clear();
         self.values.resize(prices.len(), 0)?;
@@ -132,7 +131,7 @@ impl Relaxation {
         for cut in 0..pool.len() {
             let lacking = lacking(pool.get(cut), self.values.as_slice());
             if lacking > LACKING && is_named(network, node, pool, cut) {
-                self.broken.push(Broken { cut, lacking })?;
+                self.broken.push(BrokenCut { cut, lacking })?;
             }
         }
         self.broken

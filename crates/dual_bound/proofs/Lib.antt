@@ -1,4 +1,2 @@
 pub mod Bounds
-pub mod PriceAt
 pub mod ShareLemmas
-pub mod SizeLemmas

@@ -1,15 +1,17 @@
-use Rattle.std.proofs.Common.{◌≡◌, ◌<◌, ◌≤◌, ◌^◌, ℕ, ◌+◌, ◌*◌, ◌++◌, List, [], ◌∷◌, length, map, take, get_or, Option, Some, arith, ap, ◌∙◌, add-one}
-use Rattle.std.specs.Prelude.{slice_get, sum_by}
+use Rattle.std.proofs.Common.{◌≡◌, ◌<◌, ◌≤◌, ◌^◌, ℕ, ◌+◌, ◌*◌, ℤ, pos, ◌-ℤ◌, ◌++◌, List, [], ◌∷◌, length, map, take, get_or, Option, Some, arith, ap, ◌∙◌, add-one, subst, sym}
+use Rattle.std.specs.Prelude.{slice_get, unsigned_abs}
 use Rattle.std.proofs.Math.Seq.{take-suc}
-use Rattle.std.proofs.lemmas.List.{take_all, map-append}
-use Rattle.std.proofs.lemmas.List.Sums.{sum_by-append}
-use Rattle.std.proofs.Math.Nat.{mul-le-mul}
+use Rattle.std.proofs.lemmas.List.{take_all, map-append, length-map, length-take}
+use Rattle.whole_algebra.specs.Matrices.{at}
 use Rattle.geo_model.specs.Dual.{WeighedCover}
+use Rattle.geo_model.specs.Prices.{PricesOf}
 use Rattle.cut_pool.specs.Cut.{CutOf, cover}
 use Rattle.cut_pool.specs.declared.share.Share.{Share}
+use Rattle.reduced_sums.specs.Weighed.{AreWeighed}
+use Rattle.reduced_sums.proofs.WeighedLemmas.{weighed_more, weighed_small}
 use Rattle.dual_bound.specs.Shares.{cover_or_none, weighed, weighed_covers, IsShare, AreShares}
 
--- Laws of the sums over shares.
+-- Shares of a pool, taken off the prices one after another.
 
 abbrev pub nothing : Share
 nothing = record { y = 0; cut = 0 }
@@ -18,31 +20,32 @@ nothing = record { y = 0; cut = 0 }
 pub share_at : (count : ℕ) (pool : List CutOf) (d : ℕ) (shares : List Share) (i : ℕ) → AreShares count pool d shares → i < length shares → IsShare count pool (get_or shares i nothing)
 share_at count pool d shares i are inside = are.each i nothing inside
 
--- the sum of f over the shares before a place and the one there
-pub shares-more : (f : WeighedCover → ℕ) (pool : List CutOf) (shares : List Share) (i : ℕ) (cut : CutOf) → i < length shares → slice_get pool (get_or shares i nothing).cut ≡ Some cut
-    → sum_by f (weighed_covers pool (take (i + 1) shares)) ≡ sum_by f (weighed_covers pool (take i shares)) + f (record { multiplier = (get_or shares i nothing).y; cover = cover cut })
-shares-more f pool shares i cut inside named =
+-- the shares before a place and the one there
+more_covers : (pool : List CutOf) (shares : List Share) (i : ℕ) (cut : CutOf) → i < length shares → slice_get pool (get_or shares i nothing).cut ≡ Some cut
+    → weighed_covers pool (take (i + 1) shares) ≡ weighed_covers pool (take i shares) ++ record { multiplier = (get_or shares i nothing).y; cover = cover cut } ∷ []
+more_covers pool shares i cut inside named =
     let share = get_or shares i nothing in
     let taken : take (i + 1) shares ≡ take i shares ++ (share ∷ []) = rw add-one (take-suc shares i nothing inside) in
-    let mapped : weighed_covers pool (take (i + 1) shares) ≡ weighed_covers pool (take i shares) ++ (weighed pool share ∷ []) =
-    ap (map (weighed pool)) taken ∙ map-append (weighed pool) (take i shares) (share ∷ []) in
-    let last : f (weighed pool share) ≡ f (record { multiplier = share.y; cover = cover cut }) =
-    ap (λ (found : Option CutOf). f (record { multiplier = share.y; cover = cover_or_none found })) named in
-    let added : sum_by f (weighed_covers pool (take (i + 1) shares)) ≡ sum_by f (weighed_covers pool (take i shares)) + sum_by f (weighed pool share ∷ []) =
-    ap (sum_by f) mapped ∙ sum_by-append f (weighed_covers pool (take i shares)) (weighed pool share ∷ []) in
-    let one : sum_by f (weighed pool share ∷ []) ≡ f (weighed pool share) = alone (f (weighed pool share)) in
-    omega (arith, added, one, last)
-  where
-    alone : (n : ℕ) → 0 + n ≡ n
-    alone n = omega arith
+    ap (map (weighed pool)) taken ∙ map-append (weighed pool) (take i shares) (share ∷ [])
+    ∙ ap (λ (found : Option CutOf). weighed_covers pool (take i shares) ++ record { multiplier = share.y; cover = cover_or_none found } ∷ []) named
 
--- all shares
-pub shares-all : (f : WeighedCover → ℕ) (pool : List CutOf) (shares : List Share) (i : ℕ) → length shares ≤ i → sum_by f (weighed_covers pool (take i shares)) ≡ sum_by f (weighed_covers pool shares)
-shares-all f pool shares i whole = ap (λ (l : List Share). sum_by f (weighed_covers pool l)) (take_all i shares whole)
+-- the share at a place is taken off
+pub weighed_next : (prices : PricesOf) (d : ℕ) (pool : List CutOf) (shares : List Share) (i : ℕ) (cut : CutOf) (reduced now : List ℤ) (paid part : ℕ) → i < length shares → slice_get pool (get_or shares i nothing).cut ≡ Some cut
+    → AreWeighed prices d (weighed_covers pool (take i shares)) reduced paid → part ≡ (get_or shares i nothing).y * cut.bound → part ≤ 2 ^ 68
+    → ((k : ℕ) → at now k ≡ at reduced k -ℤ pos ((get_or shares i nothing).y * get_or cut.coefficients k 0)) → ((k : ℕ) → unsigned_abs (at now k) ≤ unsigned_abs (at reduced k) + 2 ^ 68)
+    → AreWeighed prices d (weighed_covers pool (take (i + 1) shares)) now (paid + part)
+weighed_next prices d pool shares i cut reduced now paid part inside named so_far is few taken near =
+    subst (λ (l : List WeighedCover). AreWeighed prices d l now (paid + part)) (sym (more_covers pool shares i cut inside named))
+    (weighed_more prices d (weighed_covers pool (take i shares)) (record { multiplier = (get_or shares i nothing).y; cover = cover cut }) reduced now paid part so_far is few taken near)
 
--- a product of a multiplier and a number of a cut
-pub product_small : (y c : ℕ) → y ≤ 2 ^ 44 → c < 2 ^ 24 → y * c ≤ 2 ^ 68
-product_small y c few small = omega (arith, mul-le-mul few (lower c small))
-  where
-    lower : (c : ℕ) → c < 2 ^ 24 → c ≤ 2 ^ 24
-    lower c h = omega arith
+-- what shares leave of the prices, and what they pay, is small on the way
+pub small_so_far : (prices : PricesOf) (d : ℕ) (pool : List CutOf) (shares : List Share) (i : ℕ) (reduced : List ℤ) (paid : ℕ) → length shares ≤ 64
+    → AreWeighed prices d (weighed_covers pool (take i shares)) reduced paid → ((k : ℕ) → unsigned_abs (at reduced k) ≤ 2 ^ 75) × (paid ≤ 2 ^ 74)
+small_so_far prices d pool shares i reduced paid few so_far =
+    let fewer : length (weighed_covers pool (take i shares)) ≤ 64 = omega (arith, few, length-map (take i shares) (weighed pool), length-take i shares) in
+    weighed_small prices d (weighed_covers pool (take i shares)) reduced paid fewer so_far
+
+-- all shares are taken off
+pub weighed_all : (prices : PricesOf) (d : ℕ) (pool : List CutOf) (shares : List Share) (i : ℕ) (reduced : List ℤ) (paid : ℕ) → length shares ≤ i
+    → AreWeighed prices d (weighed_covers pool (take i shares)) reduced paid → AreWeighed prices d (weighed_covers pool shares) reduced paid
+weighed_all prices d pool shares i reduced paid whole so_far = subst (λ (l : List Share). AreWeighed prices d (weighed_covers pool l) reduced paid) (take_all i shares whole) so_far

@@ -9,9 +9,7 @@
 
 mod laws;
 mod leaf;
-mod reduced;
-mod stations;
-mod sums;
+mod weighing;
 
 pub use cut_pool::Share;
 pub use laws::meeting_plans_cost_the_dual_bound;

@@ -1,5 +1,5 @@
 use Rattle.std.proofs.lemmas.Bool.{false≢true}
-use Rattle.std.proofs.Common.{ℕ, ℤ, pos, ◌*ℤ◌, ◌≤ℤ◌, if◌then◌else◌, Bool, true, false, IsTrue, List, [], ◌∷◌, length, arith, refl}
+use Rattle.std.proofs.Common.{◌≡◌, ℕ, ℤ, pos, ◌*ℤ◌, ◌≤ℤ◌, if◌then◌else◌, Bool, true, false, IsTrue, List, [], ◌∷◌, length, arith, refl, subst}
 use Rattle.std.specs.Prelude.{All}
 use Rattle.std.proofs.lemmas.List.Elements.{All-head, All-tail}
 use Rattle.std.proofs.lemmas.Int.{ints}
@@ -10,7 +10,7 @@ use Rattle.geo_model.specs.Candidate.{CandidateOf, IsCandidate, candidate_energy
 use Rattle.geo_model.specs.Energy.{energy, IsWithin}
 use Rattle.geo_model.specs.Limit.{LimitOf, load}
 use Rattle.geo_model.specs.Network.{NetworkOf}
-use Rattle.geo_model.specs.Meeting.{MeetsLimit}
+use Rattle.geo_model.specs.Meeting.{MeetsLimit, Breaks}
 
 -- Laws of the energy of a displacement: it is not negative, and it grows with the plan.
 
@@ -60,3 +60,7 @@ MeetsLimit-grows network limit small large all alpha within meets x =
     (mul_le_mul limit.alpha (energy network.candidates small x) (energy network.candidates large x)
     (le_trans (pos 0) (pos 1) limit.alpha (omega (arith, ints)) alpha)
     (energy-grows (length network.unknowns) network.candidates small large x all within))
+
+-- a displacement with the same entries breaks the same limits
+pub Breaks-same : (network : NetworkOf) (plan : List Bool) (limit : LimitOf) (x y : Displaced) → ((i : ℕ) → x i ≡ y i) → Breaks network plan limit x → Breaks network plan limit y
+Breaks-same network plan limit x y same breaks = subst (Breaks network plan limit) (λ i k. same k i) breaks

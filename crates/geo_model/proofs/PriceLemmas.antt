@@ -1,5 +1,5 @@
-use Rattle.std.proofs.lemmas.Bool.{false≢true}
-use Rattle.std.proofs.Common.{◌≡◌, ◌<◌, ◌≤◌, ℕ, zero, suc, ◌+◌, Bool, true, false, ◌&&◌, ◌||◌, if◌then◌else◌, List, [], ◌∷◌, length, map, get_or, Option, Some, None, arith, refl, ap, ap₂, sym, ◌∙◌, subst}
+use Rattle.std.proofs.lemmas.Bool.{false≢true, and_parts, and_from}
+use Rattle.std.proofs.Common.{◌≡◌, ◌<◌, ◌≤◌, ℕ, zero, suc, ◌+◌, Bool, true, false, ◌||◌, if◌then◌else◌, List, [], ◌∷◌, length, map, get_or, Option, Some, None, arith, refl, ap, ap₂, sym, ◌∙◌, subst}
 use Rattle.std.specs.Prelude.{slice_get}
 use Rattle.std.proofs.lemmas.Option.{get_or_from_slice_get}
 use Rattle.geo_model.specs.Below.{sum_below, any_below}
@@ -30,22 +30,10 @@ chooses-grows (true ∷ small) (y ∷ large) zero within chosen = within.0 refl
 chooses-grows (false ∷ small) (y ∷ large) zero within chosen = absurd (false≢true chosen)
 chooses-grows (x ∷ small) (y ∷ large) (suc i) within chosen = chooses-grows small large i within.1 chosen
 
-and_left : (a b : Bool) → (a && b) ≡ true → a ≡ true
-and_left true b e = refl
-and_left false b e = e
-
-and_right : (a b : Bool) → (a && b) ≡ true → b ≡ true
-and_right true b e = e
-and_right false b e = absurd (false≢true e)
-
-and_both : (a b : Bool) → a ≡ true → b ≡ true → (a && b) ≡ true
-and_both a b e f = rw e f
-
 pub chooses_at-grows : (stations : List (Option ℕ)) (small large : List Bool) (k i : ℕ) → IsWithin small large → chooses_at stations small k i ≡ true → chooses_at stations large k i ≡ true
 chooses_at-grows stations small large k i within at =
-    and_both (chooses large i) (is_station k (get_or stations i None))
-    (chooses-grows small large i within (and_left (chooses small i) (is_station k (get_or stations i None)) at))
-    (and_right (chooses small i) (is_station k (get_or stations i None)) at)
+    let both = and_parts (chooses small i) (is_station k (get_or stations i None)) at in
+    and_from (chooses large i) (is_station k (get_or stations i None)) (chooses-grows small large i within both.0) both.1
 
 or_cases : (a b : Bool) (C : Type 0) → (a || b) ≡ true → (a ≡ true → C) → (b ≡ true → C) → C
 or_cases true b C e left right = left refl
@@ -94,23 +82,24 @@ plan_price-grows prices small large within =
 
 -- ---- sums one number at a time
 
+-- the price of a candidate, in the list of all prices
+pub listed_price : (candidates : List CandidateOf) (n : ℕ) (candidate : CandidateOf) → n < length candidates → candidate ≡ get_or candidates n candidate → get_or (map (λ (c : CandidateOf). c.price) candidates) n 0 ≡ candidate.price
+listed_price [] n candidate inside here = absurd (omega arith)
+listed_price (first ∷ rest) zero candidate inside here = ap (λ (c : CandidateOf). c.price) (sym here)
+listed_price (first ∷ rest) (suc n) candidate inside here = let later : n < length rest = omega arith in listed_price rest n candidate later here
+
 -- one candidate more, of those of a network
 pub candidates-more : (network : NetworkOf) (plan : List Bool) (n : ℕ) (candidate : CandidateOf) (chosen : Bool) (before now : ℕ) → n < length network.candidates → candidate ≡ get_or network.candidates n candidate → slice_get plan n ≡ Some chosen
     → before ≡ sum_below (chosen_at (prices_of network).candidates plan) n → (chosen ≡ true → now ≡ before + candidate.price) → (chosen ≡ false → now ≡ before)
     → now ≡ sum_below (chosen_at (prices_of network).candidates plan) (n + 1)
 unfolding prices_of
 candidates-more network plan n candidate chosen before now inside here flag so_far counts not =
-    let price_is : get_or (map (λ (c : CandidateOf). c.price) network.candidates) n 0 ≡ candidate.price = price_at network.candidates n candidate inside here in
+    let price_is : get_or (map (λ (c : CandidateOf). c.price) network.candidates) n 0 ≡ candidate.price = listed_price network.candidates n candidate inside here in
     let flag_is : get_or plan n false ≡ chosen = get_or_from_slice_get plan n chosen false flag in
     let part : chosen_at (prices_of network).candidates plan n ≡ (if chosen then candidate.price else 0) = ap₂ (λ (b : Bool) (m : ℕ). if b then m else 0) flag_is price_is in
     counted_if chosen before candidate.price now counts not
     ∙ ap₂ (λ (s t : ℕ). s + t) so_far (sym part)
     ∙ sym (sum_below-more (chosen_at (prices_of network).candidates plan) n)
-  where
-    price_at : (candidates : List CandidateOf) (n : ℕ) (candidate : CandidateOf) → n < length candidates → candidate ≡ get_or candidates n candidate → get_or (map (λ (c : CandidateOf). c.price) candidates) n 0 ≡ candidate.price
-    price_at [] n candidate inside here = absurd (omega arith)
-    price_at (first ∷ rest) zero candidate inside here = ap (λ (c : CandidateOf). c.price) (sym here)
-    price_at (first ∷ rest) (suc n) candidate inside here = let later : n < length rest = omega arith in price_at rest n candidate later here
 
 -- one station more
 pub stations-more : (network : NetworkOf) (plan : List Bool) (k price : ℕ) (used : Bool) (before now : ℕ) → price ≡ get_or network.station_prices k 0 → used ≡ uses_station network.stations plan k

@@ -1,5 +1,5 @@
 -- Sums one element further, as a loop forms them.
-use Rattle.std.proofs.Common.{◌≡◌, ℕ, zero, suc, ◌+◌, ◌*◌, ◌^◌, ◌<◌, ◌≤◌, ℤ, pos, ◌+ℤ◌, ◌*ℤ◌, List, [], ◌∷◌, length, take, get_or, sym, ◌∙◌, ap, ap₂, inl, inr, refl, Some, Bool, true, if◌then◌else◌, subst, ◌≤ℤ◌, arith, add-one, one-mul, add-mul, w32, w64, FitsSigned}
+use Rattle.std.proofs.Common.{◌≡◌, ℕ, zero, suc, ◌+◌, ◌*◌, ◌^◌, ◌<◌, ◌≤◌, ℤ, pos, ◌+ℤ◌, ◌*ℤ◌, List, [], ◌∷◌, length, take, get_or, sym, ◌∙◌, ap, ap₂, inl, inr, refl, Some, Bool, true, if◌then◌else◌, subst, ◌≤ℤ◌, arith, w32, w64, FitsSigned}
 use mir.Syntax.{w128}
 use Rattle.std.specs.Prelude.{All, slice_get, sum_by, unsigned_abs}
 use Rattle.std.proofs.lemmas.Int.{fits_signed_from_abs}
@@ -9,6 +9,7 @@ use Rattle.whole_algebra.specs.Sums.{int_sum_by}
 use Rattle.whole_algebra.specs.Matrices.{at}
 use Rattle.whole_algebra.proofs.Ring.{add_assoc, add_comm}
 use Rattle.whole_algebra.proofs.Order.{size-add, size-mul, square_is, le_refl, le_trans, add_nonneg, mul_nonneg, square_nonneg}
+use Rattle.whole_algebra.proofs.SumLaws.{int_sum_by-more, sum_more}
 use Rattle.std.proofs.lemmas.Bool.{cases_lt}
 use Rattle.std.proofs.lemmas.Int.{ints}
 use Rattle.std.proofs.Math.Nat.{mul-le-mul}
@@ -21,30 +22,9 @@ use Rattle.geo_model.proofs.EnergyLemmas.{row_energy-nonneg}
 use Rattle.std.proofs.lemmas.List.Elements.{All-head, All-tail}
 use Rattle.geo_model.proofs.SizeLemmas.{form_at-size, light, row_energy-size, square-size, part_energy-size, load-size}
 
--- ---- sums
-more_of : {X : Type 0} (f : X → ℤ) (xs : List X) (i : ℕ) (d : X) → i < length xs → int_sum_by f (take (suc i) xs) ≡ int_sum_by f (take i xs) +ℤ f (get_or xs i d)
-more_of f [] i d inside = absurd (omega arith)
-more_of f (x ∷ xs) zero d inside = add_comm (f x) (pos 0)
-more_of f (x ∷ xs) (suc i) d inside =
-    let later : i < length xs = omega arith in
-    ap (λ z. f x +ℤ z) (more_of f xs i d later) ∙ sym (add_assoc (f x) (int_sum_by f (take i xs)) (f (get_or xs i d)))
-
--- one element more of a sum
-pub sum_more : {X : Type 0} (f : X → ℤ) (xs : List X) (k : ℕ) (x : X) (sum part : ℤ) → k < length xs → x ≡ get_or xs k x → sum ≡ int_sum_by f (take k xs) → part ≡ f x
-    → sum +ℤ part ≡ int_sum_by f (take (k + 1) xs)
-sum_more f xs k x sum part inside is so_far this =
-    rw add-one (sym (more_of f xs k x inside ∙ ap₂ (λ s t. s +ℤ t) (sym so_far) (ap f (sym is) ∙ sym this)))
-
-pub size_more : (sum part : ℤ) (k m : ℕ) → unsigned_abs sum ≤ k * m → unsigned_abs part ≤ m → unsigned_abs (sum +ℤ part) ≤ (k + 1) * m
-size_more sum part k m so_far this =
-    let both = size-add sum part in
-    let more = add-mul k 1 m in
-    let one = one-mul m in
-    omega arith
-
 -- ---- forms
 -- the coefficient of one of the entries is at most all sizes together
-coefficient_size : (entries : Entries) (q : ℕ) (d : ℕ × ℤ) → q < length entries → unsigned_abs (get_or entries q d).1 ≤ total_size entries
+pub coefficient_size : (entries : Entries) (q : ℕ) (d : ℕ × ℤ) → q < length entries → unsigned_abs (get_or entries q d).1 ≤ total_size entries
 coefficient_size [] q d inside = absurd (omega arith)
 coefficient_size (e ∷ rest) zero d inside = omega (arith, sum_by-cons (λ (entry : ℕ × ℤ). unsigned_abs entry.1) e rest)
 coefficient_size (e ∷ rest) (suc q) d inside =
@@ -72,8 +52,8 @@ form_step entries x q sum move d inside total narrow so_far is =
     let fewer = sum_by-take-le (λ (entry : ℕ × ℤ). unsigned_abs entry.1) entries q in
     let sum_size : unsigned_abs sum ≤ 2 ^ 60 = rw so_far (omega arith) in
     let both = size-add sum (c *ℤ move) in
-    let more = more_of (λ (entry : ℕ × ℤ). entry.1 *ℤ at x entry.0) entries q d inside in
-    let step : form_at (take (q + 1) entries) (at x) ≡ form_at (take q entries) (at x) +ℤ c *ℤ at x (get_or entries q d).0 = rw add-one more in
+    let step : form_at (take (q + 1) entries) (at x) ≡ form_at (take q entries) (at x) +ℤ c *ℤ at x (get_or entries q d).0 =
+    int_sum_by-more (λ (entry : ℕ × ℤ). entry.1 *ℤ at x entry.0) entries q d inside in
     record {
       narrow = fits_signed_from_abs w64 c (omega arith);
       wide = fits_signed_from_abs w128 c (omega arith);
@@ -127,10 +107,10 @@ row_step row x entries weight form bounds narrow listed heavy formed sized =
       size = size;
     }
 
-at_least_one : (b : ℤ) → pos 1 ≤ℤ b → 1 ≤ unsigned_abs b
+pub at_least_one : (b : ℤ) → pos 1 ≤ℤ b → 1 ≤ unsigned_abs b
 at_least_one b h = omega (arith, ints)
 
-few_digits : (b t : ℕ) → 1 ≤ b → b * (t * t) < 2 ^ 90 → t < 2 ^ 45
+pub few_digits : (b t : ℕ) → 1 ≤ b → b * (t * t) < 2 ^ 90 → t < 2 ^ 45
 few_digits b t one small =
     elim (cases_lt t (2 ^ 45)) [
       | inl less ↦ less

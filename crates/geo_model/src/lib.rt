@@ -21,7 +21,7 @@ mod network;
 mod plan;
 mod price;
 mod row;
-mod stations;
+mod station_prices;
 mod verdict;
 
 pub use answer::{Answer, Counts, SearchDone};

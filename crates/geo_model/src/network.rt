@@ -2,7 +2,7 @@ ghost use Rattle.std.specs.Prelude.{◌≡◌, ◌<◌, ◌++◌, Some, length, 
 
 use crate::candidate::Candidate;
 use crate::limit::Limit;
-use crate::stations::Stations;
+use crate::station_prices::StationPrices;
 use geo_base::NoMemory;
 use std::marker::Model;
 
@@ -37,7 +37,7 @@ pub struct Network {
     candidates: Vec<Candidate>,
     limits: Vec<Limit>,
     // None: no candidate has a station.
-    stations: Option<Stations>,
+    stations: Option<StationPrices>,
 }
 
 impl Model for Network {
@@ -87,7 +87,7 @@ impl Network {
         requires { AreStations (length self.old.candidates) station_of.items prices.items }
         ensures { self.new ≡ record self.old { stations = station_of.items; station_prices = prices.items } }
     {
-        self.stations = Some(Stations {
+        self.stations = Some(StationPrices {
             of_candidates: station_of,
             prices,
         });

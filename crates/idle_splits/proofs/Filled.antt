@@ -2,7 +2,7 @@
 use Rattle.std.proofs.Common.{◌≡◌, ◌≢◌, ◌<◌, ◌≤◌, ℕ, zero, suc, ◌+◌, ◌*◌, Bool, true, false, if◌then◌else◌, Some, List, [], ◌∷◌, length, set, get_or, refl, sym, ◌∙◌, ap, ap₂, subst, arith, below_more}
 use Rattle.std.specs.Prelude.{slice_get}
 use Rattle.std.proofs.lemmas.List.{get_or-set_same, get_or-set_other}
-use Rattle.std.proofs.lemmas.Option.{slice_get_within, get_or_from_slice_get}
+use Rattle.std.proofs.lemmas.Option.{slice_get_within, get_or_from_slice_get, same_Some}
 use Rattle.geo_model.specs.Below.{sum_below}
 use Rattle.geo_model.specs.Cover.{chosen_sum}
 use Rattle.geo_model.specs.Energy.{IsWithin}
@@ -70,16 +70,13 @@ weight_more coefficients plan i chosen before now flag so_far counts not =
 reached : (u v b c m n p q : ℕ) → b ≡ c → m ≡ n → p ≡ q → u * b + v * b ≤ u * m + v * p → u * c + v * c ≤ u * n + v * q
 reached u v b c m n p q bs ms ps le = rw (← bs) (rw (← ms) (rw (← ps) le))
 
-same_some : {X : Type 0} (a b : X) → Some a ≡ Some b → a ≡ b
-same_some a b e = cc
-
 pub held : (network : NetworkOf) (node : Node) (cuts : UnitCuts) (k earlier bound : ℕ) (cut : CutOf) (one two : List Bool) (first second : Filling) → IsNetwork network → IsPlanOf node one → IsPlanOf node two
     → slice_get cuts.pool k ≡ Some cut → bound ≡ cut.bound → IsFilling network cuts k one first → IsFilling network cuts k two second → IsMixedBelow bound earlier first second
     → (candidate : ℕ) → IsDearByKept network node (AtLeast earlier) cuts k candidate → ⊥
 held network node cuts k earlier bound cut one two first second bounds is_one is_two found bound_is fills fills_too mixed candidate dear =
     let found_too = dear.1 in
     let other = dear.0 in
-    let same : cut ≡ other = same_some cut other (sym found ∙ found_too) in
+    let same : cut ≡ other = same_Some cut other (sym found ∙ found_too) in
     let weighs = dear.2.weighs in
     let above = dear.2.above in
     let low = mixed_bound (prices_of network) (cover_coefficient (cover other) candidate) (price_at network candidate) other.coefficients other.bound earlier mixed.one mixed.two node one two

@@ -4,7 +4,7 @@ use Rattle.std.specs.Prelude.{slice_get, Any}
 use Rattle.std.specs.Result.{OnOk}
 use Rattle.std.proofs.lemmas.Bool.{cases_lt, false≢true}
 use Rattle.geo_base.specs.declared.no_memory.NoMemory.{NoMemory}
-use Rattle.std.proofs.lemmas.Option.{slice_get-get_or, slice_get_within}
+use Rattle.std.proofs.lemmas.Option.{slice_get-get_or, slice_get_within, same_Some}
 use Rattle.whole_algebra.specs.Matrices.{at}
 use Rattle.geo_model.specs.Cover.{CoverOf}
 use Rattle.geo_model.specs.Limit.{LimitOf, SquareOf, is_point_limit, load}
@@ -53,14 +53,11 @@ none_loaded network number unknown x result moved tests not_so limit loaded =
     false≢true (sym not_so ∙ (tests limit loaded.named).1
     (loaded.of_point, subst (λ (z : ℤ). pos 0 <ℤ z) (sym (unit_load limit.squares (length network.unknowns) unknown x loaded.inside moved)) loaded.loaded))
 
-same_some : {X : Type 0} (a b : X) → Some a ≡ Some b → a ≡ b
-same_some a b e = cc
-
 -- the covering inequality of a unit cut
 pub unit_cover : (network : NetworkOf) (unknown number : ℕ) (cut : CutOf) → cut.limit ≡ number → IsUnitCut network unknown cut
     → (limit : LimitOf) → IsLoadedAt network number unknown limit → cover cut ≡ cover_of network limit (unit_at unknown)
 unit_cover network unknown number cut is unit limit loaded =
-    let one : unit.limit ≡ limit = same_some unit.limit limit (sym unit.loaded.named ∙ ap (slice_get network.limits) is ∙ loaded.named) in
+    let one : unit.limit ≡ limit = same_Some unit.limit limit (sym unit.loaded.named ∙ ap (slice_get network.limits) is ∙ loaded.named) in
     unit.covers ∙ ap (λ (l : LimitOf). cover_of network l (at cut.x)) one ∙ ap (λ (l : List ℤ). cover_of network limit (at l)) unit.moved
     ∙ cover_of-same network limit (at (unit_move (length network.unknowns) unknown)) (unit_at unknown) (unit_move_at (length network.unknowns) unknown loaded.inside)
 
@@ -69,7 +66,7 @@ unit_cover network unknown number cut is unit limit loaded =
 each_more : (P : ℕ → CutOf → Type 0) (pool : List CutOf) (unknowns : List ℕ) (cut : CutOf) (unknown : ℕ) → length unknowns ≡ length pool
     → ((k : ℕ) (c : CutOf) → slice_get pool k ≡ Some c → P (get_or unknowns k 0) c) → P unknown cut
     → (k : ℕ) (c : CutOf) → slice_get (pool ++ (cut ∷ [])) k ≡ Some c → P (get_or (unknowns ++ (unknown ∷ [])) k 0) c
-each_more P [] [] cut unknown long each here zero c is = subst (λ (d : CutOf). P unknown d) (same_some cut c is) here
+each_more P [] [] cut unknown long each here zero c is = subst (λ (d : CutOf). P unknown d) (same_Some cut c is) here
 each_more P [] [] cut unknown long each here (suc k) c is = absurd (cc)
 each_more P [] (u ∷ us) cut unknown long each here k c is = absurd (omega arith)
 each_more P (p ∷ ps) [] cut unknown long each here k c is = absurd (omega arith)
@@ -110,7 +107,7 @@ has_kept pool now cut is = subst (λ (l : List CutOf). HasCover l (cover cut)) (
 -- a cut of the same limit and displacement has the same covering inequality
 same_cover : (network : NetworkOf) (unknown other_unknown : ℕ) (other cut : CutOf) → IsUnitCut network other_unknown other → IsUnitCut network unknown cut → IsSameCut other cut → cover other ≡ cover cut
 same_cover network unknown other_unknown other cut one two same =
-    let limits : one.limit ≡ two.limit = same_some one.limit two.limit (sym one.loaded.named ∙ ap (slice_get network.limits) same.0 ∙ two.loaded.named) in
+    let limits : one.limit ≡ two.limit = same_Some one.limit two.limit (sym one.loaded.named ∙ ap (slice_get network.limits) same.0 ∙ two.loaded.named) in
     one.covers ∙ ap (λ (l : LimitOf). cover_of network l (at other.x)) limits ∙ ap (λ (l : List ℤ). cover_of network two.limit (at l)) same.1 ∙ sym two.covers
 
 pub has_same : (network : NetworkOf) (cuts : UnitCuts) (unknown : ℕ) (cut : CutOf) (now : List CutOf) → KeepsUnitCuts network cuts → IsUnitCut network unknown cut

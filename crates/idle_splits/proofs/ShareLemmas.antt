@@ -4,7 +4,7 @@ use Rattle.std.specs.Prelude.{slice_get, IfNone}
 use Rattle.std.specs.Option.{is_some}
 use Rattle.std.proofs.lemmas.Bool.{false≢true}
 use Rattle.std.proofs.lemmas.List.Elements.{All-nil, All-cons}
-use Rattle.std.proofs.lemmas.Option.{slice_get_within, slice_get-get_or}
+use Rattle.std.proofs.lemmas.Option.{slice_get_within, slice_get-get_or, same_Some}
 use Rattle.whole_algebra.specs.Matrices.{at}
 use Rattle.geo_model.specs.Cover.{CoverOf}
 use Rattle.geo_model.specs.Network.{NetworkOf, IsNetwork, IsLimit}
@@ -35,9 +35,6 @@ small_kept network cuts k cut bounds kept is =
     subst (λ (c : CoverOf). IsSmallCover (length network.candidates) c) (sym unit.covers)
     (small_cover network unit.limit (at cut.x) limit (narrow_move (length network.unknowns) (get_or cuts.unknowns.items k 0) cut.x unit.loaded.inside unit.moved))
 
-same_some : {X : Type 0} (a b : X) → Some a ≡ Some b → a ≡ b
-same_some a b e = cc
-
 -- what the bound of one share asks
 pub one_share : (network : NetworkOf) (cuts : UnitCuts) (k : ℕ) (share : UnitShare) → IsNetwork network → KeepsUnitCuts network cuts → IsUnitShareOf network cuts k share → 1 ≤ share.d → 1 ≤ share.y
     → AreShares (length network.candidates) cuts.pool share.d (record { y = share.y; cut = k } ∷ [])
@@ -60,7 +57,7 @@ pub shows_dear : (network : NetworkOf) (node : Node) (cuts : UnitCuts) (k earlie
 shows_dear network node cuts k earlier share kept is dear =
     let unit = kept.each k is.cut is.kept in
     let unknown = get_or cuts.unknowns.items k 0 in
-    let one : dear.0 ≡ is.cut = same_some dear.0 is.cut (sym dear.1 ∙ is.kept) in
+    let one : dear.0 ≡ is.cut = same_Some dear.0 is.cut (sym dear.1 ∙ is.kept) in
     let covers : cover is.cut ≡ cover_of network unit.limit (unit_at unknown) = unit_cover network unknown is.cut.limit is.cut refl unit unit.limit unit.loaded in
     let told : cover is.cut ≡ cover_of network unit.limit (unit_at share.unknown) = covers ∙ ap (λ (u : ℕ). cover_of network unit.limit (unit_at u)) (sym is.unknown) in
     record {

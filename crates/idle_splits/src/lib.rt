@@ -22,5 +22,5 @@ mod unit_share;
 pub use dear::dear_share;
 pub use idle_test::IdleTest;
 pub use laws::{idleness_falls, logs_without_idle_splits};
-pub use unit_cuts::UnitCuts;
+pub use unit_cuts::{UnitCuts, unit_cut, unit_move};
 pub use unit_share::UnitShare;

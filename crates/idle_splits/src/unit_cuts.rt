@@ -99,8 +99,8 @@ impl UnitCuts {
     }
 }
 
-// The displacement by 1 in an unknown.
-fn unit_move(alloc: Global, network: &Network, unknown: u32) -> Result<Displacement, NoMemory>
+/// The displacement by 1 in an unknown. Refused for want of memory alone.
+pub fn unit_move(alloc: Global, network: &Network, unknown: u32) -> Result<Displacement, NoMemory>
     requires { unknown < length network.now.unknowns }
     ensures { IfOk result (λ x. x ≡ unit_move (length network.now.unknowns) unknown) }
 {
@@ -132,8 +132,9 @@ fn is_loaded(network: &Network, number: u32, x: &Displacement) -> bool
     is_of_point(&limits[number as usize]) && load(network, number, x) > 0
 }
 
-// The cut of a limit and the displacement by 1 in an unknown, where that loads it.
-fn unit_cut(
+/// The cut of an axis or height limit, by its number, and of the displacement by 1 in an unknown,
+/// where that loads it. Refused for want of memory alone.
+pub fn unit_cut(
     alloc: Global,
     network: &Network,
     number: u32,

@@ -1,33 +1,23 @@
 -- Sizes and steps of the sums that make the form of a limit.
-use Rattle.std.proofs.Common.{◌≡◌, ℕ, ◌+◌, ◌*◌, ◌^◌, ◌<◌, ◌≤◌, inl, inr, Bool, List, [], ◌∷◌, length, take, get_or, refl, sym, ◌∙◌, ap, ap₂, subst, arith, one-mul, add-mul, w64, FitsSigned, ℤ, pos, ◌+ℤ◌, ◌-ℤ◌, ◌*ℤ◌, ◌≤ℤ◌}
+use Rattle.std.proofs.Common.{◌≡◌, ℕ, ◌+◌, ◌*◌, ◌^◌, ◌<◌, ◌≤◌, Bool, List, [], ◌∷◌, length, take, get_or, refl, sym, ◌∙◌, ap, ap₂, subst, arith, w64, FitsSigned, ℤ, pos, ◌+ℤ◌, ◌-ℤ◌, ◌*ℤ◌, ◌≤ℤ◌}
 use mir.Syntax.{w128}
 use Rattle.std.specs.Prelude.{sum_by, unsigned_abs}
-use Rattle.std.proofs.lemmas.Bool.{cases_lt}
 use Rattle.std.proofs.lemmas.Int.{ints, fits_signed_from_abs}
 use Rattle.std.proofs.lemmas.List.Sums.{sum_by_more}
 use Rattle.std.proofs.Math.Nat.{mul-le-mul}
-use Rattle.whole_algebra.specs.Sums.{int_sum_by}
 use Rattle.whole_algebra.proofs.Normal.{ring, x0, lit, ◌⊕◌}
 use Rattle.geo_model.specs.Row.{total_size}
 use Rattle.geo_model.specs.Limit.{SquareOf, IsLoad}
 use Rattle.geo_model.specs.Network.{NetworkOf, IsNetwork}
+use Rattle.geo_model.proofs.SumSteps.{at_least_one, few_digits}
+use Rattle.geo_model.proofs.SizeLemmas.{light}
 use Rattle.normal_matrix.specs.Entries.{coefficient, normal_entry}
 use Rattle.whole_algebra.proofs.Order.{size-add, size-mul, square_is}
-use Rattle.normal_matrix.proofs.SumSteps.{int_sum_by-more}
+use Rattle.whole_algebra.proofs.SumLaws.{int_sum_by-more}
 use Rattle.normal_matrix.proofs.PlanSteps.{normal_entry-size}
 use Rattle.limit_forms.specs.Form.{load_entry}
 
 -- ---- one weighted product of two coefficients
-at_least_one : (b : ℤ) → pos 1 ≤ℤ b → 1 ≤ unsigned_abs b
-at_least_one b h = omega (arith, ints)
-
-few_digits : (b t : ℕ) → 1 ≤ b → b * (t * t) < 2 ^ 90 → t < 2 ^ 45
-few_digits b t one small =
-    elim (cases_lt t (2 ^ 45)) [
-      | inl less ↦ less
-      | inr more ↦ absurd (let p = mul-le-mul more more in let q = mul-le-mul one p in omega arith)
-    ]
-
 -- the numbers on the way to a weighted product
 pub record IsProduct (b f s : ℤ) (t : ℕ) : Type 0 where
   pub first_narrow : FitsSigned w64 f
@@ -86,19 +76,6 @@ load_size_step squares k square sum part inside is so_far this =
     joined : (z a b m n g t : ℕ) → z ≤ a + b → a ≤ m → b ≤ t → n ≡ m + g → g ≡ t → z ≤ n
     joined z a b m n g t h k l e f = omega arith
 
--- one element more of a sum of numbers
-pub sum_step : {X : Type 0} (f : X → ℤ) (xs : List X) (k : ℕ) (x : X) (sum part : ℤ) → k < length xs → x ≡ get_or xs k x → sum ≡ int_sum_by f (take k xs) → part ≡ f x
-    → sum +ℤ part ≡ int_sum_by f (take (k + 1) xs)
-sum_step f xs k x sum part inside is so_far this =
-    sym (int_sum_by-more f xs k x inside ∙ ap₂ (λ s t. s +ℤ t) (sym so_far) (ap f (sym is) ∙ sym this))
-
-pub size_step : (sum part : ℤ) (k m : ℕ) → unsigned_abs sum ≤ k * m → unsigned_abs part ≤ m → unsigned_abs (sum +ℤ part) ≤ (k + 1) * m
-size_step sum part k m so_far this =
-    let both = size-add sum part in
-    let more = add-mul k 1 m in
-    let one = one-mul m in
-    omega arith
-
 -- ---- the form
 pub record IsEntry (alpha entry taken : ℤ) : Type 0 where
   pub factor_narrow : FitsSigned w64 alpha
@@ -107,9 +84,6 @@ pub record IsEntry (alpha entry taken : ℤ) : Type 0 where
   pub product : FitsSigned w128 (alpha *ℤ entry)
   pub load : FitsSigned w128 taken
   pub difference : FitsSigned w128 (alpha *ℤ entry -ℤ taken)
-
-factor_size : (a : ℤ) → pos 1 ≤ℤ a → a ≤ℤ pos 1000000 → unsigned_abs a ≤ 1000000
-factor_size a h k = omega (arith, ints)
 
 size-sub : (a b : ℤ) → unsigned_abs (a -ℤ b) ≤ unsigned_abs a + unsigned_abs b
 size-sub a b = omega (arith, ints)
@@ -120,7 +94,7 @@ entry_fits network plan alpha load number squares i j bounds limit is small =
     let size = normal_entry-size (length network.unknowns) network.candidates plan i j bounds.each_candidate in
     let few = bounds.rows in
     let mine : unsigned_abs number ≤ 512 * 2 ^ 66 = rw is (omega arith) in
-    let factor = factor_size alpha limit.alpha_low limit.alpha_high in
+    let factor = light alpha limit.alpha_low limit.alpha_high in
     let product = size-mul alpha number 1000000 (512 * 2 ^ 66) factor mine in
     let both = size-sub (alpha *ℤ number) load in
     record {

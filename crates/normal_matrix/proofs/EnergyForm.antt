@@ -8,7 +8,7 @@ use Rattle.whole_algebra.specs.Sums.{int_sum_by, dot}
 use Rattle.whole_algebra.specs.Matrices.{quad}
 use Rattle.whole_algebra.specs.Grid.{packed}
 use Rattle.whole_algebra.proofs.Ring.{zero_mul, one_mul}
-use Rattle.whole_algebra.proofs.GridLaws.{quad-packed_sum, quad-packed_rows, packed-same}
+use Rattle.whole_algebra.proofs.GridLaws.{quad-packed_sum, quad-packed_rows, packed-same, dot-zeros, quad-packed_zero}
 use Rattle.whole_algebra.proofs.Normal.{ring, x0, x1, x2, x3, x4, x5, lit, ◌⊕◌, ◌⊗◌}
 use Rattle.geo_model.specs.Row.{Displaced, Entries, RowOf, unit_at, form_at, row_energy}
 use Rattle.geo_model.specs.Candidate.{CandidateOf, IsCandidate, candidate_energy}
@@ -31,11 +31,6 @@ unit_dot c x (u ∷ us) =
     (λ e. ap x (sym (eqb-true c u e))) (unit_dot c x us)
     ∙ ap (λ k. pos k *ℤ x c) (sym (sum_by-cons (λ v. if c == v then 1 else 0) u us))
 
-zero_dot : (us : List ℕ) (y : List ℤ) → dot (map (λ u. pos 0) us) y ≡ pos 0
-zero_dot [] y = refl
-zero_dot (u ∷ us) [] = refl
-zero_dot (u ∷ us) (y ∷ ys) = ap (λ t. pos 0 *ℤ y +ℤ t) (zero_dot us ys) ∙ ring (lit 0 ⊗ x0 ⊕ lit 0) (lit 0) (y ∷ []) refl
-
 sum_dot : (a : ℤ) (g f : ℕ → ℤ) (us : List ℕ) (y : List ℤ) → dot (map (λ u. a *ℤ g u +ℤ f u) us) y ≡ a *ℤ dot (map g us) y +ℤ dot (map f us) y
 sum_dot a g f [] y = ring (lit 0) (x0 ⊗ lit 0 ⊕ lit 0) (a ∷ []) refl
 sum_dot a g f (u ∷ us) [] = ring (lit 0) (x0 ⊗ lit 0 ⊕ lit 0) (a ∷ []) refl
@@ -46,7 +41,7 @@ sum_dot a g f (u ∷ us) (y ∷ ys) =
 -- the value of a linear form is the sum of its coefficients times the displacement, over the unknowns
 pub form_at-dot : (n : ℕ) (entries : Entries) (us : List ℕ) (x : Displaced) → All (λ entry. entry.0 < n) entries → HasEachOnce n us
     → dot (map (coefficient entries) us) (map x us) ≡ form_at entries x
-form_at-dot n [] us x below once = zero_dot us (map x us)
+form_at-dot n [] us x below once = dot-zeros us (map x us)
 form_at-dot n (e ∷ rest) us x below once =
     sum_dot e.1 (λ u. unit_at u e.0) (coefficient rest) us (map x us)
     ∙ ap₂ (λ s t. e.1 *ℤ s +ℤ t)
@@ -68,13 +63,6 @@ candidate_quad n candidate us x bounds once =
     quad-packed_rows (λ (row : RowOf). row.weight) (λ (row : RowOf). coefficient row.entries) candidate.rows us (map x us)
     ∙ rows_energy n candidate.rows us x bounds.columns once
 
-zero_quad : (us : List ℕ) (y : List ℤ) → quad (packed (λ i j. pos 0) us) y ≡ pos 0
-zero_quad [] y = refl
-zero_quad (u ∷ us) [] = refl
-zero_quad (u ∷ us) (y ∷ ys) =
-    ap₂ (λ s t. pos 0 *ℤ (y *ℤ y) +ℤ pos 2 *ℤ (y *ℤ s) +ℤ t) (zero_dot us ys) (zero_quad us ys)
-    ∙ ring (lit 0 ⊗ (x0 ⊗ x0) ⊕ lit 2 ⊗ (x0 ⊗ lit 0) ⊕ lit 0) (lit 0) (y ∷ []) refl
-
 sum_quad : (f g : ℕ → ℕ → ℤ) (us : List ℕ) (y : List ℤ) → quad (packed (λ i j. f i j +ℤ g i j) us) y ≡ quad (packed f us) y +ℤ quad (packed g us) y
 sum_quad f g us y =
     ap (λ m. quad m y)
@@ -85,13 +73,13 @@ sum_quad f g us y =
 part_quad : (n : ℕ) (chosen : Bool) (candidate : CandidateOf) (us : List ℕ) (x : Displaced) → IsCandidate n candidate → HasEachOnce n us
     → quad (packed (λ i j. if chosen then candidate_entry candidate i j else pos 0) us) (map x us) ≡ (if chosen then candidate_energy candidate x else pos 0)
 part_quad n true candidate us x bounds once = candidate_quad n candidate us x bounds once
-part_quad n false candidate us x bounds once = zero_quad us (map x us)
+part_quad n false candidate us x bounds once = quad-packed_zero us (map x us)
 
 pub energy_is_quad : (n : ℕ) (candidates : List CandidateOf) (plan : List Bool) (unknowns : List ℕ) (x : Displaced)
     → All (IsCandidate n) candidates → HasEachOnce n unknowns
     → energy candidates plan x ≡ quad (packed (normal_entry candidates plan) unknowns) (map x unknowns)
-energy_is_quad n [] plan us x all once = sym (zero_quad us (map x us))
-energy_is_quad n (candidate ∷ rest) [] us x all once = sym (zero_quad us (map x us))
+energy_is_quad n [] plan us x all once = sym (quad-packed_zero us (map x us))
+energy_is_quad n (candidate ∷ rest) [] us x all once = sym (quad-packed_zero us (map x us))
 energy_is_quad n (candidate ∷ rest) (chosen ∷ plan) us x all once =
     sym (
     sum_quad (λ i j. if chosen then candidate_entry candidate i j else pos 0) (normal_entry rest plan) us (map x us)

@@ -15,10 +15,12 @@ use Rattle.lent_parts.proofs.Triangles.{length-IsTri}
 use Rattle.whole_algebra.proofs.Ring.{mul_comm}
 use Rattle.whole_algebra.proofs.Order.{size-add, size-mul}
 use Rattle.whole_algebra.proofs.SumLaws.{int_sum_by-same}
+use Rattle.whole_algebra.proofs.Written.{at-zeros}
 use Rattle.geo_model.specs.Row.{RowOf, IsRow}
 use Rattle.geo_model.specs.Candidate.{CandidateOf, IsCandidate}
 use Rattle.geo_model.specs.Network.{NetworkOf, IsNetwork}
 use Rattle.geo_model.proofs.SizeLemmas.{light}
+use Rattle.geo_model.proofs.SumSteps.{rows-few}
 use Rattle.normal_matrix.specs.Entries.{coefficient, row_entry, candidate_entry, normal_entry}
 use Rattle.normal_matrix.specs.Normal.{NormalOf, IsNormalOf}
 use Rattle.normal_matrix.proofs.RowSteps.{rows_size}
@@ -74,13 +76,6 @@ pub scaled_entry-small : (network : NetworkOf) (plan : List Bool) (alpha : ℤ) 
 scaled_entry-small network plan alpha i j bounds low high =
     let h = size-mul alpha (normal_entry network.candidates plan i j) 1000000 (512 * (1000000 * 2 ^ 42)) (light alpha low high) (network_entry-size network plan i j bounds) in
     omega arith
-
-pub rows_of_one : (candidates : List CandidateOf) (k : ℕ) (d : CandidateOf) → k < length candidates → length (get_or candidates k d).rows ≤ sum_by (λ candidate. length candidate.rows) candidates
-rows_of_one [] k d inside = absurd (omega arith)
-rows_of_one (candidate ∷ rest) zero d inside = omega (arith, sum_by-cons (λ (c : CandidateOf). length c.rows) candidate rest)
-rows_of_one (candidate ∷ rest) (suc k) d inside =
-    let later : k < length rest = omega arith in
-    omega (arith, sum_by-cons (λ (c : CandidateOf). length c.rows) candidate rest, rows_of_one rest k d later)
 
 -- ---- plans
 -- the empty plan
@@ -144,7 +139,7 @@ pub rows_of_candidate : (network : NetworkOf) (candidates : List CandidateOf) (k
 rows_of_candidate network candidates k candidate rows bounds same inside is listed =
     let here : candidate ≡ get_or network.candidates k candidate = is ∙ ap (λ (l : List CandidateOf). get_or l k candidate) same in
     let one : IsCandidate (length network.unknowns) candidate = subst (IsCandidate (length network.unknowns)) (sym here) (bounds.each_candidate k candidate inside) in
-    let count = rows_of_one network.candidates k candidate inside in
+    let count = rows-few network.candidates k candidate inside in
     let total = bounds.rows in
     let mine : length candidate.rows ≡ length (get_or network.candidates k candidate).rows = ap (λ (c : CandidateOf). length c.rows) here in
     let few : length candidate.rows ≤ 512 = omega arith in record {
@@ -193,12 +188,7 @@ part_left_out candidate i j = omega (arith, ints)
 -- no candidate's rows yet
 entry_of_zeros : (n i k : ℕ) → at (row_at (zero_tri n) i) k ≡ pos 0
 entry_of_zeros zero i k = refl
-entry_of_zeros (suc n) zero k = none (suc n) k
-  where
-    none : (n k : ℕ) → at (replicate n (pos 0)) k ≡ pos 0
-    none zero k = refl
-    none (suc n) zero = refl
-    none (suc n) (suc k) = none n k
+entry_of_zeros (suc n) zero k = at-zeros (suc n) k
 entry_of_zeros (suc n) (suc i) k = entry_of_zeros n i k
 
 length-none : (n : ℕ) → length (replicate n false) ≡ n

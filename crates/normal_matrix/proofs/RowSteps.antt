@@ -4,6 +4,7 @@ use Rattle.std.specs.Prelude.{All, AllPairs, unsigned_abs, slice_set}
 use Rattle.std.proofs.lemmas.Int.{ints}
 use Rattle.std.proofs.lemmas.List.{get_or-set_same, get_or-set_other}
 use Rattle.std.proofs.lemmas.List.Elements.{All-head, All-tail, All-take}
+use Rattle.std.proofs.lemmas.Bool.{cases_eq}
 use Rattle.whole_algebra.specs.Sums.{int_sum_by}
 use Rattle.whole_algebra.specs.Matrices.{at}
 use Rattle.whole_algebra.specs.Grid.{row_at, entry}
@@ -14,7 +15,8 @@ use Rattle.geo_model.specs.Row.{Entries, RowOf, IsRow, total_size, unit_at}
 use Rattle.geo_model.proofs.SizeLemmas.{light}
 use Rattle.normal_matrix.specs.Entries.{coefficient, row_entry}
 use Rattle.whole_algebra.proofs.Order.{size-add, size-mul}
-use Rattle.normal_matrix.proofs.SumSteps.{int_sum_by-more, same_or_apart, coefficient-more_here, coefficient-more_elsewhere, coefficient-size, coefficient-take-size, unit_at-same, unit_at-other}
+use Rattle.whole_algebra.proofs.SumLaws.{int_sum_by-more}
+use Rattle.normal_matrix.proofs.SumSteps.{coefficient-more_here, coefficient-more_elsewhere, coefficient-size, coefficient-take-size, unit_at-same, unit_at-other}
 
 -- an entry of a row, by its column
 pub entry_in_row : (rows : List (List ℤ)) (i k : ℕ) → entry rows i (i + k) ≡ at (tri_row rows i) k
@@ -70,7 +72,7 @@ row_step n old rows weight entries q d line shape inside below so_far written i 
     let c = (get_or entries q d).0 in
     let size = (get_or entries q d).1 in
     let rows_n = length-IsTri n rows shape in
-    elim (same_or_apart i c) [
+    elim (cases_eq i c) [
       | inl here ↦
           let len = length-tri_row n rows c shape below in
           let place : j - i < length (tri_row rows c) = omega arith in
@@ -108,7 +110,7 @@ coefficient-below (entry ∷ rest) i b ascend small some =
     let rest_ascend : AllPairs (λ (e : ℕ × ℤ) (later : ℕ × ℤ). e.0 < later.0) rest = λ k l d less inside. ascend (suc k) (suc l) d (omega arith) (omega arith) in
     let size = All-head (λ (e : ℕ × ℤ). unsigned_abs e.1 < b) entry rest small in
     let later = coefficient-below rest i b rest_ascend (All-tail (λ (e : ℕ × ℤ). unsigned_abs e.1 < b) entry rest small) some in
-    elim (same_or_apart entry.0 i) [
+    elim (cases_eq entry.0 i) [
       | inl here ↦
           let none : coefficient rest i ≡ pos 0 = no_column rest i (λ k d inside. let up : entry.0 < (get_or rest k d).0 = ascend zero (suc k) d (omega arith) (omega arith) in omega arith) in
           let unit = unit_at-same i entry.0 here in

@@ -8,7 +8,8 @@ use Rattle.std.specs.List.{list_all}
 use Rattle.whole_algebra.proofs.Places.{row_at-chain_rows}
 use Rattle.whole_algebra.proofs.ChainLaws.{step_cases, is_zero-true, and_left}
 use Rattle.whole_algebra.proofs.Refutation.{false_is_not_true}
-use Rattle.chain_step.proofs.RowLaws.{neither, parts}
+use Rattle.whole_algebra.proofs.Sizes.{or_parts}
+use Rattle.chain_step.proofs.RowLaws.{neither}
 use Rattle.chain_step.specs.Step.{over_of}
 use Rattle.chain_step.specs.declared.side.Side.{Side}
 use Rattle.chain_step.proofs.Matrices.{GoesOn}
@@ -56,8 +57,8 @@ stops_at side (suc k) (suc n) (row ∷ rest) v lt t go e =
 -- ---- the pivots of a chain that doesn't stop
 pub each_goes_on : (steps : List Step) (k : ℕ) → stops steps ≡ false → is_stop (get_or steps k free) ≡ false
 each_goes_on [] k e = refl
-each_goes_on (s ∷ steps) zero e = (parts (is_stop s) (stops steps) e).0
-each_goes_on (s ∷ steps) (suc k) e = each_goes_on steps k (parts (is_stop s) (stops steps) e).1
+each_goes_on (s ∷ steps) zero e = (or_parts (is_stop s) (stops steps) e).0
+each_goes_on (s ∷ steps) (suc k) e = each_goes_on steps k (or_parts (is_stop s) (stops steps) e).1
 
 pub step_of_row : (rows : List (List ℤ)) (k : ℕ) → get_or (map step_of rows) k free ≡ step_of (row_at rows k)
 step_of_row [] k = refl

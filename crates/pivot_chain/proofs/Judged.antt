@@ -1,5 +1,5 @@
 -- The verdict as the code puts it together.
-use Rattle.std.proofs.Common.{◌≡◌, ℕ, zero, suc, [], ◌∷◌, ◌+◌, ◌^◌, ◌<◌, ◌≤◌, Bool, List, length, get_or, Some, slice_get, refl, sym, ◌∙◌, ap, ap₂, subst, arith, ℤ, pos, ◌+ℤ◌, ◌-ℤ◌, ◌≤ℤ◌}
+use Rattle.std.proofs.Common.{◌≡◌, ℕ, ◌+◌, ◌^◌, ◌<◌, ◌≤◌, Bool, List, length, get_or, refl, sym, ◌∙◌, ap, ap₂, subst, arith, ℤ, pos, ◌+ℤ◌, ◌-ℤ◌, ◌≤ℤ◌}
 use Rattle.std.proofs.lemmas.Int.{ints}
 use Rattle.whole_algebra.specs.Rounding.{floor_over, gap_over}
 use Rattle.whole_algebra.specs.Matrices.{at, slacks, IsTriangle}
@@ -10,6 +10,7 @@ use Rattle.whole_algebra.proofs.Shapes.{length-triangle}
 use Rattle.whole_algebra.proofs.Places.{at-diagonal, lower_over-diagonal, upper_over-diagonal}
 use Rattle.whole_algebra.proofs.VerdictLaws.{stop_place-range, length-chain}
 use Rattle.whole_algebra.proofs.DiagonalLaws.{slack_nonneg}
+use Rattle.whole_algebra.proofs.Order.{le_trans}
 use Rattle.geo_model.specs.Limit.{SquareOf, LimitOf, IsLoad}
 use Rattle.geo_model.specs.Network.{NetworkOf, IsNetwork, IsLimit}
 use Rattle.limit_forms.specs.Grid.{on_grid, grid_step, lower_grid, upper_grid}
@@ -56,11 +57,8 @@ small_lower network plan alpha squares bounds load =
       shape = whole_triangle n m (lower_triangle network plan alpha squares);
       few = few_rows n m (lower_triangle network plan alpha squares) bounds.unknowns;
       each_size = λ i k. lower_small network plan alpha squares i k bounds load;
-      heads = λ i. trans (at (row_at m i) 0) (at (row_at (upper_grid network plan alpha squares) i) 0) (pos (2 ^ 60 + 64)) (heads_below network plan alpha squares i) (upper_head network plan alpha squares i bounds load);
+      heads = λ i. le_trans (at (row_at m i) 0) (at (row_at (upper_grid network plan alpha squares) i) 0) (pos (2 ^ 60 + 64)) (heads_below network plan alpha squares i) (upper_head network plan alpha squares i bounds load);
     }
-  where
-    trans : (p q r : ℤ) → p ≤ℤ q → q ≤ℤ r → p ≤ℤ r
-    trans p q r h g = omega (arith, ints)
 
 pub small_upper : (network : NetworkOf) (plan : List Bool) (alpha : ℤ) (squares : List SquareOf) → IsNetwork network → IsLoad (length network.unknowns) network.candidates alpha squares
     → IsSmall (upper_grid network plan alpha squares)
@@ -97,17 +95,6 @@ tall_upper_of grids = tall_upper grids.network.now grids.normal.now.plan grids.a
 pub limit_at : (network : NetworkOf) (limits : List LimitOf) (i : ℕ) (form : LimitOf) → IsNetwork network → limits ≡ network.limits → i < length network.limits → form ≡ get_or limits i form → IsLimit network form
 limit_at network limits i form bounds same lt e =
     subst (IsLimit network) (sym (e ∙ ap (λ xs. get_or xs i form) same)) (bounds.each_limit i form lt)
-
-pub same_limit : (limits : List LimitOf) (i : ℕ) (form l : LimitOf) → form ≡ get_or limits i form → slice_get limits i ≡ Some l → form ≡ l
-same_limit limits i form l e f = e ∙ got limits i form l f
-  where
-    use_some : (x l : LimitOf) → Some x ≡ Some l → x ≡ l
-    use_some x l e = cc
-
-    got : (limits : List LimitOf) (i : ℕ) (d l : LimitOf) → slice_get limits i ≡ Some l → get_or limits i d ≡ l
-    got [] i d l e = absurd (cc)
-    got (x ∷ limits) zero d l e = use_some x l e
-    got (x ∷ limits) (suc i) d l e = got limits i d l e
 
 pub load_of : (network : NetworkOf) (form : LimitOf) (alpha : ℤ) (squares : List SquareOf) → IsLimit network form → alpha ≡ form.alpha → squares ≡ form.squares
     → IsLoad (length network.unknowns) network.candidates alpha squares

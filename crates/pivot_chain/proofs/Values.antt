@@ -1,5 +1,5 @@
 -- Limits that were looked up, with another value, and rows.
-use Rattle.std.proofs.Common.{◌≡◌, ℕ, ◌<◌, ◌≤◌, ℤ, Bool, List, Some, length, get_or, slice_get, refl, sym, ◌∙◌, ap, subst}
+use Rattle.std.proofs.Common.{◌≡◌, ℕ, ◌<◌, ◌≤◌, ℤ, Bool, List, Some, length, get_or, slice_get, sym, ◌∙◌, ap, subst}
 use Rattle.std.proofs.lemmas.Bool.{false≢true}
 use Rattle.std.proofs.lemmas.Option.{slice_get-get_or, slice_get_within, get_or_from_slice_get}
 use Rattle.geo_model.specs.Row.{Displaced, RowOf}
@@ -22,9 +22,6 @@ found_at xs seen i x same lt is = slice_get-get_or xs i x lt ∙ ap Some (ap (λ
 -- .. with another default
 pub read_at : {X : Type 0} (xs : List X) (i : ℕ) (x d : X) → i < length xs → x ≡ get_or xs i d → slice_get xs i ≡ Some x
 read_at xs i x d lt is = slice_get-get_or xs i d lt ∙ ap Some (sym is)
-
-pub same_found : {X : Type 0} (x y : X) → Some x ≡ Some y → x ≡ y
-same_found x y e = cc
 
 pub factor_is : (form : LimitOf) (kind : LimitKind) (alpha factor : ℤ) (value : ℕ) → kind ≡ form.kind → alpha ≡ form.alpha → factor ≡ factor_at kind alpha value
     → (with_value form value).alpha ≡ factor

@@ -2,9 +2,9 @@
 ghost use Rattle.std.specs.Prelude.{◌≡◌, ℕ, ◌-◌, ◌<◌, ◌≤◌, length, unsigned_abs};
 ghost use Rattle.whole_algebra.specs.Matrices.{at};
 ghost use Rattle.lent_parts.specs.Triangle.{tri_row};
-ghost use Rattle.chain_step.specs.Step.{IsPivotRow, sum_from, left_slack};
+ghost use Rattle.chain_step.specs.Step.{sum_from, left_slack};
+ghost use Rattle.pivot_chain.specs.Chain.{HasGaps};
 
-use chain_step::left_gaps;
 use lent_parts::Tri;
 
 // How many quotients of row `k` left of its diagonal aren't whole, over all steps before it: the sum of
@@ -21,16 +21,15 @@ pub(crate) fn counted_slack(gaps: &Tri, k: u32) -> i128
     slack
 }
 
-/// The same by dividing, for who keeps no counts: `rows` has the first rows of the matrices of a chain,
-/// of which the first `k` are known.
-pub fn divided_slack(rows: &Tri, k: u32) -> i128
+/// The same for who keeps rows and their counts apart: how many quotients of row `k` of `rows` left of
+/// its diagonal aren't whole, where the rows before it counted theirs in `gaps`, as `step_row` does.
+pub fn slack_of_row(rows: &Tri, gaps: &Tri, k: u32) -> i128
     requires within { k < length rows.now }
-    requires pivots { (j : ℕ) → j < k → IsPivotRow (tri_row rows.now j) }
+    requires places { length gaps.now ≡ length rows.now }
+    requires counted { HasGaps rows.now gaps.now k }
     ensures { result ≡ left_slack rows.now (length rows.now - k) k }
 {
-    let mut slack = 0;
-    for j in 0..k {
-        slack += left_gaps(rows.row(j), (k - j) as usize);
-    }
-    slack
+    // The shape of the rows, for the proof.
+    let _size = rows.size();
+    counted_slack(gaps, k)
 }

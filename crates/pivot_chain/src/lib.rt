@@ -24,7 +24,7 @@ mod row_squares;
 mod run;
 
 pub use chain::{Stop, step_row};
-pub use gaps::divided_slack;
+pub use gaps::slack_of_row;
 pub use grids::{Grids, write_rows};
 pub use judging::{redundancy_at, verdict, verdict_at};
 pub use laws::{

@@ -34,11 +34,21 @@ impl Model for Chains {
 
 /// All the memory that verdicts on the limits of a network need. A verdict depends on nothing that
 /// the room held before.
-#[derive(Debug, Drop)]
+#[derive(Debug)]
 pub struct ChainRoom {
     pub(crate) chains: Chains,
     // The square of a row that is judged: one is kept for each number of entries.
     pub(crate) squares: Vec<Square>,
+}
+
+// Not derived: a derived drop is spelled out, part by part, in the proof of whoever owns a room.
+impl Drop for ChainRoom {
+    fn drop(self) {
+        let ChainRoom {
+            chains: _chains,
+            squares: _squares,
+        } = self;
+    }
 }
 
 impl Model for ChainRoom {

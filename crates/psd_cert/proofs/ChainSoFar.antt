@@ -6,13 +6,13 @@ use Rattle.whole_algebra.specs.Chains.{step_of, is_stop, next, chain_steps, stop
 use Rattle.whole_algebra.specs.Certificates.{CertificateHolds, lower_remainders}
 use Rattle.whole_algebra.proofs.Refutation.{false_is_not_true}
 use Rattle.whole_algebra.proofs.LowerCertificate.{triangle-next_lower, lower_certificate}
+use Rattle.whole_algebra.proofs.Sizes.{or_parts}
 use Rattle.lent_parts.specs.Triangle.{IsTri}
 use Rattle.lent_parts.proofs.Triangles.{length-IsTri}
 use Rattle.psd_cert.specs.Sizes.{Fits}
 use Rattle.psd_cert.specs.Certificate.{IsCertificate, IsKeptCertificate}
 use Rattle.psd_cert.specs.Lower.{StopsHere, Leaves, last_matrix}
 use Rattle.psd_cert.proofs.FormBounds.{chain_fits}
-use Rattle.chain_step.proofs.RowLaws.{parts}
 
 -- the remainders so far begin those of the lower chain of a first matrix, which goes on from the last one
 pub record IsBegun (n : ℕ) (first : List (List ℤ)) (rs : List (List (List ℤ))) : Type 0 where
@@ -120,7 +120,7 @@ length-lower_remainders zero [] t e = tt
 length-lower_remainders zero (row ∷ rest) t e = absurd t
 length-lower_remainders (suc n) [] t e = absurd t
 length-lower_remainders (suc n) (row ∷ rest) t e =
-    let p = parts (is_stop (step_of row)) (stops (chain_steps lower_over n (next lower_over row rest))) e in
+    let p = or_parts (is_stop (step_of row)) (stops (chain_steps lower_over n (next lower_over row rest))) e in
     let shape = triangle-next_lower n row rest t.0 t.1 (no_stop_here (is_stop (step_of row)) false p.0) in
     (shape, length-lower_remainders n (next lower_over row rest) shape p.1)
 

@@ -7,10 +7,11 @@ use Rattle.whole_algebra.specs.Chains.{beside}
 use Rattle.whole_algebra.specs.Grid.{row_at}
 use Rattle.whole_algebra.proofs.Shapes.{triangle-schur, triangle-entries, length-plus_lists}
 use Rattle.whole_algebra.proofs.Places.{at-row_at-schur, at-row_at-minus_matrix, at-row_at-entries, at-beside}
+use Rattle.whole_algebra.proofs.Written.{read_back}
 use Rattle.lent_parts.specs.Triangle.{IsTri, tri_row}
 use Rattle.psd_cert.specs.Sizes.{RowFits, Fits}
 use Rattle.psd_cert.specs.LeftOver.{left_over, left_sizes, IsScale}
-use Rattle.chain_step.proofs.Products.{kept, read_back}
+use Rattle.chain_step.proofs.Products.{kept}
 
 -- ---- sizes
 pub row_fits_at : (row : List ℤ) (k : ℕ) → RowFits row → unsigned_abs (at row k) ≤ 2 ^ 61
@@ -74,7 +75,7 @@ scale_fits (a ∷ b) s h g =
 pub entry_read : (m : List (List ℤ)) (i j : ℕ) (row : List ℤ) (k l : ℕ) → Fits m → row ≡ tri_row m i → j ≡ i → l ≡ k → kept (at row k) ≡ at (row_at m j) l
 entry_read m i j row k l h e f g =
     let size = entry_fits m i k h in
-    ap (λ t. kept (at t k)) e ∙ read_back (at (tri_row m i) k) (omega arith) ∙ ap₂ (λ u v. at (row_at m u) v) (sym f) (sym g)
+    ap (λ t. kept (at t k)) e ∙ read_back (at (tri_row m i) k) (2 ^ 126) (omega arith) (omega arith) ∙ ap₂ (λ u v. at (row_at m u) v) (sym f) (sym g)
 
 pub left_over_read : (s : ℤ) (n : ℕ) (m r : List (List ℤ)) (i k : ℕ) (first row below : List ℤ) (x : ℤ)
     → IsTri (suc n) m → Fits m → Fits r → unsigned_abs s ≤ 2 ^ 61
@@ -84,7 +85,7 @@ pub left_over_read : (s : ℤ) (n : ℕ) (m r : List (List ℤ)) (i k : ℕ) (fi
 left_over_read s n m r i k first row below x t h g hs e1 e2 e3 e =
     e
     ∙ ap₂ (λ u v. u -ℤ v)
-    (ap₂ (λ u v. u *ℤ v) (read_back s (omega arith))
+    (ap₂ (λ u v. u *ℤ v) (read_back s (2 ^ 126) (omega arith) (omega arith))
     (ap₂ (λ u v. u -ℤ v) (entry_read m (i + 1) (suc i) row k k h e2 (omega arith) refl) (entry_read r i i below k k g e3 refl refl)))
     (ap₂ (λ u v. u *ℤ v) (entry_read m 0 0 first (i + 1) (suc i) h e1 refl (omega arith)) (entry_read m 0 0 first (i + k + 1) (suc (i + k)) h e1 refl (omega arith)))
     ∙ sym (at-left_over s n m r i k t)

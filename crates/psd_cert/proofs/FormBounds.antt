@@ -4,7 +4,7 @@ use Rattle.std.proofs.Common.{◌≡◌, ℕ, zero, suc, ◌+◌, ◌-◌, ◌^�
 use Rattle.std.proofs.lemmas.Int.{ints}
 use Rattle.std.proofs.lemmas.List.Elements.{All-from_get_or}
 use Rattle.whole_algebra.specs.Sums.{dot}
-use Rattle.whole_algebra.specs.Matrices.{at, row_quad, quad, diagonal, lower_over, IsTriangle}
+use Rattle.whole_algebra.specs.Matrices.{at, quad, diagonal, lower_over, IsTriangle}
 use Rattle.whole_algebra.specs.Chains.{stops, chain_steps}
 use Rattle.whole_algebra.specs.Grid.{row_at}
 use Rattle.whole_algebra.proofs.SumLaws.{dot-nil}
@@ -12,6 +12,7 @@ use Rattle.whole_algebra.proofs.FormLaws.{quad-nil}
 use Rattle.whole_algebra.proofs.ChainLaws.{lower_nonneg}
 use Rattle.whole_algebra.proofs.Places.{at-diagonal}
 use Rattle.whole_algebra.proofs.Normal.{ring, x0, x1, x2, x3, lit, opposite_of, ◌⊕◌, ◌⊖◌, ◌⊗◌}
+use Rattle.whole_algebra.proofs.Shapes.{row_quad-zero}
 use Rattle.lent_parts.proofs.Triangles.{length-IsTri, length-tri_row}
 use Rattle.psd_cert.specs.Sizes.{RowFits, Fits}
 
@@ -30,10 +31,6 @@ unfolding one_place
 dot-one_place [] k w = ring (lit 0) (lit 0 ⊗ x0) (w ∷ []) refl
 dot-one_place (c ∷ b) zero w = ap (λ t. c *ℤ w +ℤ t) (dot-nil b) ∙ ring (x0 ⊗ x1 ⊕ lit 0) (x0 ⊗ x1) (c ∷ w ∷ []) refl
 dot-one_place (c ∷ b) (suc k) w = ap (λ t. c *ℤ pos 0 +ℤ t) (dot-one_place b k w) ∙ ring (x0 ⊗ lit 0 ⊕ x1 ⊗ x2) (x1 ⊗ x2) (c ∷ at b k ∷ w ∷ []) refl
-
-row_quad-zero : (row y : List ℤ) → row_quad row (pos 0) y ≡ pos 0
-row_quad-zero [] y = refl
-row_quad-zero (a ∷ b) y = ring (x0 ⊗ (lit 0 ⊗ lit 0) ⊕ lit 2 ⊗ (lit 0 ⊗ x1)) (lit 0) (a ∷ dot b y ∷ []) refl
 
 quad-skip : (row : List ℤ) (rest : List (List ℤ)) (y : List ℤ) → quad (row ∷ rest) (pos 0 ∷ y) ≡ quad rest y
 quad-skip row rest y = ap (λ t. t +ℤ quad rest y) (row_quad-zero row y) ∙ ring (lit 0 ⊕ x0) x0 (quad rest y ∷ []) refl

@@ -12,10 +12,10 @@ use Rattle.whole_algebra.specs.Grid.{row_at, above}
 use Rattle.whole_algebra.proofs.Order.{le_refl}
 use Rattle.whole_algebra.proofs.Shapes.{triangle-schur, triangle-entries, length-diagonal, length-off_sums}
 use Rattle.whole_algebra.proofs.Places.{at-row_at-schur, at-beside, at-diagonal, at-off_sums, int_sum-take_more, triangle_by_places, row_at-entries}
-use Rattle.whole_algebra.proofs.ChainLaws.{is_zero-true, and_left, and_right}
 use Rattle.whole_algebra.proofs.Normal.{ring, x0, x1, lit, ◌⊖◌, ◌⊗◌}
 use Rattle.lent_parts.specs.Triangle.{IsTri, tri_row}
 use Rattle.chain_step.proofs.RowLaws.{nothing_past}
+use Rattle.chain_step.proofs.Dividing.{at_zeros}
 use Rattle.psd_cert.specs.Certificate.{StepFrom}
 use Rattle.psd_cert.specs.LeftOver.{left_over, left_sizes, IsRowDominant, IsScale}
 use Rattle.psd_cert.proofs.Entries.{at-left_sizes, triangle-left_over, triangle-minus_matrix}
@@ -161,13 +161,8 @@ pub no_change : (n : ℕ) (b : List ℤ) (m : List (List ℤ)) → length b ≡ 
 no_change n b m e t z =
     triangle_by_places n (schur (pos 1) b m) m (triangle-schur (pos 1) n b m e t) t
     (λ i k. at-row_at-schur (pos 1) b m i k
-    ∙ ap (λ p. pos 1 *ℤ at (row_at m i) k -ℤ p *ℤ at b (i + k)) (zero_at b i z)
+    ∙ ap (λ p. pos 1 *ℤ at (row_at m i) k -ℤ p *ℤ at b (i + k)) (at_zeros b i z)
     ∙ ring (lit 1 ⊗ x0 ⊖ lit 0 ⊗ x1) x0 (at (row_at m i) k ∷ at b (i + k) ∷ []) refl)
-  where
-    zero_at : (b : List ℤ) (i : ℕ) → list_all is_zero b ≡ true → at b i ≡ pos 0
-    zero_at [] i z = refl
-    zero_at (c ∷ b) zero z = is_zero-true c (and_left (is_zero c) (list_all is_zero b) z)
-    zero_at (c ∷ b) (suc i) z = zero_at b i (and_right (is_zero c) (list_all is_zero b) z)
 
 pub step_from_rows : (s : ℤ) (n : ℕ) (m r : List (List ℤ)) → IsTri (suc n) m → IsTri n r → IsScale (tri_row m 0) s
     → ((i : ℕ) → i < n → IsRowDominant (left_over s m r) i) → StepFrom m r

@@ -60,6 +60,20 @@ impl Scaling {
         Ok(Form { terms })
     }
 
+    /// The root of the diagonal entry of each unknown over the greatest of them, in fixed point: what
+    /// a displacement by 1 in the unknown is in scaled units, up to one factor for all.
+    pub fn roots(&self, alloc: Global) -> Result<Vec<i64>, NoMemory> {
+        let mut greatest = 0u128;
+        for entry in self.diagonal.as_slice() {
+            greatest = greatest.max(*entry);
+        }
+        let mut roots = Vec::new(alloc);
+        for entry in self.diagonal.as_slice() {
+            roots.push(root_of_ratio(*entry, greatest))?;
+        }
+        Ok(roots)
+    }
+
     // The least diagonal entry above 0.
     pub(crate) fn least(&self) -> u128 {
         let mut least = u128::MAX;

@@ -66,17 +66,18 @@ quad-packed_square f (u ∷ us) (x ∷ y) =
     ap₂ (λ s t. (f u *ℤ f u) *ℤ (x *ℤ x) +ℤ pos 2 *ℤ (x *ℤ s) +ℤ t) (dot-map_scaled (f u) f us y) (quad-packed_square f us y)
     ∙ ring ((x0 ⊗ x0) ⊗ (x1 ⊗ x1) ⊕ lit 2 ⊗ (x1 ⊗ (x0 ⊗ x2)) ⊕ x2 ⊗ x2) ((x0 ⊗ x1 ⊕ x2) ⊗ (x0 ⊗ x1 ⊕ x2)) (f u ∷ x ∷ dot (map f us) y ∷ []) refl
 
-quad-packed_zero : (us : List ℕ) (x : List ℤ) → quad (packed (λ i j. pos 0) us) x ≡ pos 0
+-- a linear form of zeros
+pub dot-zeros : (us : List ℕ) (x : List ℤ) → dot (map (λ u. pos 0) us) x ≡ pos 0
+dot-zeros [] x = refl
+dot-zeros (u ∷ us) [] = refl
+dot-zeros (u ∷ us) (x ∷ y) = ap (λ t. pos 0 *ℤ x +ℤ t) (dot-zeros us y) ∙ ring (lit 0 ⊗ x0 ⊕ lit 0) (lit 0) (x ∷ []) refl
+
+pub quad-packed_zero : (us : List ℕ) (x : List ℤ) → quad (packed (λ i j. pos 0) us) x ≡ pos 0
 quad-packed_zero [] x = refl
 quad-packed_zero (u ∷ us) [] = refl
 quad-packed_zero (u ∷ us) (x ∷ y) =
-    ap₂ (λ s t. pos 0 *ℤ (x *ℤ x) +ℤ pos 2 *ℤ (x *ℤ s) +ℤ t) (dot-zero us y) (quad-packed_zero us y)
+    ap₂ (λ s t. pos 0 *ℤ (x *ℤ x) +ℤ pos 2 *ℤ (x *ℤ s) +ℤ t) (dot-zeros us y) (quad-packed_zero us y)
     ∙ ring (lit 0 ⊗ (x0 ⊗ x0) ⊕ lit 2 ⊗ (x0 ⊗ lit 0) ⊕ lit 0) (lit 0) (x ∷ []) refl
-  where
-    dot-zero : (vs : List ℕ) (y : List ℤ) → dot (map (λ v. pos 0) vs) y ≡ pos 0
-    dot-zero [] y = refl
-    dot-zero (v ∷ vs) [] = refl
-    dot-zero (v ∷ vs) (y ∷ ys) = ap (λ t. pos 0 *ℤ y +ℤ t) (dot-zero vs ys) ∙ ring (lit 0 ⊗ x0 ⊕ lit 0) (lit 0) (y ∷ []) refl
 
 -- the sum over weighted rows of their products is the sum of weighted squares
 pub quad-packed_rows : {X : Type 0} (w : X → ℤ) (f : X → ℕ → ℤ) (rows : List X) (us : List ℕ) (x : List ℤ)

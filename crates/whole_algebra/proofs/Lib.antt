@@ -19,3 +19,4 @@ pub mod PivotStep
 pub mod Worked
 pub mod DiagonalLaws
 pub mod FirstRows
+pub mod Written

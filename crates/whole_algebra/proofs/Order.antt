@@ -1,5 +1,5 @@
 -- The order of the whole numbers, and how sums and products meet it.
-use Rattle.std.proofs.Common.{◌≡◌, ℕ, ◌+◌, ◌*◌, ◌^◌, ◌≤◌, ◌⊎◌, inl, inr, ap, sym, ◌∙◌, subst, arith, one-mul, ℤ, pos, negsuc, ◌+ℤ◌, ◌-ℤ◌, ◌*ℤ◌, neg_ℤ, ◌≤ℤ◌, ◌<ℤ◌}
+use Rattle.std.proofs.Common.{◌≡◌, ℕ, ◌+◌, ◌*◌, ◌^◌, ◌≤◌, ◌⊎◌, inl, inr, ap, sym, ◌∙◌, subst, arith, one-mul, add-mul, ℤ, pos, negsuc, ◌+ℤ◌, ◌-ℤ◌, ◌*ℤ◌, neg_ℤ, ◌≤ℤ◌, ◌<ℤ◌}
 use Rattle.std.specs.Prelude.{unsigned_abs}
 use Rattle.std.proofs.Math.Nat.{mul-le-mul, pow-suc, pow-zero}
 use Rattle.std.proofs.lemmas.Int.{ints, by_lt_z, unsigned_abs-mul}
@@ -89,6 +89,14 @@ neg_of_mul a b h k =
 -- ---- sizes
 pub size-add : (a b : ℤ) → unsigned_abs (a +ℤ b) ≤ unsigned_abs a + unsigned_abs b
 size-add a b = omega (arith, ints)
+
+-- a sum of k parts and one part more, of numbers of at most the size m
+pub size_more : (sum part : ℤ) (k m : ℕ) → unsigned_abs sum ≤ k * m → unsigned_abs part ≤ m → unsigned_abs (sum +ℤ part) ≤ (k + 1) * m
+size_more sum part k m so_far this =
+    let both = size-add sum part in
+    let more = add-mul k 1 m in
+    let one = one-mul m in
+    omega arith
 
 pub size-mul : (a b : ℤ) (m n : ℕ) → unsigned_abs a ≤ m → unsigned_abs b ≤ n → unsigned_abs (a *ℤ b) ≤ m * n
 size-mul a b m n h k = rw (unsigned_abs-mul a b) (mul-le-mul h k)

@@ -42,7 +42,7 @@ dot-padded (suc n) (c ∷ b) [] e =
 dot-padded (suc n) (c ∷ b) (z ∷ y) e = ap (λ t. c *ℤ z +ℤ t) (dot-padded n b y (omega arith))
 
 -- ---- triangles
-row_quad-zero : (row y : List ℤ) → row_quad row (pos 0) y ≡ pos 0
+pub row_quad-zero : (row y : List ℤ) → row_quad row (pos 0) y ≡ pos 0
 row_quad-zero [] y = refl
 row_quad-zero (a ∷ b) y = ring (x0 ⊗ (lit 0 ⊗ lit 0) ⊕ lit 2 ⊗ (lit 0 ⊗ x1)) (lit 0) (a ∷ dot b y ∷ []) refl
 

@@ -10,21 +10,22 @@ use Rattle.whole_algebra.proofs.Rounding.{floor_at_least, floor_at_most}
 use Rattle.whole_algebra.proofs.ChainLaws.{step_cases, positive}
 use Rattle.whole_algebra.proofs.Normal.{ring, x0, x1, lit, opposite_of, ◌⊕◌, ◌⊖◌, ◌⊗◌}
 
-neither : (t u : Bool) → t || u ≡ false → (t ≡ false) × (u ≡ false)
-neither true u e = absurd (apart e)
+-- neither of two that are false together
+pub or_parts : (t u : Bool) → t || u ≡ false → (t ≡ false) × (u ≡ false)
+or_parts true u e = absurd (apart e)
   where
     apart : true ≡ false → ⊥
     apart e = cc
-neither false u e = (refl, e)
+or_parts false u e = (refl, e)
 
 -- no square of the list is above k
 pub squares_at_most : (k : ℤ) (b : List ℤ) (i : ℕ) → pos 0 ≤ℤ k → list_any (λ c. int_lt k (c *ℤ c)) b ≡ false → (at b i *ℤ at b i) ≤ℤ k
 squares_at_most k [] i h e = omega (arith, ints)
 squares_at_most k (c ∷ b) zero h e =
-    let p = (neither (int_lt k (c *ℤ c)) (list_any (λ d. int_lt k (d *ℤ d)) b) e).0 in
+    let p = (or_parts (int_lt k (c *ℤ c)) (list_any (λ d. int_lt k (d *ℤ d)) b) e).0 in
     omega (arith, ints)
 squares_at_most k (c ∷ b) (suc i) h e =
-    squares_at_most k b i h (neither (int_lt k (c *ℤ c)) (list_any (λ d. int_lt k (d *ℤ d)) b) e).1
+    squares_at_most k b i h (or_parts (int_lt k (c *ℤ c)) (list_any (λ d. int_lt k (d *ℤ d)) b) e).1
 
 -- a product is at most the greater square
 pub product_within : (p q k : ℤ) → (p *ℤ p) ≤ℤ k → (q *ℤ q) ≤ℤ k → (neg_ℤ k ≤ℤ (p *ℤ q)) × ((p *ℤ q) ≤ℤ k)

@@ -1,7 +1,7 @@
 -- Sums and dot products of lists of whole numbers.
-use Rattle.std.proofs.Common.{◌≡◌, List, [], ◌∷◌, ◌++◌, map, refl, sym, ◌∙◌, ap, ap₂, ℤ, pos, ◌+ℤ◌, ◌*ℤ◌, ◌≤ℤ◌}
+use Rattle.std.proofs.Common.{◌≡◌, ℕ, zero, suc, ◌+◌, ◌<◌, List, [], ◌∷◌, ◌++◌, length, map, take, get_or, refl, sym, ◌∙◌, ap, ap₂, arith, add-one, ℤ, pos, ◌+ℤ◌, ◌*ℤ◌, ◌≤ℤ◌}
 use Rattle.whole_algebra.specs.Sums.{int_sum, int_sum_by, dot}
-use Rattle.whole_algebra.proofs.Ring.{add_assoc, zero_add, mul_comm, mul_zero, mul_add}
+use Rattle.whole_algebra.proofs.Ring.{add_assoc, add_comm, zero_add, mul_comm, mul_zero, mul_add}
 use Rattle.whole_algebra.proofs.Order.{add_nonneg, add_le_add, le_refl}
 use Rattle.whole_algebra.proofs.Normal.{ring, x0, x1, x2, x3, ◌⊕◌, ◌⊗◌}
 
@@ -13,6 +13,23 @@ pub int_sum_by-append : {X : Type 0} (f : X → ℤ) (xs ys : List X) → int_su
 int_sum_by-append f [] ys = sym (zero_add (int_sum_by f ys))
 int_sum_by-append f (x ∷ xs) ys =
     ap (λ t. f x +ℤ t) (int_sum_by-append f xs ys) ∙ sym (add_assoc (f x) (int_sum_by f xs) (int_sum_by f ys))
+
+-- a sum one element further, as a loop forms it
+one_further : {X : Type 0} (f : X → ℤ) (xs : List X) (i : ℕ) (d : X) → i < length xs → int_sum_by f (take (suc i) xs) ≡ int_sum_by f (take i xs) +ℤ f (get_or xs i d)
+one_further f [] i d inside = absurd (omega arith)
+one_further f (x ∷ xs) zero d inside = add_comm (f x) (pos 0)
+one_further f (x ∷ xs) (suc i) d inside =
+    let later : i < length xs = omega arith in
+    ap (λ z. f x +ℤ z) (one_further f xs i d later) ∙ sym (add_assoc (f x) (int_sum_by f (take i xs)) (f (get_or xs i d)))
+
+pub int_sum_by-more : {X : Type 0} (f : X → ℤ) (xs : List X) (i : ℕ) (d : X) → i < length xs → int_sum_by f (take (i + 1) xs) ≡ int_sum_by f (take i xs) +ℤ f (get_or xs i d)
+int_sum_by-more f xs i d inside = rw add-one (one_further f xs i d inside)
+
+-- .. where the element and the sums are as code read and formed them
+pub sum_more : {X : Type 0} (f : X → ℤ) (xs : List X) (k : ℕ) (x : X) (sum part : ℤ) → k < length xs → x ≡ get_or xs k x → sum ≡ int_sum_by f (take k xs) → part ≡ f x
+    → sum +ℤ part ≡ int_sum_by f (take (k + 1) xs)
+sum_more f xs k x sum part inside is so_far this =
+    sym (int_sum_by-more f xs k x inside ∙ ap₂ (λ s t. s +ℤ t) (sym so_far) (ap f (sym is) ∙ sym this))
 
 pub int_sum-map : {X : Type 0} (f : X → ℤ) (xs : List X) → int_sum (map f xs) ≡ int_sum_by f xs
 int_sum-map f [] = refl

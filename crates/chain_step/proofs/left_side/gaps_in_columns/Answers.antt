@@ -4,8 +4,9 @@ use Rattle.std.proofs.lemmas.Int.{to_z-of_z}
 use Rattle.chain_step.proofs.Products.{in_range}
 use Rattle.chain_step.specs.Step.{gap_at}
 use Rattle.chain_step.proofs.Quotients.{gap_size}
-use Rattle.chain_step.proofs.Gaps.{one_more, added_low, added_high, added_size}
+use Rattle.chain_step.proofs.Gaps.{one_more, added_high, added_size}
 use Rattle.chain_step.proofs.left_side.gaps_in_columns.Goals as goal
+use Rattle.whole_algebra.proofs.Order.{add_nonneg}
 
 pub loop-i-preserved : goal.loop-i-preserved
 loop-i-preserved c =
@@ -24,6 +25,6 @@ loop-i-preserved c =
     let v = simp (to_z-of_z, a, p, q) at c.quotient-floor.ensures.gap in
     simp (to_z-of_z, f, h) (record {
       value = ap₂ (λ s t. s +ℤ t) c.loop-i.invariant.value v ∙ sym (one_more (gap_at c.args.pivot.now c.args.column) c.args.first c.loop-i.i);
-      low = added_low sum gap c.loop-i.invariant.low c.quotient-floor.ensures.low;
+      low = add_nonneg sum gap c.loop-i.invariant.low c.quotient-floor.ensures.low;
       high = added_high sum gap c.loop-i.i (c.loop-i.i + 1) (omega arith) c.loop-i.invariant.high c.quotient-floor.ensures.high;
     })

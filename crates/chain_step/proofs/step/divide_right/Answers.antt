@@ -2,11 +2,13 @@ use Rattle.std.proofs.Common.{◌+◌, ◌-◌, ◌^◌, ◌<◌, ◌≤◌, get
 use Rattle.std.specs.Int.{w128}
 use Rattle.std.proofs.lemmas.Int.{to_z-of_z}
 use Rattle.whole_algebra.specs.Matrices.{at}
+use Rattle.whole_algebra.proofs.Written.{written}
+use Rattle.whole_algebra.proofs.Order.{add_nonneg}
 use Rattle.chain_step.proofs.Products.{in_range}
 use Rattle.chain_step.specs.Step.{gap_at, taken}
 use Rattle.chain_step.proofs.Quotients.{gap_size}
-use Rattle.chain_step.proofs.Gaps.{right_more, added_low, added_high, added_size}
-use Rattle.chain_step.proofs.RowWrites.{written, unwritten, sum_size, count_size}
+use Rattle.chain_step.proofs.Gaps.{right_more, added_high, added_size}
+use Rattle.chain_step.proofs.RowWrites.{unwritten, sum_size, count_size}
 use Rattle.chain_step.proofs.step.divide_right.Goals as goal
 
 pub overflow_add-row : goal.overflow_add-row
@@ -65,7 +67,7 @@ loop-m-preserved c =
     let w = simp (to_z-of_z, a, p, q) at c.quotient-floor.ensures.floor in
     simp (to_z-of_z, f1, f2, f3, f4, f5, f6, f7) (record {
       value = ap₂ (λ s t. s +ℤ t) c.loop-m.invariant.value v ∙ sym (right_more (gap_at c.args.pivot.now c.args.column) c.args.column c.loop-m.m one);
-      low = added_low slack gap c.loop-m.invariant.low c.quotient-floor.ensures.low;
+      low = add_nonneg slack gap c.loop-m.invariant.low c.quotient-floor.ensures.low;
       high = added_high slack gap (c.loop-m.m - 1) ((c.loop-m.m + 1) - 1) (omega arith) c.loop-m.invariant.high c.quotient-floor.ensures.high;
       diagonal = unwritten c.loop-m.row c.loop-m.m 0 (r +ℤ floor) (λ e. absurd (omega arith)) ∙ c.loop-m.invariant.diagonal;
       right = written c.loop-m.row (λ i. at c.args.row.now i +ℤ taken c.args.pivot.now c.args.column (c.args.column + i)) c.loop-m.m (r +ℤ floor) inside (ap₂ (λ s t. s +ℤ t) here w) c.loop-m.invariant.right;

@@ -6,8 +6,10 @@ use Rattle.whole_algebra.specs.Matrices.{at}
 use Rattle.geo_model.specs.Row.{unit_at}
 use Rattle.geo_model.specs.Limit.{LimitOf}
 use Rattle.geo_model.specs.Meeting.{Breaks}
-use Rattle.displacements.proofs.UnitMoves.{Breaks-same, unit_move, moved_back}
+use Rattle.geo_model.proofs.EnergyLemmas.{Breaks-same}
+use Rattle.displacements.proofs.UnitMoves.{moved_back}
 use Rattle.displacements.proofs.proposal.propose_unit.Goals as goal
+use Rattle.normal_matrix.proofs.SumSteps.{unit_at-list}
 
 apart : (b : Bool) → b ≡ false → b ≡ true → ⊥
 apart b e h = false≢true (sym e ∙ h)
@@ -24,5 +26,5 @@ loop-unknown-preserved c =
       size = c.loop-unknown.invariant.size;
       none = below_more (λ i. (limit : LimitOf) → slice_get network.limits c.args.limit ≡ Some limit → Breaks network c.args.plan.now limit (unit_at i) → ⊥) u c.loop-unknown.invariant.none
           (λ limit found broken. apart c.breaks.result c.if-breaks.false ((c.breaks.ensures limit found).1
-          (Breaks-same network c.args.plan.now limit (unit_at u) (at c.set.new.self) (λ i. unit_move n u inside i ∙ ap (λ (xs : List ℤ). at xs i) (sym moved)) broken)));
+          (Breaks-same network c.args.plan.now limit (unit_at u) (at c.set.new.self) (λ i. unit_at-list n u inside i ∙ ap (λ (xs : List ℤ). at xs i) (sym moved)) broken)));
     }

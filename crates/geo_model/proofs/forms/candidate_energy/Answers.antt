@@ -3,9 +3,11 @@ use mir.Syntax.{w128}
 use Rattle.std.specs.Prelude.{unsigned_abs}
 use Rattle.std.proofs.lemmas.Int.{to_z-of_z, fits_signed_from_abs}
 use Rattle.whole_algebra.specs.Matrices.{at}
+use Rattle.whole_algebra.proofs.SumLaws.{sum_more}
+use Rattle.whole_algebra.proofs.Order.{size_more}
 use Rattle.geo_model.specs.Row.{RowOf, row_energy}
 use Rattle.geo_model.specs.Candidate.{CandidateOf}
-use Rattle.geo_model.proofs.SumSteps.{sum_more, size_more, rows_take-nonneg}
+use Rattle.geo_model.proofs.SumSteps.{rows_take-nonneg}
 use Rattle.geo_model.proofs.forms.candidate_energy.Goals as goal
 
 rows_few : (k rows m : ℕ) → k < rows → rows ≤ 512 → m ≤ (k + 1) * (1000000 * 2 ^ 76) → m < 2 ^ 127

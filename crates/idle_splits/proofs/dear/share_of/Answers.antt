@@ -2,7 +2,7 @@ use Rattle.std.proofs.Common.{◌≡◌, ◌<◌, ◌≤◌, ◌^◌, List, ℕ,
 use Rattle.cut_pool.specs.Cut.{CutOf}
 use Rattle.geo_model.specs.Candidate.{CandidateOf}
 use Rattle.geo_model.proofs.PriceLemmas.{candidate_price-few}
-use Rattle.dual_bound.proofs.PriceAt.{price_at}
+use Rattle.reduced_sums.proofs.ReducedLemmas.{price_at}
 use Rattle.idle_splits.proofs.ShareLemmas.{small_kept}
 use Rattle.idle_splits.proofs.dear.share_of.Goals as goal
 

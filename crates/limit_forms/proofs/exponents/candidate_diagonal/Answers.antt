@@ -5,8 +5,9 @@ use Rattle.std.proofs.lemmas.Int.{to_z-of_z, fits_signed_from_abs}
 use Rattle.geo_model.specs.Row.{RowOf}
 use Rattle.geo_model.specs.Candidate.{CandidateOf}
 use Rattle.normal_matrix.specs.Entries.{row_entry}
-use Rattle.limit_forms.proofs.FormSteps.{sum_step, size_step}
 use Rattle.limit_forms.proofs.exponents.candidate_diagonal.Goals as goal
+use Rattle.whole_algebra.proofs.SumLaws.{sum_more}
+use Rattle.whole_algebra.proofs.Order.{size_more}
 
 rows_few : (k rows m : ℕ) → k < rows → rows ≤ 512 → m ≤ (k + 1) * 2 ^ 66 → m < 2 ^ 127
 rows_few k rows m inside few le = omega arith
@@ -14,8 +15,8 @@ rows_few k rows m inside few le = omega arith
 pub loop-row-preserved : goal.loop-row-preserved
 loop-row-preserved c =
     let sum = to_z w128 c.loop-row.sum-bits in
-    let value = sum_step (λ (row : RowOf). row_entry row c.args.unknown c.args.unknown) c.as_slice-rows.result.now c.loop-row.row-index c.row-item.result sum c.row_diagonal-sum.result c.loop-row-test.true c.row-item.is c.loop-row.invariant.value c.row_diagonal-sum.ensures.value in
-    let size = size_step sum c.row_diagonal-sum.result c.loop-row.row-index (2 ^ 66) c.loop-row.invariant.size c.row_diagonal-sum.ensures.size in
+    let value = sum_more (λ (row : RowOf). row_entry row c.args.unknown c.args.unknown) c.as_slice-rows.result.now c.loop-row.row-index c.row-item.result sum c.row_diagonal-sum.result c.loop-row-test.true c.row-item.is c.loop-row.invariant.value c.row_diagonal-sum.ensures.value in
+    let size = size_more sum c.row_diagonal-sum.result c.loop-row.row-index (2 ^ 66) c.loop-row.invariant.size c.row_diagonal-sum.ensures.size in
     let part : FitsSigned w128 c.row_diagonal-sum.result = search rules in
     let long : length c.as_slice-rows.result.now ≡ length c.args.candidate.now.rows = ap length c.as_slice-rows.ensures.value ∙ ap (λ (v : CandidateOf). length v.rows) c.candidate.view_is in
     let few = c.requires.few in

@@ -2,9 +2,10 @@ use Rattle.std.proofs.Common.{◌≡◌, ℕ, ◌<◌, ◌≤◌, ◌^◌, ℤ, 
 use Rattle.std.specs.Prelude.{unsigned_abs}
 use Rattle.std.proofs.lemmas.Int.{to_z-of_z, fits_signed_from_abs}
 use Rattle.geo_model.specs.Row.{Entries, total_size}
+use Rattle.geo_model.proofs.SumSteps.{coefficient_size}
 use Rattle.normal_matrix.specs.Entries.{coefficient}
 use Rattle.whole_algebra.proofs.Order.{size-add}
-use Rattle.normal_matrix.proofs.SumSteps.{entry_size, coefficient-take-size, coefficient-more_here, coefficient-more_elsewhere}
+use Rattle.normal_matrix.proofs.SumSteps.{coefficient-take-size, coefficient-more_here, coefficient-more_elsewhere}
 use Rattle.limit_forms.proofs.form.coefficient_at.Goals as goal
 use Rattle.limit_forms.proofs.form.coefficient_at.Goals.{then-place-column, else-place-column}
 
@@ -16,7 +17,7 @@ step : (sum : ℤ) (entries : Entries) (q i : ℕ) → sum ≡ coefficient (take
 step sum entries q i is total inside =
     let so_far = coefficient-take-size entries q i in
     let mine : unsigned_abs sum ≤ total_size entries = rw is so_far in
-    let one = entry_size entries q (0, pos 0) inside in
+    let one = coefficient_size entries q (0, pos 0) inside in
     let both = size-add sum (get_or entries q (0, pos 0)).1 in record {
       size = fits_signed_from_abs w64 (get_or entries q (0, pos 0)).1 (omega arith);
       sum = fits_signed_from_abs w64 (sum +ℤ (get_or entries q (0, pos 0)).1) (omega arith);

@@ -1,12 +1,11 @@
-use Rattle.std.proofs.Common.{◌≡◌, ℕ, ◌+◌, ◌-◌, ◌<◌, ◌≤◌, ℤ, pos, ◌+ℤ◌, ◌≤ℤ◌, List, inl, inr, length, set, FitsSigned, to_z, ◌∙◌, sym, ap, arith}
+use Rattle.std.proofs.Common.{◌≡◌, ℕ, ◌+◌, ◌-◌, ◌<◌, ◌≤◌, ℤ, pos, ◌+ℤ◌, ◌≤ℤ◌, length, FitsSigned, to_z, ◌∙◌, sym, ap, arith}
 use mir.Syntax.{w128}
 use Rattle.std.proofs.lemmas.Int.{ints, to_z-of_z, fits_signed_from_abs}
 use Rattle.whole_algebra.specs.Rounding.{floor_over}
 use Rattle.whole_algebra.specs.Matrices.{at}
 use Rattle.whole_algebra.specs.Grid.{row_at}
+use Rattle.whole_algebra.proofs.Written.{written}
 use Rattle.limit_forms.specs.Grid.{on_grid, grid_step}
-use Rattle.std.proofs.lemmas.Bool.{cases_lt}
-use Rattle.std.proofs.lemmas.List.{get_or-set_same, get_or-set_other}
 use Rattle.limit_forms.proofs.Rows.{right_more}
 use Rattle.limit_forms.proofs.row.write_right.Goals as goal
 
@@ -23,17 +22,6 @@ count slack gap m one small low high none most = record {
   narrow = fits_signed_from_abs w128 gap (omega (arith, ints));
   fits = fits_signed_from_abs w128 (slack +ℤ gap) (omega (arith, ints));
 }
-
--- one place more is written
-written : (row : List ℤ) (f : ℕ → ℤ) (m : ℕ) (number : ℤ) → m < length row → number ≡ f m → ((i : ℕ) → 1 ≤ i → i < m → at row i ≡ f i)
-    → (i : ℕ) → 1 ≤ i → i < m + 1 → at (set row m number) i ≡ f i
-written row f m number inside is so_far i one lt =
-    elim (cases_lt i m) [
-      | inl less ↦ get_or-set_other row m i number (pos 0) (λ e. absurd (omega arith)) ∙ so_far i one less
-      | inr le ↦
-          let here : i ≡ m = omega arith in
-          ap (λ j. at (set row m number) j) here ∙ get_or-set_same row m number (pos 0) inside ∙ is ∙ ap f (sym here)
-    ]
 
 pub loop-m-preserved : goal.loop-m-preserved
 loop-m-preserved c =

@@ -4,9 +4,10 @@ use Rattle.std.specs.Prelude.{unsigned_abs}
 use Rattle.std.proofs.lemmas.Int.{to_z-of_z, fits_signed_mul, fits_signed_from_abs}
 use Rattle.whole_algebra.specs.Matrices.{at}
 use Rattle.geo_model.specs.Row.{Entries, total_size}
+use Rattle.geo_model.proofs.SumSteps.{coefficient_size}
 use Rattle.normal_matrix.specs.Entries.{coefficient}
 use Rattle.whole_algebra.proofs.Order.{size-add, size-mul}
-use Rattle.normal_matrix.proofs.SumSteps.{line_step, line_kept, entry_size, coefficient-take-size}
+use Rattle.normal_matrix.proofs.SumSteps.{line_step, line_kept, coefficient-take-size}
 use Rattle.normal_matrix.proofs.sums.add_products.Goals as goal
 use Rattle.normal_matrix.proofs.sums.add_products.Goals.{then-column-first, else-column-first}
 
@@ -18,7 +19,7 @@ record Sized (factor size : ℤ) : Type 0 where
 
 sized : (factor : ℤ) (entries : Entries) (q : ℕ) → unsigned_abs factor ≤ 2 ^ 43 → total_size entries < 2 ^ 23 → q < length entries → Sized factor (get_or entries q (0, pos 0)).1
 sized factor entries q small total inside =
-    let one = entry_size entries q (0, pos 0) inside in
+    let one = coefficient_size entries q (0, pos 0) inside in
     let size : unsigned_abs (get_or entries q (0, pos 0)).1 ≤ 2 ^ 23 = omega arith in record {
       narrow = fits_signed_from_abs w64 (get_or entries q (0, pos 0)).1 (omega arith);
       wide = fits_signed_from_abs w128 (get_or entries q (0, pos 0)).1 (omega arith);

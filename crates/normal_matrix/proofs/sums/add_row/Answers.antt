@@ -8,8 +8,8 @@ use Rattle.whole_algebra.proofs.Normal.{ring, x0, x1, x2, lit, ◌⊕◌, ◌⊗
 use Rattle.lent_parts.specs.Triangle.{IsTri, tri_row}
 use Rattle.lent_parts.proofs.Triangles.{length-IsTri, length-tri_row, IsTri-slice_set, refilled_whole}
 use Rattle.geo_model.specs.Row.{Entries, total_size}
+use Rattle.geo_model.proofs.SumSteps.{coefficient_size}
 use Rattle.normal_matrix.specs.Entries.{coefficient}
-use Rattle.normal_matrix.proofs.SumSteps.{entry_size}
 use Rattle.normal_matrix.proofs.RowSteps.{factor_size, line_is_small, row_step}
 use Rattle.normal_matrix.proofs.sums.add_row.Goals as goal
 
@@ -23,7 +23,7 @@ record Sized (weight size : ℤ) : Type 0 where
 
 sized : (weight : ℤ) (entries : Entries) (q : ℕ) → unsigned_abs weight ≤ 1000000 → total_size entries < 2 ^ 23 → q < length entries → Sized weight (get_or entries q (0, pos 0)).1
 sized weight entries q light total inside =
-    let one = entry_size entries q (0, pos 0) inside in
+    let one = coefficient_size entries q (0, pos 0) inside in
     let small = factor_size weight (get_or entries q (0, pos 0)).1 light (omega arith) in record {
       weight_narrow = fits_signed_from_abs w64 weight (omega arith);
       weight_wide = fits_signed_from_abs w128 weight (omega arith);

@@ -1,8 +1,9 @@
-use Rattle.std.proofs.Common.{rules, ◌≡◌, ◌∷◌, [], length, slice_get, Some, sym, ◌∙◌, ap, ap₂, subst, w64, FitsSigned, pos, ◌-ℤ◌}
+use Rattle.std.proofs.Common.{rules, ◌≡◌, ◌∷◌, [], length, slice_get, Some, sym, ◌∙◌, ap, subst, w64, FitsSigned, pos, ◌-ℤ◌}
 use Rattle.std.proofs.lemmas.Int.{to_z-of_z}
 use Rattle.std.proofs.lemmas.List.{with_items_is}
+use Rattle.std.proofs.lemmas.Option.{same_Some}
 use Rattle.geo_model.specs.Candidate.{CandidateOf}
-use Rattle.geo_model.specs.Limit.{SquareOf, LimitOf, IsLoad}
+use Rattle.geo_model.specs.Limit.{SquareOf}
 use Rattle.geo_model.specs.Network.{IsLimit}
 use Rattle.geo_model.specs.Row.{RowOf}
 use Rattle.geo_model.specs.Values.{row_square, row_limit}
@@ -10,7 +11,7 @@ use Rattle.geo_model.proofs.RowLoads.{network-row-load}
 use Rattle.pivot_chain.specs.Room.{RoomOf}
 use Rattle.pivot_chain.specs.Verdict.{verdict_of}
 use Rattle.pivot_chain.proofs.Judged.{verdict_on_limit}
-use Rattle.pivot_chain.proofs.Values.{found_at, load_along, read_at, same_found, read_square, row_limit_bounded, met_there, refuted_there}
+use Rattle.pivot_chain.proofs.Values.{found_at, load_along, read_at, read_square, row_limit_bounded, met_there, refuted_there}
 use Rattle.pivot_chain.proofs.Verdicts.{open_interval}
 use Rattle.pivot_chain.proofs.judging.redundancy_at.Goals as goal
 
@@ -59,8 +60,8 @@ is_limit c =
 same_row : (c : goal.After-verdict_on) (candidate : CandidateOf) (row : RowOf) → slice_get c.args.network.now.candidates c.args.candidate ≡ Some candidate
     → slice_get candidate.rows c.args.row ≡ Some row → c.index-observed.result.now ≡ row
 same_row c candidate row e f =
-    let same = same_found c.index-candidates-candidate.result candidate (sym (found c) ∙ e) in
-    same_found c.index-observed.result.now row (sym (subst (λ (v : CandidateOf). slice_get v.rows c.args.row ≡ Some c.index-observed.result.now) same (there c)) ∙ f)
+    let same = same_Some c.index-candidates-candidate.result candidate (sym (found c) ∙ e) in
+    same_Some c.index-observed.result.now row (sym (subst (λ (v : CandidateOf). slice_get v.rows c.args.row ≡ Some c.index-observed.result.now) same (there c)) ∙ f)
 
 exact : (c : goal.After-verdict_on) (candidate : CandidateOf) (row : RowOf) → slice_get c.args.network.now.candidates c.args.candidate ≡ Some candidate
     → slice_get candidate.rows c.args.row ≡ Some row → c.verdict_on.result ≡ verdict_of c.args.network.now c.args.plan.now (row_limit c.args.candidate c.args.row row c.args.value)

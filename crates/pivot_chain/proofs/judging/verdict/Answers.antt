@@ -1,9 +1,10 @@
-use Rattle.std.proofs.Common.{rules, ◌≡◌, get_or, length, refl, sym, ◌∙◌, ap, subst, w64, FitsSigned}
+use Rattle.std.proofs.Common.{rules, ◌≡◌, get_or, sym, ◌∙◌, ap, subst, w64, FitsSigned}
 use Rattle.std.proofs.lemmas.Int.{to_z-of_z}
 use Rattle.std.proofs.lemmas.Option.{slice_get-get_or}
 use Rattle.geo_model.specs.Limit.{LimitOf}
+use Rattle.geo_model.proofs.SumSteps.{same_limit}
 use Rattle.pivot_chain.specs.Room.{RoomOf, IsChainsOf, HasEachLength}
-use Rattle.pivot_chain.proofs.Judged.{limit_at, same_limit, load_of, verdict_on_limit}
+use Rattle.pivot_chain.proofs.Judged.{limit_at, load_of, verdict_on_limit}
 use Rattle.pivot_chain.proofs.Verdicts.{open_interval, met_holds, refuted_breaks, met_grows}
 use Rattle.pivot_chain.proofs.judging.verdict.Goals as goal
 
@@ -24,7 +25,7 @@ exact c = λ l e.
     let f : FitsSigned w64 c.form.inside.alpha = search rules in
     let alpha : c.form.inside.alpha ≡ c.index-limits-limit.result.alpha = ap (λ (v : LimitOf). v.alpha) c.form.view_is in
     let squares : c.as_slice.result.now ≡ c.index-limits-limit.result.squares = c.as_slice.ensures.value ∙ ap (λ (v : LimitOf). v.squares) c.form.view_is in
-    let same = same_limit c.limits.result.now c.args.limit c.index-limits-limit.result l c.index-limits-limit.is (rw c.limits.ensures.value e) in
+    let same = same_limit c.args.network.now c.limits.result.now c.args.limit c.index-limits-limit.result l c.limits.ensures.value c.index-limits-limit.is e in
     let judged = simp (to_z-of_z, f) at c.verdict_on.ensures.exact in
     judged
     ∙ verdict_on_limit c.args.network.now c.args.plan.now c.form.inside.alpha c.as_slice.result.now l

@@ -1,5 +1,6 @@
 use Rattle.std.proofs.Common.{rules, ◌≡◌, Some, slice_get, sym, ◌∙◌, ap, subst, w64, FitsSigned}
 use Rattle.std.proofs.lemmas.Int.{to_z-of_z}
+use Rattle.std.proofs.lemmas.Option.{same_Some}
 use Rattle.geo_model.specs.Limit.{LimitOf}
 use Rattle.geo_model.specs.Network.{IsLimit}
 use Rattle.geo_model.specs.Values.{with_value, IsValueOf}
@@ -7,7 +8,7 @@ use Rattle.geo_model.specs.declared.limit.LimitKind.{LimitKind}
 use Rattle.pivot_chain.specs.Verdict.{verdict_of}
 use Rattle.pivot_chain.specs.Room.{RoomOf, IsChainsOf, HasEachLength}
 use Rattle.pivot_chain.proofs.Judged.{limit_at, verdict_on_limit}
-use Rattle.pivot_chain.proofs.Values.{found_at, same_found, factor_is, bears, value_limit, met_there, refuted_there}
+use Rattle.pivot_chain.proofs.Values.{found_at, factor_is, bears, value_limit, met_there, refuted_there}
 use Rattle.pivot_chain.proofs.Verdicts.{open_interval}
 use Rattle.pivot_chain.proofs.judging.verdict_at.Goals as goal
 
@@ -51,7 +52,7 @@ is_limit c =
     (c.requires.bounds c.index-limits-limit.result (found c))
 
 same : (c : goal.After-verdict_on) (l : LimitOf) → slice_get c.args.network.now.limits c.args.limit ≡ Some l → c.index-limits-limit.result ≡ l
-same c l e = same_found c.index-limits-limit.result l (sym (found c) ∙ e)
+same c l e = same_Some c.index-limits-limit.result l (sym (found c) ∙ e)
 
 pub returns-clause-exact : goal.returns-clause-exact
 returns-clause-exact c = λ l e. judged c ∙ ap (λ (v : LimitOf). verdict_of c.args.network.now c.args.plan.now (with_value v c.args.value)) (same c l e)

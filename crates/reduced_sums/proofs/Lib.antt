@@ -1,0 +1,4 @@
+pub mod DualSizes
+pub mod DualTerms
+pub mod ReducedLemmas
+pub mod WeighedLemmas

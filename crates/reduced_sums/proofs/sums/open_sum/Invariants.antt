@@ -1,0 +1,13 @@
+use Rattle.std.proofs.Common.{◌≡◌, ◌*◌, ◌^◌, ◌≤◌}
+use Rattle.std.specs.Prelude.{unsigned_abs}
+use Rattle.geo_model.specs.Below.{int_sum_below}
+use Rattle.geo_model.specs.Dual.{open_part}
+use Rattle.whole_algebra.specs.Matrices.{at}
+use Rattle.reduced_sums.specs.Groups.{in_group}
+use Rattle.reduced_sums.proofs.sums.open_sum.Given as goal
+
+abbrev pub invariant-loop-i : goal.invariant-loop-i
+invariant-loop-i l = record {
+  value : l.sum ≡ int_sum_below (open_part (at l.reduced) l.node (in_group l.network.stations l.group)) l.i;
+  size : unsigned_abs l.sum ≤ l.i * 2 ^ 75;
+}
