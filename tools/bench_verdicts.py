@@ -3,6 +3,7 @@
     python3 tools/bench_verdicts.py PROGRAM [TIMES]           prints a row of a table for each network
     python3 tools/bench_verdicts.py --instructions PROGRAM    the same in instructions, for some of the networks
     python3 tools/bench_verdicts.py --stacks PROGRAM          what a change of one candidate costs a stack
+    python3 tools/bench_verdicts.py --stack-instructions PROGRAM   the same in instructions, under the first limit
     python3 tools/bench_verdicts.py --floor                   the least that full chains can cost
     python3 tools/bench_verdicts.py --inputs FOLDER           writes the inputs alone, each verdict once
 
@@ -179,21 +180,37 @@ def print_instructions(program):
         print("| %s | %d | %s |" % (network.title, filled_count(network)[0], " | ".join(cells)), flush=True)
 
 
-def print_stacks(program):
-    """Each eighth candidate of a full matrix of 64 unknowns is left out and taken back, under all limits of points."""
-    network = dense_angles(32)
+def stack_texts(network, limit):
+    """Four inputs, of which the second and the fourth are how the others begin: each eighth candidate is left out and
+    taken back by stacks, under all limits of points; and the same plans are judged from nothing. How many plans."""
     count = len(network.candidates)
     full = "1" * count
     without = [full[:i] + "0" + full[i + 1:] for i in range(0, count, 8)]
     walk = [full] + [plan for other in without for plan in (other, full)]
+    plans = ((0, walk), (0, [full]), (1, [full] + without), (1, [full]))
+    return [input_text(network, limit, times, lines) for times, lines in plans], len(without)
+
+
+def print_stacks(program):
+    """What a change of one candidate costs over a full matrix of 64 unknowns, in microseconds."""
+    network = dense_angles(32)
     for limit in LIMITS:
-        texts = [input_text(network, limit, times, plans)
-                 for times, plans in ((0, walk), (0, [full]), (1, [full] + without), (1, [full]))]
+        texts, plans = stack_texts(network, limit)
         runs = [[processor_time(program, text)[0] for text in texts] for _ in range(3)]
         walked, begun, anew, once = [min(run[k] for run in runs) for k in range(4)]
-        changed, judged = [1e6 * spent / len(without) / len(network.new) for spent in (walked - begun, anew - once)]
+        changed, judged = [1e6 * spent / plans / len(network.new) for spent in (walked - begun, anew - once)]
         row = (limit, changed, judged, changed / judged)
         print("%s mm: a change and its undo %.0f, a verdict anew %.0f microseconds: %.2f" % row, flush=True)
+
+
+def print_stack_instructions(program):
+    """The same in millions of instructions, under the limit that is met."""
+    network = dense_angles(32)
+    texts, plans = stack_texts(network, LIMITS[0])
+    walked, begun, anew, once = [instructions(program, text)[0] for text in texts]
+    changed, judged = [spent / plans / len(network.new) for spent in (walked - begun, anew - once)]
+    row = (LIMITS[0], changed, judged, changed / judged)
+    print("%s mm: a change and its undo %.4f, a verdict anew %.4f million instructions: %.2f" % row)
 
 
 # A step takes a product and a quotient in 128 bits for each pair of the rows below it.
@@ -245,6 +262,8 @@ def main(words):
         print_instructions(words[1])
     elif len(words) == 2 and words[0] == "--stacks":
         print_stacks(words[1])
+    elif len(words) == 2 and words[0] == "--stack-instructions":
+        print_stack_instructions(words[1])
     elif words == ["--floor"]:
         print_floor()
     elif words and len(words) <= 2:
