@@ -1,12 +1,14 @@
 """Measures searches on networks of several kinds: the built program, and beside it in the same run others, where they are
 told.
 
-    python3 tools/bench_plans.py PROGRAM [--other NAME=COMMAND].. [--rows WORD] [--seconds N] [--runs N]
+    python3 tools/bench_plans.py PROGRAM [--other NAME=COMMAND].. [--rows WORD] [--seconds N] [--runs N] [--check]
 
 PROGRAM is crates/geoplan_cli/out/geoplan_cli after `rt run` there. COMMAND is a program with its arguments, in which
 {points}, {candidates}, {redundancy} and {log} stand for the files and the number; what it prints has the word `cost` or
-`NOPLAN` or `no plan` in it, and may have `nodes`. WORD is `small` (the default), `middle` or `all`; each run is ended
-after N seconds (60), and the least time of so many runs (1) counts. Seconds are of the processor, the log included.
+`NOPLAN` or `no plan` in it, and may have `nodes`. WORD is `small` (the default), `middle`, `all`, or `large`, which has
+the rows of `all` that `middle` hasn't; each run is ended after N seconds (60), and the least time of so many runs (1)
+counts. Seconds are of the processor, the log included. With --check each log that PROGRAM ended is replayed by its
+`check`, and a last column has those seconds.
 """
 import argparse
 import math
@@ -24,7 +26,7 @@ SMALL = [("level", 8, 1.5), ("trilat", 8, 1.5), ("gnss", 8, 1.5), ("mixed", 4, 1
 MIDDLE = [("level", 12, 1.5), ("trilat", 12, 1.5), ("gnss", 10, 1.5), ("gnss", 12, 1.5), ("mixed", 6, 1.5)]
 LARGE = [("level", 16, 1.2), ("level", 16, 1.5), ("trilat", 16, 1.5), ("gnss", 15, 1.2), ("gnss", 15, 1.5)]
 LARGE += [("mixed", 8, 1.2), ("mixed", 8, 1.5)]
-ROWS = {"small": SMALL, "middle": SMALL + MIDDLE, "all": SMALL + MIDDLE + LARGE}
+ROWS = {"small": SMALL, "middle": SMALL + MIDDLE, "large": LARGE, "all": SMALL + MIDDLE + LARGE}
 
 
 class Run:
@@ -92,14 +94,25 @@ def commands_of(program, others, redundancy):
     return [("geoplan", own)] + [(name, [word.format(**names) for word in shlex.split(text)]) for name, text in told]
 
 
+def replayed(command, seconds, folder):
+    """How long `check` takes on the log that a search wrote, as a cell; `REFUSED` where it doesn't accept it."""
+    check = [command[0], "check"] + command[2:]
+    spent, text, is_ended = processor_seconds(check, seconds, folder)
+    if not is_ended:
+        return ">%.2f" % spent
+    return "%.3f" % spent if "bound " in text else "REFUSED"
+
+
 def print_row(row, redundancy, words):
     """Measures a network and prints its row; answers the seconds by the name of the program, of runs that ended."""
     kind, size, factor = row
     with tempfile.TemporaryDirectory() as folder:
         count = plan_networks.write_tables(kind, size, 1, factor, folder)
         commands = commands_of(words.program, words.other, redundancy)
-        runs = [(name, measured(command, words.seconds, words.runs, folder)) for name, command in commands]
-    cells = " | ".join(run.cells() for _name, run in runs)
+        own = measured(commands[0][1], words.seconds, words.runs, folder)
+        check = replayed(commands[0][1], words.seconds, folder) if words.check and own.is_ended else "-"
+        runs = [("geoplan", own)] + [(name, measured(command, words.seconds, words.runs, folder)) for name, command in commands[1:]]
+    cells = " | ".join([run.cells() for _name, run in runs] + ([check] if words.check else []))
     costs = {run.cost for _name, run in runs if run.cost}
     doubt = " | COSTS DIFFER" if len(costs) > 1 else ""
     print("| %s-%d-%s | %d | %d | %s |%s" % (kind, size, factor, redundancy, count, cells, doubt), flush=True)
@@ -123,11 +136,13 @@ def main():
     parser.add_argument("--rows", choices=sorted(ROWS), default="small")
     parser.add_argument("--seconds", type=float, default=60)
     parser.add_argument("--runs", type=int, default=1)
+    parser.add_argument("--check", action="store_true")
     words = parser.parse_args()
     names = ["geoplan"] + [other.split("=", 1)[0] for other in words.other]
     heads = " | ".join("%s: cost | nodes | lines | seconds" % name for name in names)
-    print("| network | redundancy | candidates | %s |" % heads)
-    print("|---" * (3 + 4 * len(names)) + "|")
+    last = " check |" if words.check else ""
+    print("| network | redundancy | candidates | %s |%s" % (heads, last))
+    print("|---" * (3 + 4 * len(names) + words.check) + "|")
     rows = [(row[0], print_row(row, redundancy, words)) for row in ROWS[words.rows] for redundancy in (0, 200)]
     print_means(rows, names)
 
