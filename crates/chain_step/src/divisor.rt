@@ -1,7 +1,7 @@
 //! What a pivot takes off the entries of a row: quotients by one number, all with one factor. What
 //! proposes them is made once for the row; the remainder of each decides.
-ghost use Rattle.std.specs.Prelude.{◌≡◌, ◌≤◌, ◌^◌, pos, neg_ℤ, ◌*ℤ◌, ◌≤ℤ◌, ◌<ℤ◌, unsigned_abs};
-ghost use Rattle.whole_algebra.specs.Rounding.{floor_over, gap_over};
+ghost use Rattle.std.specs.Prelude.{◌≡◌, ◌≤◌, ◌^◌, cond, pos, neg_ℤ, ◌*ℤ◌, ◌≤ℤ◌, ◌<ℤ◌, unsigned_abs};
+ghost use Rattle.whole_algebra.specs.Rounding.{is_zero, floor_over, gap_over};
 
 use crate::arithmetic::{long_product, slow_quotient};
 
@@ -53,14 +53,11 @@ impl PivotDivisor {
         ensures high { result.1 ≤ℤ pos 1 }
     {
         let entry = q as i64;
-        let number = long_product(self.factor, entry);
-        let guess = self.guess(entry);
-        let rest = number - long_product(guess, self.pivot);
-        if 0 <= rest && rest < self.pivot as i128 {
-            (guess as i128, if rest == 0 { 0 } else { 1 })
-        } else {
-            slow_quotient(number, self.pivot as i128)
-        }
+        judged(
+            long_product(self.factor, entry),
+            self.pivot,
+            self.guess(entry),
+        )
     }
 
     // Nearly the quotient. Whatever it is, the remainder that it leaves is looked at.
@@ -69,6 +66,37 @@ impl PivotDivisor {
         let wide = (self.ratio as i128).wrapping_mul(entry as i128);
         lower_half(wide.wrapping_shr(self.shift & 63))
     }
+}
+
+// `number / a` rounded down, and 1 where it isn't whole, else 0, by a guess: it is the quotient
+// where what it leaves of the number is below `a` and not below 0.
+#[inline(always)]
+fn judged(number: i128, a: i64, guess: i64) -> (i128, i128)
+    requires above { pos 0 <ℤ a }
+    requires a { unsigned_abs a ≤ 2 ^ 61 }
+    requires number { unsigned_abs number ≤ 2 ^ 124 }
+    ensures floor { result.0 ≡ floor_over a number }
+    ensures gap { result.1 ≡ gap_over a number }
+    ensures size { unsigned_abs result.0 ≤ 2 ^ 124 }
+    ensures low { pos 0 ≤ℤ result.1 }
+    ensures high { result.1 ≤ℤ pos 1 }
+{
+    let rest = number - long_product(guess, a);
+    if 0 <= rest && rest < a as i128 {
+        (guess as i128, gap_of_rest(rest))
+    } else {
+        slow_quotient(number, a as i128)
+    }
+}
+
+// 1 where something is left, else 0.
+#[inline(always)]
+fn gap_of_rest(rest: i128) -> i128
+    ensures value { result ≡ cond (is_zero rest) (pos 0) (pos 1) }
+    ensures low { pos 0 ≤ℤ result }
+    ensures high { result ≤ℤ pos 1 }
+{
+    if rest == 0 { 0 } else { 1 }
 }
 
 // How many fractional bits the ratio is given: as many as its 64 bits hold, and at most 63.
