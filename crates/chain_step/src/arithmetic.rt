@@ -1,5 +1,5 @@
 //! Products of numbers of at most `PIVOT_SIZE` in size, and their quotients, rounded down.
-ghost use Rattle.std.specs.Prelude.{◌≡◌, ◌≤◌, ◌^◌, pos, neg_ℤ, ◌*ℤ◌, ◌≤ℤ◌, ◌<ℤ◌, unsigned_abs};
+ghost use Rattle.std.specs.Prelude.{◌≡◌, ◌≤◌, ◌^◌, pos, ◌*ℤ◌, ◌≤ℤ◌, ◌<ℤ◌, unsigned_abs};
 ghost use Rattle.whole_algebra.specs.Rounding.{floor_over, gap_over};
 
 use geo_base::floor_div;
@@ -7,9 +7,6 @@ use geo_base::floor_div;
 /// The greatest size of a pivot, and of what it divides, `2^61`: products of two such numbers, and
 /// sums of those over a row, stay in 128 bits.
 pub const PIVOT_SIZE: i128 = 0x2000_0000_0000_0000;
-
-// A number below this size is divided in 64 bits.
-const NARROW_SIZE: u128 = 0x8000_0000_0000_0000;
 
 /// The product of two numbers of at most `2^62` in size.
 #[inline(always)]
@@ -22,54 +19,31 @@ pub fn product(p: i128, q: i128) -> i128
     p * q
 }
 
-/// `- p q`, for numbers of at most `2^61` in size.
+/// The product of two numbers of 64 bits, of which the second is at most `2^61` in size.
 #[inline(always)]
-pub fn minus_product(p: i128, q: i128) -> i128
-    requires p { unsigned_abs p ≤ 2 ^ 61 }
-    requires q { unsigned_abs q ≤ 2 ^ 61 }
-    ensures value { result ≡ neg_ℤ (p *ℤ q) }
+pub fn long_product(p: i64, q: i64) -> i128
+    requires { unsigned_abs q ≤ 2 ^ 61 }
+    ensures value { result ≡ p *ℤ q }
     ensures size { unsigned_abs result ≤ 2 ^ 124 }
 {
-    0 - product(p, q)
+    p as i128 * q as i128
 }
 
-/// `- p q / a` rounded down, and 1 where it isn't whole, else 0.
-#[inline(always)]
-pub fn quotient(a: i128, p: i128, q: i128) -> (i128, i128)
+/// `number / a` rounded down, and 1 where it isn't whole, else 0.
+#[cold]
+#[inline(never)]
+pub fn slow_quotient(number: i128, a: i128) -> (i128, i128)
     requires above { pos 0 <ℤ a }
     requires a { unsigned_abs a ≤ 2 ^ 61 }
-    requires p { unsigned_abs p ≤ 2 ^ 61 }
-    requires q { unsigned_abs q ≤ 2 ^ 61 }
-    ensures floor { result.0 ≡ floor_over a (neg_ℤ (p *ℤ q)) }
-    ensures gap { result.1 ≡ gap_over a (neg_ℤ (p *ℤ q)) }
+    requires number { unsigned_abs number ≤ 2 ^ 124 }
+    ensures floor { result.0 ≡ floor_over a number }
+    ensures gap { result.1 ≡ gap_over a number }
     ensures size { unsigned_abs result.0 ≤ 2 ^ 124 }
     ensures low { pos 0 ≤ℤ result.1 }
     ensures high { result.1 ≤ℤ pos 1 }
 {
-    let number = minus_product(p, q);
-    if number == 0 {
-        return (0, 0);
-    }
-    if number.unsigned_abs() < NARROW_SIZE {
-        return narrow_quotient(number as i64, a as i64);
-    }
     let floor = floor_div(number, a);
     (floor, gap_of(number, a, floor))
-}
-
-// `number / a` rounded down, and 1 where it isn't whole, else 0, for numbers of 64 bits.
-#[inline(always)]
-fn narrow_quotient(number: i64, a: i64) -> (i128, i128)
-    requires { pos 0 <ℤ a }
-    ensures floor { result.0 ≡ floor_over a number }
-    ensures gap { result.1 ≡ gap_over a number }
-    ensures size { unsigned_abs result.0 ≤ 2 ^ 64 }
-    ensures low { pos 0 ≤ℤ result.1 }
-    ensures high { result.1 ≤ℤ pos 1 }
-{
-    let floor = number.div_euclid(a);
-    let rest = number.rem_euclid(a);
-    (floor as i128, if rest == 0 { 0 } else { 1 })
 }
 
 // 1 where `number / a`, with the floor that was found, isn't whole, else 0.

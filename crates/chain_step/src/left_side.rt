@@ -2,7 +2,7 @@
 ghost use Rattle.std.specs.Prelude.{◌≡◌, ◌+◌, ◌<◌, ◌≤◌, pos, ◌≤ℤ◌, length};
 ghost use Rattle.chain_step.specs.Step.{IsPivotRow, IsDividing, gap_at, sum_from, left_of};
 
-use crate::arithmetic::quotient;
+use crate::divisor::PivotDivisor;
 
 /// How many quotients of a row left of its diagonal, which stands in column `column`, aren't whole in
 /// the step of the pivot of `pivot`.
@@ -29,9 +29,10 @@ fn gaps_in_columns(pivot: &[i128], column: usize, first: usize, count: usize) ->
     ensures low { pos 0 ≤ℤ result }
     ensures high { result ≤ℤ pos count }
 {
+    let divisor = PivotDivisor::new(pivot[0], pivot[column]);
     let mut sum = 0;
     for i in 0..count {
-        let (_floor, gap) = quotient(pivot[0], pivot[column], pivot[first + i]);
+        let (_floor, gap) = divisor.quotient(pivot[first + i]);
         sum += gap;
     }
     sum

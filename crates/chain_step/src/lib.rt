@@ -9,6 +9,7 @@
 #![tactic(auto)]
 
 mod arithmetic;
+mod divisor;
 mod first_row;
 mod laws;
 mod left_side;

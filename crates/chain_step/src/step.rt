@@ -1,14 +1,14 @@
 //! One step of a chain on one row. The pivot's row is all that it reads, so a row can take the steps
 //! of the rows before it one after another. Each quotient is taken once: the row on whose right it
 //! stands counts it for the row below, whose slack it belongs to as well.
-ghost use Rattle.std.specs.Prelude.{◌≡◌, ℕ, ◌+◌, ◌-◌, ◌<◌, ◌≤◌, ◌^◌, ℤ, pos, ◌+ℤ◌, ◌≤ℤ◌, List, length, unsigned_abs};
+ghost use Rattle.std.specs.Prelude.{◌≡◌, ℕ, ◌+◌, ◌-◌, ◌<◌, ◌≤◌, ◌^◌, ℤ, pos, neg_ℤ, ◌+ℤ◌, ◌≤ℤ◌, List, length, unsigned_abs};
 ghost use Rattle.whole_algebra.specs.Matrices.{at, IsTriangle};
 ghost use Rattle.whole_algebra.specs.Chains.{matrix_after};
 ghost use Rattle.whole_algebra.specs.Grid.{row_at};
 ghost use Rattle.chain_step.specs.Step.{over_of, IsPivotRow, IsDividing, taken, gap_at, sum_from, left_of, right_of, with_slack, with_left};
 
 use crate::Side;
-use crate::arithmetic::quotient;
+use crate::divisor::PivotDivisor;
 
 /// Takes one step of a chain on a row, from its diagonal on: `pivot` is the first row of a matrix,
 /// and `row` a later one. It becomes the same row of the smaller matrix that the step leaves.
@@ -78,15 +78,24 @@ fn divide(side: Side, row: &mut [i128], gaps: &mut [i128], pivot: &[i128], colum
     ensures gaps { (m : ℕ) → 1 ≤ m → m < length row.old → at gaps.new m ≡ at gaps.old m +ℤ gap_at pivot.now column (column + m) }
     ensures apart { at gaps.new 0 ≡ at gaps.old 0 }
 {
-    let right = divide_right(row, gaps, pivot, column);
-    let (floor, gap) = quotient(pivot[0], pivot[column], pivot[column]);
+    let divisor = PivotDivisor::new(pivot[0], pivot[column]);
+    let right = divide_right(row, gaps, pivot, column, divisor);
+    let (floor, gap) = divisor.quotient(pivot[column]);
     row[0] = add_slack(side, row[0] + floor, gap, right);
 }
 
 // Takes the quotients right of the diagonal, counts each that isn't whole, and answers how many those
 // are.
-fn divide_right(row: &mut [i128], gaps: &mut [i128], pivot: &[i128], column: usize) -> i128
+fn divide_right(
+    row: &mut [i128],
+    gaps: &mut [i128],
+    pivot: &[i128],
+    column: usize,
+    divisor: PivotDivisor,
+) -> i128
     requires pivot { IsDividing pivot.now }
+    requires divisor { divisor.pivot ≡ at pivot.now 0 }
+    requires factor { divisor.factor ≡ neg_ℤ (at pivot.now column) }
     requires some { 0 < length row.old }
     requires room { column + length row.old ≡ length pivot.now }
     requires same { length gaps.old ≡ length row.old }
@@ -102,7 +111,7 @@ fn divide_right(row: &mut [i128], gaps: &mut [i128], pivot: &[i128], column: usi
 {
     let mut slack = 0;
     for m in 1..row.len() {
-        let (floor, gap) = quotient(pivot[0], pivot[column], pivot[column + m]);
+        let (floor, gap) = divisor.quotient(pivot[column + m]);
         row[m] += floor;
         gaps[m] += gap;
         slack += gap;

@@ -3,7 +3,7 @@ use Rattle.std.specs.Int.{w128}
 use Rattle.std.proofs.lemmas.Int.{to_z-of_z}
 use Rattle.chain_step.proofs.Products.{in_range}
 use Rattle.chain_step.specs.Step.{gap_at}
-use Rattle.chain_step.proofs.Quotients.{gap_size}
+use Rattle.chain_step.proofs.Quotients.{gap_size, divided_gap}
 use Rattle.chain_step.proofs.Gaps.{one_more, added_high, added_size}
 use Rattle.chain_step.proofs.left_side.gaps_in_columns.Goals as goal
 use Rattle.whole_algebra.proofs.Order.{add_nonneg}
@@ -22,7 +22,12 @@ loop-i-preserved c =
     let a : FitsSigned w128 (get_or c.args.pivot.now 0 (pos 0)) = in_range (get_or c.args.pivot.now 0 (pos 0)) (let s = d.each_size 0 in omega arith) in
     let p : FitsSigned w128 (get_or c.args.pivot.now c.args.column (pos 0)) = in_range (get_or c.args.pivot.now c.args.column (pos 0)) (let s = d.each_size c.args.column in omega arith) in
     let q : FitsSigned w128 (get_or c.args.pivot.now (c.args.first + c.loop-i.i) (pos 0)) = in_range (get_or c.args.pivot.now (c.args.first + c.loop-i.i) (pos 0)) (let s = d.each_size (c.args.first + c.loop-i.i) in omega arith) in
-    let v = simp (to_z-of_z, a, p, q) at c.quotient-floor.ensures.gap in
+    let one = get_or c.args.pivot.now 0 (pos 0) in
+    let own = get_or c.args.pivot.now c.args.column (pos 0) in
+    let other = get_or c.args.pivot.now (c.args.first + c.loop-i.i) (pos 0) in
+    let pivot_is = simp (to_z-of_z, a) at c.new-divisor.ensures.pivot in
+    let factor_is = simp (to_z-of_z, p) at c.new-divisor.ensures.factor in
+    let v = (simp (to_z-of_z, q) at c.quotient-floor.ensures.gap) ∙ divided_gap c.new-divisor.result.pivot c.new-divisor.result.factor one own other pivot_is factor_is in
     simp (to_z-of_z, f, h) (record {
       value = ap₂ (λ s t. s +ℤ t) c.loop-i.invariant.value v ∙ sym (one_more (gap_at c.args.pivot.now c.args.column) c.args.first c.loop-i.i);
       low = add_nonneg sum gap c.loop-i.invariant.low c.quotient-floor.ensures.low;

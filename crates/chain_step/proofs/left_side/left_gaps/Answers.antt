@@ -1,4 +1,4 @@
-use Rattle.std.proofs.Common.{rules, ◌≡◌, ◌-◌, ◌≤◌, get_or, pos, sym, ap, subst, arith, to_z, of_z, ℕ, ℤ, ◌≤ℤ◌, FitsSigned}
+use Rattle.std.proofs.Common.{rules, ◌-◌, ◌≤◌, get_or, pos, sym, ap, arith, to_z, of_z, ℕ, ℤ, ◌≤ℤ◌, FitsSigned}
 use Rattle.std.specs.Int.{w128}
 use Rattle.std.proofs.lemmas.Int.{ints, to_z-of_z}
 use Rattle.chain_step.specs.Step.{gap_at}

@@ -6,7 +6,7 @@ use Rattle.whole_algebra.proofs.Written.{written}
 use Rattle.whole_algebra.proofs.Order.{add_nonneg}
 use Rattle.chain_step.proofs.Products.{in_range}
 use Rattle.chain_step.specs.Step.{gap_at, taken}
-use Rattle.chain_step.proofs.Quotients.{gap_size}
+use Rattle.chain_step.proofs.Quotients.{gap_size, divided_floor, divided_gap}
 use Rattle.chain_step.proofs.Gaps.{right_more, added_high, added_size}
 use Rattle.chain_step.proofs.RowWrites.{unwritten, sum_size, count_size}
 use Rattle.chain_step.proofs.step.divide_right.Goals as goal
@@ -60,11 +60,12 @@ loop-m-preserved c =
     let gaps_size : unsigned_abs g ≤ 2 ^ 40 = subst (λ z. unsigned_abs z ≤ 2 ^ 40) (sym here_gaps) (c.requires.counts c.loop-m.m) in
     let f6 : FitsSigned w128 g = in_range g (omega arith) in
     let f7 : FitsSigned w128 (g +ℤ gap) = in_range (g +ℤ gap) (count_size g gap gaps_size c.quotient-floor.ensures.low c.quotient-floor.ensures.high) in
-    let a : FitsSigned w128 (get_or c.args.pivot.now 0 (pos 0)) = in_range (get_or c.args.pivot.now 0 (pos 0)) (let s = d.each_size 0 in omega arith) in
-    let p : FitsSigned w128 (get_or c.args.pivot.now c.args.column (pos 0)) = in_range (get_or c.args.pivot.now c.args.column (pos 0)) (let s = d.each_size c.args.column in omega arith) in
+    let a = get_or c.args.pivot.now 0 (pos 0) in
+    let p = get_or c.args.pivot.now c.args.column (pos 0) in
+    let other = get_or c.args.pivot.now (c.args.column + c.loop-m.m) (pos 0) in
     let q : FitsSigned w128 (get_or c.args.pivot.now (c.args.column + c.loop-m.m) (pos 0)) = in_range (get_or c.args.pivot.now (c.args.column + c.loop-m.m) (pos 0)) (let s = d.each_size (c.args.column + c.loop-m.m) in omega arith) in
-    let v = simp (to_z-of_z, a, p, q) at c.quotient-floor.ensures.gap in
-    let w = simp (to_z-of_z, a, p, q) at c.quotient-floor.ensures.floor in
+    let v = (simp (to_z-of_z, q) at c.quotient-floor.ensures.gap) ∙ divided_gap c.args.divisor.pivot c.args.divisor.factor a p other c.requires.divisor c.requires.factor in
+    let w = (simp (to_z-of_z, q) at c.quotient-floor.ensures.floor) ∙ divided_floor c.args.divisor.pivot c.args.divisor.factor a p other c.requires.divisor c.requires.factor in
     simp (to_z-of_z, f1, f2, f3, f4, f5, f6, f7) (record {
       value = ap₂ (λ s t. s +ℤ t) c.loop-m.invariant.value v ∙ sym (right_more (gap_at c.args.pivot.now c.args.column) c.args.column c.loop-m.m one);
       low = add_nonneg slack gap c.loop-m.invariant.low c.quotient-floor.ensures.low;

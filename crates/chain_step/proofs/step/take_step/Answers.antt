@@ -1,4 +1,4 @@
-use Rattle.std.proofs.Common.{rules, ◌≡◌, ◌-◌, ◌<◌, get_or, length, pos, sym, ◌∙◌, ap, arith, FitsSigned}
+use Rattle.std.proofs.Common.{rules, ◌-◌, get_or, length, pos, sym, ◌∙◌, ap, arith, FitsSigned}
 use Rattle.std.specs.Int.{w128}
 use Rattle.std.proofs.lemmas.Int.{to_z-of_z}
 use Rattle.whole_algebra.proofs.Ring.{zero_add}

@@ -1,12 +1,12 @@
-use Rattle.std.proofs.Common.{rules, ◌≡◌, ℕ, ◌+◌, ◌-◌, ◌*◌, ◌^◌, ◌<◌, pos, ℤ, ◌≤ℤ◌, FitsSigned, ◌+ℤ◌, length, sym, ◌∙◌, ap, refl, subst, arith}
+use Rattle.std.proofs.Common.{rules, ◌≡◌, ◌+◌, ◌-◌, ◌^◌, ◌<◌, pos, ◌≤ℤ◌, FitsSigned, ◌+ℤ◌, length, sym, ◌∙◌, ap, refl, subst, arith}
 use Rattle.std.specs.Int.{w128}
-use Rattle.std.proofs.lemmas.Int.{ints, to_z-of_z}
+use Rattle.std.proofs.lemmas.Int.{to_z-of_z}
 use Rattle.std.proofs.lemmas.List.{get_or-set_same}
 use Rattle.whole_algebra.specs.Matrices.{at}
 use Rattle.whole_algebra.specs.Chains.{matrix_after}
 use Rattle.whole_algebra.specs.Grid.{row_at}
 use Rattle.chain_step.proofs.RowSteps.{made_whole}
-use Rattle.chain_step.specs.Step.{over_of, IsPivotRow, gap_at, left_of, with_slack, with_left, column_in, left_slack, gap_count}
+use Rattle.chain_step.specs.Step.{over_of, IsPivotRow, gap_at, left_of, with_slack, with_left, column_in, left_slack}
 use Rattle.lent_parts.specs.Triangle.{tri_row}
 use Rattle.chain_step.proofs.StepsSoFar.{one_step_more, size_more, head_more, counts_more, left_slack_more, gap_count_more, slack_range, slack_size, whole_head}
 use Rattle.chain_step.proofs.steps.take_steps.Goals as goal
