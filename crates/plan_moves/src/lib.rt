@@ -9,5 +9,7 @@
 #![tactic(auto)]
 
 mod moved_plan;
+mod station_moves;
 
 pub use moved_plan::MovedPlan;
+pub use station_moves::StationMoves;

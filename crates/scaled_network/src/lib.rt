@@ -13,7 +13,9 @@
 mod bearing;
 mod marks;
 mod network;
+mod stations;
 
 pub use bearing::Bearing;
 pub use marks::{Mark, Marks};
 pub use network::ScaledNetwork;
+pub use stations::CostlyStations;
