@@ -205,10 +205,7 @@ impl Walk {
             &mut self.random,
             spread,
         )?;
-        self.station_moves.reduce(
-            &self.network,
-            &mut self.looked_at,
-            self.order.stations(),
-        )
+        self.station_moves
+            .reduce(&self.network, &mut self.looked_at, self.order.stations())
     }
 }
