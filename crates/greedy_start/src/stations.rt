@@ -69,9 +69,10 @@ fn take_out_station(
     ensures room { IsRoomOf network.now room.new }
 {
     let without = plan_without(alloc, network, plan, station)?;
-    if unmet_limit(room, network, &without, None).is_none() {
-        *plan = without;
+    if unmet_limit(room, network, &without, None).is_some() {
+        return Ok(());
     }
+    *plan = without;
     Ok(())
 }
 
