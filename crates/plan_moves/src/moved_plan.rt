@@ -7,6 +7,13 @@ use std::alloc::Global;
 // What a limit bears at most: 1 less 2^-20, so that the exact verdict meets it too.
 const MOST_STRENGTH: i64 = ONE - (1 << 12);
 
+// What a limit bears at most of a plan for it alone: 1 less 2^-16, since changes are made there
+// whatever digits they lose.
+const MOST_ALONE: i64 = ONE - (1 << 16);
+
+// So many candidates are moved one after another at most, to get from a plan to another.
+const MOST_MOVED: u32 = 4;
+
 /// A plan with the inverse of its normal matrix. It keeps its memory when another is started.
 #[derive(Drop)]
 pub struct MovedPlan {
@@ -82,6 +89,23 @@ impl MovedPlan {
         self.invert(network)
     }
 
+    /// Goes to another plan: that of the candidates that are inside.
+    pub fn go_to(&mut self, network: &ScaledNetwork, plan: &Marks) -> Result<(), NoMemory> {
+        if self.marks.differing(plan) > MOST_MOVED {
+            return self.start(network, plan);
+        }
+        let mut candidate = 0u32;
+        for mark in plan.all() {
+            match *mark {
+                Mark::Inside => self.add(network, candidate)?,
+                _ if self.has(candidate) => self.take_out(network, candidate)?,
+                _ => {}
+            }
+            candidate = candidate.saturating_add(1);
+        }
+        Ok(())
+    }
+
     /// Makes it a copy of another.
     pub fn copy_from(&mut self, other: &MovedPlan) -> Result<(), NoMemory> {
         self.marks.copy_from(&other.marks)?;
@@ -114,6 +138,12 @@ impl MovedPlan {
         self.make(network)
     }
 
+    /// Whether a limit bears the plan.
+    pub fn is_borne_by(&mut self, network: &ScaledNetwork, limit: u32) -> bool {
+        self.bearing.look_at_none(network);
+        self.bears(network, limit)
+    }
+
     /// Whether all limits in force bear the plan.
     pub fn is_borne(&mut self, network: &ScaledNetwork) -> bool {
         self.bearing.look_at_none(network);
@@ -143,6 +173,47 @@ impl MovedPlan {
             }
         }
         Ok(())
+    }
+
+    /// Takes out the candidates of a list one after another, each where one limit bears it, whatever
+    /// others do.
+    pub fn reduce_for(
+        &mut self,
+        network: &ScaledNetwork,
+        order: &[u32],
+        limit: u32,
+    ) -> Result<(), NoMemory> {
+        self.bearing.look_at_none(network);
+        let mut strength = self.bearing.strength(network, &self.inverse, limit);
+        for candidate in order {
+            if self.has(*candidate) {
+                strength = self.take_out_for(network, *candidate, limit, strength)?;
+            }
+        }
+        Ok(())
+    }
+
+    // Takes a candidate out where one limit bears it, and answers what it bears then. The inverse stays
+    // as it is where the limit doesn't feel the candidate: then it feels none that hang together with
+    // that one alone, either.
+    fn take_out_for(
+        &mut self,
+        network: &ScaledNetwork,
+        candidate: u32,
+        limit: u32,
+        strength: i64,
+    ) -> Result<i64, NoMemory> {
+        self.bearing
+            .look_at(network, &self.inverse, candidate, ONE)?;
+        let after = self.bearing.strength(network, &self.inverse, limit);
+        if after > MOST_ALONE {
+            return Ok(strength);
+        }
+        self.marks.set(candidate, Mark::Outside);
+        if after != strength {
+            self.bearing.make(network, &mut self.inverse);
+        }
+        Ok(after)
     }
 
     // Takes a candidate out where the limits in force bear it.
