@@ -13,4 +13,4 @@ mod moved_plan;
 mod witness_finder;
 
 pub use moved_plan::MovedPlan;
-pub use witness_finder::WitnessFinder;
+pub use witness_finder::{Rest, WitnessFinder};
