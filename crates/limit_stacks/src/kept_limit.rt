@@ -16,13 +16,14 @@ use factor_stack::FactorStack;
 use geo_base::NoMemory;
 use geo_model::{Network, Plan, Verdict};
 use pivot_chain::{ChainRoom, verdict};
-use plan_moves::WitnessFinder;
+use plan_moves::{Rest, WitnessFinder};
 use std::alloc::Global;
 
-/// The witnesses of a limit, and its stack, once one was begun.
+/// The witnesses of a limit, what is left of a plan to be one, and the limit's stack, once one was begun.
 #[derive(Drop)]
 pub struct KeptLimit {
     pub witnesses: Witnesses,
+    pub rest: Rest,
     pub stack: Option<FactorStack>,
 }
 
@@ -33,6 +34,7 @@ impl KeptLimit {
     {
         KeptLimit {
             witnesses: Witnesses::new(alloc),
+            rest: Rest::Bare,
             stack: None,
         }
     }
@@ -57,9 +59,10 @@ impl KeptLimit {
     {
         // A plan that a smaller one shows to meet the limit isn't refuted.
         let count = network.candidates().len() as u32;
-        if self.witnesses.has_within(plan, count)
-            || self.has_small_plan(alloc, room, finder, network, plan, limit)?
-        {
+        if self.witnesses.has_within(plan, count) {
+            return Ok(false);
+        }
+        if self.has_small_plan(alloc, room, finder, network, plan, limit)? {
             return Ok(false);
         }
         let verdict = self.upper_verdict(alloc, room, network, plan, limit)?;
@@ -87,11 +90,16 @@ impl KeptLimit {
         ensures kept { IsKeptLimit network.now limit self.new }
         ensures room { IsRoomOf network.now room.new }
     {
-        let Some(small) = small_plan(alloc, room, finder, network, plan, limit)? else {
-            return Ok(false);
-        };
-        self.witnesses.keep(small)?;
-        Ok(true)
+        match small_plan(alloc, room, finder, network, plan, limit, self.rest)? {
+            Some(small) => {
+                self.witnesses.keep(small)?;
+                Ok(true)
+            }
+            None => {
+                self.rest = Rest::Regular;
+                Ok(false)
+            }
+        }
     }
 
     // The verdict of a plan on the limit of this number: of its stack, where the limit has no owner.

@@ -9,7 +9,7 @@ use crate::witnesses::is_within;
 use geo_base::NoMemory;
 use geo_model::{Network, Plan, Verdict};
 use pivot_chain::{ChainRoom, verdict};
-use plan_moves::WitnessFinder;
+use plan_moves::{Rest, WitnessFinder};
 use std::alloc::Global;
 
 /// A plan within another one that meets a limit, and so shows that the other one meets it, where the
@@ -21,6 +21,7 @@ pub(crate) fn small_plan(
     network: &Network,
     plan: &Plan,
     limit: u32,
+    rest: Rest,
 ) -> Result<Option<Plan>, NoMemory>
     requires room { IsRoomOf network.now room.old }
     requires plan { length plan.now ≡ length network.now.candidates }
@@ -29,7 +30,7 @@ pub(crate) fn small_plan(
     ensures met { IfOk result (λ found. IfSome found (λ small. (l : LimitOf) → slice_get network.now.limits limit ≡ Some l → MeetsLimit network.now plan.now l)) }
     ensures room { IsRoomOf network.now room.new }
 {
-    let Some(small) = finder.small_plan(alloc, network, plan, limit)? else {
+    let Some(small) = finder.small_plan(alloc, network, plan, limit, rest)? else {
         return Ok(None);
     };
     let count = network.candidates().len() as u32;

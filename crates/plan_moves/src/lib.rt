@@ -15,4 +15,4 @@ mod witness_finder;
 
 pub use moved_plan::MovedPlan;
 pub use station_moves::StationMoves;
-pub use witness_finder::WitnessFinder;
+pub use witness_finder::{Rest, WitnessFinder};

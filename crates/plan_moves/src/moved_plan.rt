@@ -176,44 +176,43 @@ impl MovedPlan {
     }
 
     /// Takes out the candidates of a list one after another, each where one limit bears it, whatever
-    /// others do.
+    /// others do, and the change has this least pivot: above 0, no direction is left without rows.
     pub fn reduce_for(
         &mut self,
         network: &ScaledNetwork,
         order: &[u32],
         limit: u32,
+        least_pivot: i64,
     ) -> Result<(), NoMemory> {
         self.bearing.look_at_none(network);
         let mut strength = self.bearing.strength(network, &self.inverse, limit);
         for candidate in order {
             if self.has(*candidate) {
-                strength = self.take_out_for(network, *candidate, limit, strength)?;
+                self.bearing
+                    .look_at(network, &self.inverse, *candidate, ONE)?;
+                if self.bearing.least_pivot() >= least_pivot {
+                    strength = self.take_out_for(network, *candidate, limit, strength);
+                }
             }
         }
         Ok(())
     }
 
-    // Takes a candidate out where one limit bears it, and answers what it bears then. The inverse stays
-    // as it is where the limit doesn't feel the candidate: then it feels none that hang together with
-    // that one alone, either.
+    // Takes out the candidate that is looked at where one limit bears it, and answers what it bears then.
     fn take_out_for(
         &mut self,
         network: &ScaledNetwork,
         candidate: u32,
         limit: u32,
         strength: i64,
-    ) -> Result<i64, NoMemory> {
-        self.bearing
-            .look_at(network, &self.inverse, candidate, ONE)?;
+    ) -> i64 {
         let after = self.bearing.strength(network, &self.inverse, limit);
         if after > MOST_ALONE {
-            return Ok(strength);
+            return strength;
         }
         self.marks.set(candidate, Mark::Outside);
-        if after != strength {
-            self.bearing.make(network, &mut self.inverse);
-        }
-        Ok(after)
+        self.bearing.make(network, &mut self.inverse);
+        after
     }
 
     // Takes a candidate out where the limits in force bear it.

@@ -7,6 +7,17 @@ use scaled_network::{Mark, Marks, ScaledNetwork};
 use std::alloc::Global;
 use std::cmp::Reverse;
 
+// What a pivot is at least where the plan that is left is to be regular: 2^-12.
+const REGULAR_PIVOT: i64 = 1 << 20;
+
+/// What is left of a plan: all that a limit needs, or besides enough for each direction in which the
+/// plan has rows. A verdict is sometimes open where rows are left that depend on one another alone.
+#[derive(Clone, Copy, Debug, PartialEq, Eq)]
+pub enum Rest {
+    Bare,
+    Regular,
+}
+
 // A candidate of a plan, and when it is taken out: those first that were missing most often, and of
 // these the dearest.
 #[derive(Clone, Copy)]
@@ -48,7 +59,7 @@ impl WitnessFinder {
         })
     }
 
-    /// What is left of a plan where all candidates are taken out that a limit can spare: those first
+    /// What is left of a plan where the candidates are taken out that a limit can spare: those first
     /// that plans which were asked about missed most often, and of these the dearest. None where the
     /// plan itself doesn't seem to meet the limit. Refused for want of memory alone.
     pub fn small_plan(
@@ -57,6 +68,7 @@ impl WitnessFinder {
         network: &Network,
         plan: &Plan,
         limit: u32,
+        rest: Rest,
     ) -> Result<Option<Plan>, NoMemory>
         requires { length plan.now ≡ length network.now.candidates }
         ensures { IfOk result (λ found. IfSome found (λ small. length small ≡ length network.now.candidates)) }
@@ -70,7 +82,11 @@ impl WitnessFinder {
         self.sort()?;
         self.small.copy_from(&self.large)?;
         let order = self.order.as_slice();
-        self.small.reduce_for(&self.network, order, limit)?;
+        let least = match rest {
+            Rest::Bare => 0,
+            Rest::Regular => REGULAR_PIVOT,
+        };
+        self.small.reduce_for(&self.network, order, limit, least)?;
         Ok(Some(self.small.plan().plan(alloc, network)?))
     }
 
