@@ -5,7 +5,6 @@ ghost use Rattle.geo_model.specs.Network.{IsNetwork};
 ghost use Rattle.limit_stacks.specs.Kept.{IsVerdictsOf};
 ghost use Rattle.bound_log.specs.LogTree.{IsNodeRefutedBy};
 ghost use Rattle.branch_bound.specs.Cuts.{AreCutsFor, GotCuts, IsWritable, log_line_of};
-ghost use Rattle.idle_splits.specs.Idle.{IsIdle};
 ghost use Rattle.branch_bound.specs.Explored.{IsNode, IsLineAt};
 ghost use Rattle.branch_bound.specs.Found.{IsTrueBest, IsCovered, IsBelow, IsOffered, best_bound};
 ghost use Rattle.branch_bound.specs.Searched.{IsCertified};
