@@ -93,31 +93,30 @@ impl Fixing {
         Ok(bounds.wrapping_add(candidates).wrapping_add(stations))
     }
 
-    /// The open candidates that a dual bound fixes at a node, where plans that cost `price` or more
-    /// aren't sought: the other child of a split on one has a bound of that much.
+    /// Finds the open candidates that a dual bound fixes at a node, where plans that cost `price` or
+    /// more aren't sought: the other child of a split on one has a bound of that much.
     pub fn find(
         &mut self,
-        alloc: Global,
         network: &ScaledNetwork,
-        level: &Level,
+        level: &mut Level,
         pool: &CutPool,
         dual: &Dual,
         price: u64,
-    ) -> Result<Vec<Forced>, NoMemory> {
+    ) -> Result<(), NoMemory> {
         let sum = self.sum(network, level, pool, dual)?;
         let needed = needed(dual, price);
-        let mut fixed = Vec::new(alloc);
+        level.fixed.clear();
         let mut candidate = 0u32;
         for (mark, reduced) in level.marks.all().iter().zip(self.reduced.as_slice()) {
             let term = self.term_of(network, candidate);
             let is_in = sum.wrapping_add(term.rise_outside(*reduced)) > needed;
             let is_out = sum.wrapping_add(term.rise_inside(*reduced)) > needed;
             if *mark == Mark::Open && (is_in || is_out) {
-                fixed.push(Forced { candidate, is_in })?;
+                level.fixed.push(Forced { candidate, is_in })?;
             }
             candidate = candidate.saturating_add(1);
         }
-        Ok(fixed)
+        Ok(())
     }
 
     // The term of a candidate's station.
