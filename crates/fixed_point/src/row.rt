@@ -57,7 +57,8 @@ pub fn dot(a: &[i64], b: &[i64]) -> i64 {
     }
     let [first, second, third, fourth] = sums;
     let all = first.wrapping_add(second).wrapping_add(third);
-    all.wrapping_add(fourth).wrapping_add(dot_part(rest, other_rest))
+    all.wrapping_add(fourth)
+        .wrapping_add(dot_part(rest, other_rest))
 }
 
 // Four sums with one product more each.

@@ -2,8 +2,8 @@
 
 use crate::exact::Exact;
 use fixed_point::{
-    Divisor, ONE, Sizes, divide_row, dot, negate_row, product, quotient, ratio, root, root_of_ratio,
-    subtract_scaled,
+    Divisor, ONE, Sizes, divide_row, dot, negate_row, product, quotient, ratio, root,
+    root_of_ratio, subtract_scaled,
 };
 
 // What quotients are at most: 2^30.
