@@ -4,8 +4,10 @@ use Rattle.std.proofs.lemmas.List.Elements.{All-weaker, All-contains}
 use Rattle.std.proofs.lemmas.Option.{slice_get-get_or}
 use Rattle.geo_model.specs.Energy.{IsWithin}
 use Rattle.geo_model.specs.Limit.{LimitOf, IsInForce}
+use Rattle.geo_model.specs.Meeting.{MeetsLimit}
 use Rattle.geo_model.specs.Network.{NetworkOf, IsNetwork, IsLimit}
 use Rattle.geo_model.specs.declared.verdict.Verdict.TheVariants.{Refuted}
+use Rattle.geo_model.proofs.PlanLemmas.{IsWithin-refl}
 use Rattle.geo_model.proofs.RowLoads.{All-found}
 use Rattle.pivot_chain.specs.Verdict.{verdict_of}
 use Rattle.pivot_chain.specs.Certified.{IsMetAt}
@@ -21,6 +23,14 @@ pub not_refuted : (network : NetworkOf) (plan : List Bool) (number : ℕ) (plans
 not_refuted network plan number plans bounds each (k, small, inside, here, within) limit named refuted =
     let witness : IsWitness network number small = subst (λ (p : List Bool). IsWitness network number p) here (each k small inside) in
     refuted_fails network small plan limit bounds (All-found (IsLimit network) network.limits number limit named bounds.each_limit) within refuted (witness.meets limit named)
+
+-- a plan that meets the limit of a number isn't refuted on it
+pub meets_not_refuted : (network : NetworkOf) (plan : List Bool) (number : ℕ) → IsNetwork network →
+    ((limit : LimitOf) → slice_get network.limits number ≡ Some limit → MeetsLimit network plan limit) →
+    (limit : LimitOf) → slice_get network.limits number ≡ Some limit → verdict_of network plan limit ≡ Refuted → ⊥
+meets_not_refuted network plan number bounds meets limit named refuted =
+    refuted_fails network plan plan limit bounds (All-found (IsLimit network) network.limits number limit named bounds.each_limit)
+    (IsWithin-refl plan) refuted (meets limit named)
 
 -- what holds of the witnesses of before and of a further one holds of each that is kept
 pub kept_more : (P : List Bool → Type 0) (plan : List Bool) (before now : List (List Bool)) → P plan → All P before →

@@ -67,7 +67,7 @@ impl KeptLimit {
         }
         let verdict = self.upper_verdict(alloc, room, network, plan, limit)?;
         if verdict == Verdict::Met {
-            self.witnesses.keep(plan.copy(alloc)?)?;
+            self.keep_witness(alloc, network, plan, limit)?;
         }
         Ok(verdict == Verdict::Refuted)
     }
