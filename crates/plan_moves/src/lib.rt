@@ -1,5 +1,6 @@
 //! Plans that candidates are added to and taken out of, in fixed point: what is left where one after
-//! the other is taken out, each where the limits in force bear it. It proposes plans to offer.
+//! the other, or a whole station with its candidates, is taken out, each where the limits in force
+//! bear it. It proposes plans to offer.
 //!
 //! Proved: no call goes wrong, whatever it is given: no index out of range, no overflow, no zero
 //! divisor.
@@ -9,5 +10,7 @@
 #![tactic(auto)]
 
 mod moved_plan;
+mod station_moves;
 
 pub use moved_plan::MovedPlan;
+pub use station_moves::StationMoves;
