@@ -17,6 +17,7 @@ mod fixing;
 mod forced;
 mod level;
 mod levels;
+mod links;
 mod live_cuts;
 mod nodes;
 mod relaxation;
