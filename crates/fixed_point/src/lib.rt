@@ -17,6 +17,6 @@ mod row;
 mod sizes;
 
 pub use divisor::Divisor;
-pub use number::{ONE, product, quotient, ratio, root_of_ratio};
+pub use number::{ONE, product, quotient, ratio, root, root_of_ratio};
 pub use row::{divide_row, dot, negate_row, subtract_scaled};
 pub use sizes::Sizes;

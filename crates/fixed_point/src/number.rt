@@ -4,6 +4,9 @@ pub const ONE: i64 = 1 << 32;
 // The bits of the lower half of 128.
 const LOWER_HALF: u128 = 0xffff_ffff_ffff_ffff;
 
+// The bits of the lower half of 64.
+const LOWER_QUARTER: u64 = 0xffff_ffff;
+
 // What a quotient is at most in size.
 const GREATEST: i128 = 1 << 62;
 
@@ -48,8 +51,33 @@ pub fn root_of_ratio(dividend: u128, divisor: u128) -> i64 {
         return GREATEST as i64;
     }
     let part = part_of(dividend % divisor, divisor);
-    let root = whole.wrapping_shl(64).wrapping_add(part).isqrt();
-    root.min(1 << 62) as i64
+    root(whole.wrapping_shl(64).wrapping_add(part)).min(1 << 62) as i64
+}
+
+/// The square root of a whole number, rounded down: by Newton's rule, on the number shifted so that its
+/// highest bits are in use.
+pub fn root(number: u128) -> u64 {
+    if number == 0 {
+        return 0;
+    }
+    let half_shift = (number.leading_zeros() / 2).min(63);
+    let normal = number.wrapping_shl(half_shift).wrapping_shl(half_shift);
+    let first = root_above((normal >> 64) as u64).min(LOWER_QUARTER);
+    let above = first.wrapping_shl(32) | LOWER_QUARTER;
+    let mean = (above as u128).wrapping_add(normal / (above as u128).max(1)) >> 1;
+    let near = mean.min(LOWER_HALF) as u64;
+    let square = (near as u128).wrapping_mul(near as u128);
+    let floor = near.wrapping_sub((square > normal) as u64);
+    floor.wrapping_shr(half_shift)
+}
+
+// The root of a number from 2^62 on, or a little more.
+fn root_above(number: u64) -> u64 {
+    let mut root = (number >> 33).wrapping_add(1 << 31);
+    for _ in 0..4 {
+        root = root.wrapping_add(number / root.max(1)) >> 1;
+    }
+    root
 }
 
 // A remainder over its divisor, with 64 fractional bits. Where the remainder has no room for them,

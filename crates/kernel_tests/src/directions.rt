@@ -135,7 +135,8 @@ fn is_right(alloc: Global, case: &DirectionCase) -> Result<bool, NoMemory> {
     let mut weakest = Weakest::new(alloc);
     let strength = weakest.find(&factor, squares.as_slice())?;
     let mut entries = Vec::new(alloc);
-    weakest.round(&scaling, 32768, &mut entries)?;
+    let units = scaling.units(alloc)?;
+    weakest.round(units.as_slice(), 32768, &mut entries)?;
     Ok(case.strength.is_close(strength) && is_along(entries.as_slice(), case.direction))
 }
 

@@ -212,7 +212,8 @@ fn direction_of(
     }
     let mut weakest = Weakest::new(alloc);
     let strength = weakest.find_from(limit, shift, first.as_slice(), second.as_slice())?;
-    weakest.round(&CHAIN.scaling(alloc)?, greatest as i64, entries)?;
+    let units = CHAIN.scaling(alloc)?.units(alloc)?;
+    weakest.round(units.as_slice(), greatest as i64, entries)?;
     Ok(strength)
 }
 

@@ -2,8 +2,8 @@
 
 use crate::exact::Exact;
 use fixed_point::{
-    Divisor, ONE, Sizes, divide_row, dot, negate_row, product, quotient, ratio, root_of_ratio,
-    subtract_scaled,
+    Divisor, ONE, Sizes, divide_row, dot, negate_row, product, quotient, ratio, root,
+    root_of_ratio, subtract_scaled,
 };
 
 // What quotients are at most: 2^30.
@@ -78,6 +78,31 @@ fn roots_are_those_of_whole_numbers(rt: HostRuntime) {
             root,
             "{dividend} over {divisor}"
         );
+    }
+}
+
+// Whole numbers and their roots, rounded down: squares, and what lies beside them.
+const WHOLE_ROOTS: [(u128, u64); 14] = [
+    (0, 0),
+    (1, 1),
+    (3, 1),
+    (4, 2),
+    (24, 4),
+    (25, 5),
+    (999999, 999),
+    (1000000, 1000),
+    ((1 << 62) - 1, (1 << 31) - 1),
+    (1 << 62, 1 << 31),
+    (2 << 64, 6074000999),
+    ((1 << 126) - 1, (1 << 63) - 1),
+    (1 << 126, 1 << 63),
+    (u128::MAX, u64::MAX),
+];
+
+#[test]
+fn whole_roots_are_rounded_down(rt: HostRuntime) {
+    for (number, wanted) in WHOLE_ROOTS {
+        assert_eq!(rt; root(number), wanted, "{number}");
     }
 }
 

@@ -108,6 +108,12 @@ impl Bearing {
         self.change.least_pivot() >= LEAST_PIVOT && inverse.changes() < MOST_CHANGES
     }
 
+    /// The least pivot in size of the change that is looked at, at most 1: near 0, the rows that are
+    /// taken out are the only ones in some direction.
+    pub fn least_pivot(&self) -> i64 {
+        self.change.least_pivot()
+    }
+
     /// Makes the change that is looked at, and looks at none.
     pub fn make(&mut self, network: &ScaledNetwork, inverse: &mut Inverse) {
         inverse.apply(&self.change);
@@ -150,6 +156,6 @@ impl Bearing {
         greatest: i64,
         entries: &mut Vec<i32>,
     ) -> Result<(), NoMemory> {
-        self.weakest.round(network.scaling(), greatest, entries)
+        self.weakest.round(network.units(), greatest, entries)
     }
 }

@@ -9,7 +9,8 @@ use weak_direction::{Form, Scaling};
 /// scaled unknowns, with prices and owners.
 #[derive(Drop)]
 pub struct ScaledNetwork {
-    scaling: Scaling,
+    // What a scaled unit is in each unknown, up to one factor for all.
+    units: Vec<i64>,
     // What a displacement by 1 in each unknown is in scaled units, up to one factor for all.
     roots: Vec<i64>,
     // The rows of each candidate, times the root of their weight.
@@ -25,18 +26,18 @@ impl ScaledNetwork {
     pub fn new(alloc: Global, network: &Network) -> Result<ScaledNetwork, NoMemory> {
         let scaling = scaling_of(alloc, network)?;
         Ok(ScaledNetwork {
+            units: scaling.units(alloc)?,
             roots: scaling.roots(alloc)?,
             rows: rows_of_all(alloc, &scaling, network)?,
             squares: squares_of_all(alloc, &scaling, network)?,
             owners: owners_of(alloc, network)?,
             prices: prices_of(alloc, network)?,
-            scaling,
         })
     }
 
-    /// How its unknowns are scaled.
-    pub fn scaling(&self) -> &Scaling {
-        &self.scaling
+    /// What a scaled unit is in each unknown, up to one factor for all.
+    pub fn units(&self) -> &[i64] {
+        self.units.as_slice()
     }
 
     /// Writes a displacement in scaled units, up to one factor: over its greatest entry `greatest`,
@@ -57,7 +58,7 @@ impl ScaledNetwork {
 
     /// The number of unknowns.
     pub fn unknowns(&self) -> usize {
-        self.scaling.unknowns()
+        self.units.len()
     }
 
     /// The price of each candidate.

@@ -1,4 +1,4 @@
-use fixed_point::{ONE, quotient};
+use fixed_point::{ONE, quotient, root};
 
 /// The greatest eigenvalue of a symmetric matrix of two rows and a direction that has it, whose
 /// greater entry is 1 in size: numbers in fixed point.
@@ -15,7 +15,7 @@ pub fn greatest_eigenvalue(a: i64, b: i64, c: i64) -> Greatest {
     let half_difference = (a >> 1).wrapping_sub(c >> 1);
     let half_sum = (a >> 1).wrapping_add(c >> 1);
     let squares = square(half_difference).saturating_add(square(b));
-    let root = squares.isqrt().min(1 << 62) as i64;
+    let root = root(squares).min(1 << 62) as i64;
     let (first, second) = if half_difference < 0 {
         (b, root.wrapping_sub(half_difference))
     } else {

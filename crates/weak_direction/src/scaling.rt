@@ -74,8 +74,19 @@ impl Scaling {
         Ok(roots)
     }
 
+    /// The root of the least diagonal entry over that of each unknown, in fixed point: what a scaled
+    /// unit is in the unknown, up to one factor for all.
+    pub fn units(&self, alloc: Global) -> Result<Vec<i64>, NoMemory> {
+        let least = self.least();
+        let mut units = Vec::new(alloc);
+        for entry in self.diagonal.as_slice() {
+            units.push(root_of_ratio(least, *entry))?;
+        }
+        Ok(units)
+    }
+
     // The least diagonal entry above 0.
-    pub(crate) fn least(&self) -> u128 {
+    fn least(&self) -> u128 {
         let mut least = u128::MAX;
         for entry in self.diagonal.as_slice() {
             if 0 < *entry {
@@ -86,7 +97,7 @@ impl Scaling {
     }
 
     // The diagonal entry of an unknown; 0 where there is none.
-    pub(crate) fn entry(&self, unknown: usize) -> u128 {
+    fn entry(&self, unknown: usize) -> u128 {
         self.diagonal.get(unknown).copied().unwrap_or(0)
     }
 }

@@ -1,8 +1,7 @@
 use crate::eigen::greatest_eigenvalue;
 use crate::factor::Factor;
 use crate::form::{Form, common_shift, lifted};
-use crate::scaling::Scaling;
-use fixed_point::{Divisor, product, root_of_ratio};
+use fixed_point::{Divisor, product};
 use geo_base::NoMemory;
 use std::alloc::Global;
 
@@ -81,14 +80,15 @@ impl Weakest {
     }
 
     /// Writes the direction in the unknowns' own units, rounded so that its greatest entry is
-    /// `greatest` in size, from 1 to 32768. All are 0 where no direction was found.
+    /// `greatest` in size, from 1 to 32768. All are 0 where no direction was found. `units` are those
+    /// of the scaling.
     pub fn round(
         &mut self,
-        scaling: &Scaling,
+        units: &[i64],
         greatest: i64,
         entries: &mut Vec<i32>,
     ) -> Result<(), NoMemory> {
-        self.unscale(scaling)?;
+        self.unscale(units)?;
         let mut most = 0i64;
         for number in self.unscaled.as_slice() {
             most = most.max(number.saturating_abs());
@@ -103,13 +103,12 @@ impl Weakest {
         Ok(())
     }
 
-    // Writes the direction with its scaling taken off, over the root of the least diagonal entry.
-    fn unscale(&mut self, scaling: &Scaling) -> Result<(), NoMemory> {
-        let least = scaling.least();
+    // Writes the direction with its scaling taken off.
+    fn unscale(&mut self, units: &[i64]) -> Result<(), NoMemory> {
         self.unscaled.clear();
         for (unknown, number) in self.direction.iter().enumerate() {
-            let root = root_of_ratio(least, scaling.entry(unknown));
-            self.unscaled.push(product(*number, root))?;
+            let unit = units.get(unknown).copied().unwrap_or(0);
+            self.unscaled.push(product(*number, unit))?;
         }
         Ok(())
     }
