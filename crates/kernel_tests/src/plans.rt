@@ -1,6 +1,8 @@
 //! Plans: what limits bear under them, what is left where candidates are taken out, what greedy
 //! deletion hands over, and what a local search makes of it.
 
+ghost use Rattle.std.specs.Prelude.{◌≡◌, length, IfOk};
+
 use crate::exact::Exact;
 use crate::tables::{HALVES, LINE, ONE_HEIGHT};
 use fixed_point::ONE;
@@ -8,7 +10,7 @@ use geo_base::NoMemory;
 use geo_model::{Network, Plan, cost};
 use local_search::first_plan;
 use plan_inverse::Inverse;
-use plan_moves::MovedPlan;
+use plan_moves::{MovedPlan, Rest, WitnessFinder};
 use scaled_network::{Bearing, Marks, ScaledNetwork};
 use std::alloc::Global;
 use std::test::Fail;
@@ -79,6 +81,137 @@ fn candidates_go_where_limits_bear_it(rt: HostRuntime) -> Result<(), Fail> {
     assert!(rt; reduced_price(alloc, &line, &[0, 2, 1])? == 10);
     let halves = network_of(alloc, &HALVES)?;
     assert!(rt; reduced_price(alloc, &halves, &[0, 1])? == 12);
+    Ok(())
+}
+
+// Candidates that are missing from a plan which is asked about first, if any, and from the one that is
+// asked about then; a limit; and what is left of the plan, by the variances above.
+struct WitnessCase {
+    tables: &'static CaseTables,
+    before: Option<&'static [u32]>,
+    missing: &'static [u32],
+    limit: u32,
+    rest: Rest,
+    left: Option<&'static [u32]>,
+}
+
+const WITNESSES: [WitnessCase; 8] = [
+    // The second height is determined still.
+    WitnessCase {
+        tables: &LINE,
+        before: None,
+        missing: &[],
+        limit: 0,
+        rest: Rest::Regular,
+        left: Some(&[0, 1]),
+    },
+    WitnessCase {
+        tables: &LINE,
+        before: None,
+        missing: &[],
+        limit: 0,
+        rest: Rest::Bare,
+        left: Some(&[0]),
+    },
+    WitnessCase {
+        tables: &LINE,
+        before: Some(&[1]),
+        missing: &[],
+        limit: 1,
+        rest: Rest::Bare,
+        left: Some(&[2]),
+    },
+    WitnessCase {
+        tables: &LINE,
+        before: None,
+        missing: &[0],
+        limit: 0,
+        rest: Rest::Bare,
+        left: None,
+    },
+    WitnessCase {
+        tables: &ONE_HEIGHT,
+        before: None,
+        missing: &[],
+        limit: 0,
+        rest: Rest::Bare,
+        left: Some(&[1, 2]),
+    },
+    WitnessCase {
+        tables: &ONE_HEIGHT,
+        before: None,
+        missing: &[2],
+        limit: 0,
+        rest: Rest::Bare,
+        left: Some(&[0]),
+    },
+    // What was missing before goes first.
+    WitnessCase {
+        tables: &ONE_HEIGHT,
+        before: Some(&[2]),
+        missing: &[],
+        limit: 0,
+        rest: Rest::Bare,
+        left: Some(&[0]),
+    },
+    WitnessCase {
+        tables: &ONE_HEIGHT,
+        before: None,
+        missing: &[0, 1],
+        limit: 0,
+        rest: Rest::Bare,
+        left: None,
+    },
+];
+
+// The plan of all candidates but some.
+fn plan_without(alloc: Global, network: &Network, missing: &[u32]) -> Result<Plan, NoMemory>
+    ensures { IfOk result (λ plan. length plan ≡ length network.now.candidates) }
+{
+    let count = network.candidates().len() as u32;
+    let mut plan = Plan::empty(alloc, count)?;
+    for candidate in 0..count {
+        plan.set(candidate, !missing.contains(&candidate));
+    }
+    Ok(plan)
+}
+
+// Whether a plan is that of some candidates.
+fn is_plan_of(network: &Network, plan: &Plan, candidates: &[u32]) -> bool
+    requires { length plan.now ≡ length network.now.candidates }
+{
+    for candidate in 0..network.candidates().len() as u32 {
+        if plan.has(candidate) != candidates.contains(&candidate) {
+            return false;
+        }
+    }
+    true
+}
+
+// Whether what is left of a plan for a limit is what is wanted.
+fn is_left(alloc: Global, network: &Network, case: &WitnessCase) -> Result<bool, NoMemory> {
+    let mut finder = WitnessFinder::new(alloc, network)?;
+    if let Some(before) = case.before {
+        let plan = plan_without(alloc, network, before)?;
+        let _found = finder.small_plan(alloc, network, &plan, case.limit, case.rest)?;
+    }
+    let plan = plan_without(alloc, network, case.missing)?;
+    let found = finder.small_plan(alloc, network, &plan, case.limit, case.rest)?;
+    match (&found, case.left) {
+        (Some(small), Some(left)) => Ok(is_plan_of(network, small, left)),
+        (None, None) => Ok(true),
+        _ => Ok(false),
+    }
+}
+
+#[test]
+fn a_limit_spares_what_it_does_not_need(rt: HostRuntime) -> Result<(), Fail> {
+    let mut at = 0u32;
+    for case in WITNESSES {
+        let network = network_of(rt.alloc(), case.tables)?;
+        assert!(rt; is_left(rt.alloc(), &network, &case)?, "case {at}");
+        at = at.saturating_add(1);
+    }
     Ok(())
 }
 

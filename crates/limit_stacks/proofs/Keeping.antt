@@ -4,14 +4,17 @@ use Rattle.std.proofs.lemmas.List.Elements.{All-weaker, All-contains}
 use Rattle.std.proofs.lemmas.Option.{slice_get-get_or}
 use Rattle.geo_model.specs.Energy.{IsWithin}
 use Rattle.geo_model.specs.Limit.{LimitOf, IsInForce}
+use Rattle.geo_model.specs.Meeting.{MeetsLimit}
 use Rattle.geo_model.specs.Network.{NetworkOf, IsNetwork, IsLimit}
-use Rattle.geo_model.specs.declared.verdict.Verdict.TheVariants.{Refuted}
+use Rattle.geo_model.specs.declared.verdict.Verdict.{Verdict}
+use Rattle.geo_model.specs.declared.verdict.Verdict.TheVariants.{Met, Refuted}
 use Rattle.geo_model.proofs.RowLoads.{All-found}
 use Rattle.pivot_chain.specs.Verdict.{verdict_of}
 use Rattle.pivot_chain.specs.Certified.{IsMetAt}
 use Rattle.pivot_chain.proofs.Verdicts.{refuted_fails, met_sound}
 use Rattle.limit_stacks.specs.Kept.{IsWitness, IsKeptLimit}
 use Rattle.limit_stacks.specs.declared.kept_limit.KeptLimit.{KeptLimit}
+use Rattle.limit_stacks.proofs.Within.{within_itself}
 
 -- What witnesses say.
 
@@ -21,6 +24,21 @@ pub not_refuted : (network : NetworkOf) (plan : List Bool) (number : ℕ) (plans
 not_refuted network plan number plans bounds each (k, small, inside, here, within) limit named refuted =
     let witness : IsWitness network number small = subst (λ (p : List Bool). IsWitness network number p) here (each k small inside) in
     refuted_fails network small plan limit bounds (All-found (IsLimit network) network.limits number limit named bounds.each_limit) within refuted (witness.meets limit named)
+
+-- a plan that meets a limit isn't refuted on it
+pub met_not_refuted : (network : NetworkOf) (plan : List Bool) (number : ℕ) → IsNetwork network → (limit : LimitOf) → slice_get network.limits number ≡ Some limit →
+    MeetsLimit network plan limit → verdict_of network plan limit ≡ Refuted → ⊥
+met_not_refuted network plan number bounds limit named meets refuted =
+    refuted_fails network plan plan limit bounds (All-found (IsLimit network) network.limits number limit named bounds.each_limit) (within_itself plan) refuted meets
+
+-- a plan whose verdict is Met is a witness
+pub witness_of_verdict : (network : NetworkOf) (plan : List Bool) (number : ℕ) (verdict : Verdict) → IsNetwork network → length plan ≡ length network.candidates →
+    ((l : LimitOf) → slice_get network.limits number ≡ Some l → verdict ≡ verdict_of network plan l) → verdict ≡ Met → IsWitness network number plan
+witness_of_verdict network plan number verdict bounds long exact met = record {
+  long = long;
+  meets = λ limit named.
+      met_sound network plan limit bounds (All-found (IsLimit network) network.limits number limit named bounds.each_limit) (sym (exact limit named) ∙ met);
+}
 
 -- what holds of the witnesses of before and of a further one holds of each that is kept
 pub kept_more : (P : List Bool → Type 0) (plan : List Bool) (before now : List (List Bool)) → P plan → All P before →

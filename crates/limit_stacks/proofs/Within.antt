@@ -7,6 +7,11 @@ use Rattle.geo_model.specs.Energy.{IsWithin}
 chosen : (b : Bool) → Some b ≡ Some true → b ≡ true
 chosen b e = cc
 
+-- a plan lies in itself
+pub within_itself : (plan : List Bool) → IsWithin plan plan
+within_itself [] = tt
+within_itself (x ∷ plan) = (λ e. e, within_itself plan)
+
 -- a plan lies in another one that has each of its candidates
 pub within_by : (small large : List Bool) → length small ≡ length large →
     ((j : ℕ) → j < length small → slice_get small j ≡ Some true → slice_get large j ≡ Some true) → IsWithin small large

@@ -2,6 +2,7 @@
 ghost use Rattle.std.specs.Prelude.{◌≡◌, ◌↔◌, ◌<◌, ℕ, Some, length, slice_get, IfOk, IsTrue};
 ghost use Rattle.std.specs.Option.{ForSome};
 ghost use Rattle.geo_model.specs.Limit.{LimitOf};
+ghost use Rattle.geo_model.specs.Meeting.{MeetsLimit};
 ghost use Rattle.geo_model.specs.Network.{NetworkOf};
 ghost use Rattle.geo_model.specs.declared.verdict.Verdict.TheVariants.{Refuted};
 ghost use Rattle.pivot_chain.specs.Room.{IsRoomOf};
@@ -10,17 +11,19 @@ ghost use Rattle.limit_stacks.specs.Kept.{IsLimitStack, IsWitness, IsKeptLimit};
 
 use crate::Witnesses;
 use crate::following::{bring, is_far, take_back};
-use crate::neighbourhood::small_plan;
+use crate::small_plan::small_plan;
 use factor_stack::FactorStack;
 use geo_base::NoMemory;
 use geo_model::{Network, Plan, Verdict};
 use pivot_chain::{ChainRoom, verdict};
+use plan_moves::{Rest, WitnessFinder};
 use std::alloc::Global;
 
-/// The witnesses of a limit, and its stack, once one was begun.
+/// The witnesses of a limit, what is left of a plan to be one, and the limit's stack, once one was begun.
 #[derive(Drop)]
 pub struct KeptLimit {
     pub witnesses: Witnesses,
+    pub rest: Rest,
     pub stack: Option<FactorStack>,
 }
 
@@ -31,6 +34,7 @@ impl KeptLimit {
     {
         KeptLimit {
             witnesses: Witnesses::new(alloc),
+            rest: Rest::Bare,
             stack: None,
         }
     }
@@ -40,6 +44,7 @@ impl KeptLimit {
         &mut self,
         alloc: Global,
         room: &mut ChainRoom,
+        finder: &mut WitnessFinder,
         network: &Network,
         plan: &Plan,
         limit: u32,
@@ -52,38 +57,46 @@ impl KeptLimit {
         ensures kept { IsKeptLimit network.now limit self.new }
         ensures room { IsRoomOf network.now room.new }
     {
-        let count = network.candidates().len() as u32;
         // A plan that a smaller one shows to meet the limit isn't refuted.
+        let count = network.candidates().len() as u32;
         if self.witnesses.has_within(plan, count) {
+            return Ok(false);
+        }
+        if self.has_small_plan(alloc, room, finder, network, plan, limit)? {
             return Ok(false);
         }
         let verdict = self.upper_verdict(alloc, room, network, plan, limit)?;
         if verdict == Verdict::Met {
-            self.add_small_plan(alloc, room, network, plan, limit)?;
+            self.rest = Rest::Regular;
+            self.keep_witness(alloc, network, plan, limit)?;
         }
         Ok(verdict == Verdict::Refuted)
     }
 
-    // Keeps a plan within another one that meets the limit of this number, where one is found.
-    fn add_small_plan(
+    // Whether a plan within another one is found that meets the limit of this number. It is kept.
+    fn has_small_plan(
         &mut self,
         alloc: Global,
         room: &mut ChainRoom,
+        finder: &mut WitnessFinder,
         network: &Network,
         plan: &Plan,
         limit: u32,
-    ) -> Result<(), NoMemory>
+    ) -> Result<bool, NoMemory>
         requires room { IsRoomOf network.now room.old }
         requires plan { length plan.now ≡ length network.now.candidates }
         requires limit { limit < length network.now.limits }
         requires kept { IsKeptLimit network.now limit self.old }
+        ensures met { IfOk result (λ found. IsTrue found → (l : LimitOf) → slice_get network.now.limits limit ≡ Some l → MeetsLimit network.now plan.now l) }
         ensures kept { IsKeptLimit network.now limit self.new }
         ensures room { IsRoomOf network.now room.new }
     {
-        match small_plan(alloc, room, network, plan, limit)? {
-            Some(small) => self.witnesses.keep(small),
-            None => Ok(()),
-        }
+        let found = small_plan(alloc, room, finder, network, plan, limit, self.rest)?;
+        let Some(small) = found else {
+            return Ok(false);
+        };
+        self.witnesses.keep(small)?;
+        Ok(true)
     }
 
     // The verdict of a plan on the limit of this number: of its stack, where the limit has no owner.

@@ -9,13 +9,16 @@ use crate::KeptLimit;
 use geo_base::NoMemory;
 use geo_model::{Network, Plan, Verdict};
 use pivot_chain::{ChainRoom, is_in_force, is_met, verdict};
+use plan_moves::WitnessFinder;
 use std::alloc::Global;
 
-/// The verdicts of a search: room for them, and what is kept of each limit, by its number.
+/// The verdicts of a search: room for them, what proposes witnesses, and what is kept of each limit, by
+/// its number.
 #[derive(Drop)]
 pub struct SearchVerdicts {
     alloc: Global,
     room: ChainRoom,
+    finder: WitnessFinder,
     limits: Vec<KeptLimit>,
 }
 
@@ -25,6 +28,7 @@ impl SearchVerdicts {
         ensures { IfOk result (IsVerdictsOf network.now) }
     {
         let room = ChainRoom::new(alloc, network)?;
+        let finder = WitnessFinder::new(alloc, network)?;
         let mut limits = Vec::new(alloc);
         'limits: while limits.len() < network.limits().len() {
             limits.push(KeptLimit::new(alloc))?;
@@ -32,6 +36,7 @@ impl SearchVerdicts {
         Ok(SearchVerdicts {
             alloc,
             room,
+            finder,
             limits,
         })
     }
@@ -82,7 +87,14 @@ impl SearchVerdicts {
         ensures exact { IfOk result (λ refuted. (l : LimitOf) → slice_get network.now.limits limit ≡ Some l → IsTrue refuted ↔ (verdict_of network.now plan.now l ≡ Refuted)) }
         ensures verdicts { IsVerdictsOf network.now self.new }
     {
-        self.limits[limit as usize].is_refuted(self.alloc, &mut self.room, network, plan, limit)
+        self.limits[limit as usize].is_refuted(
+            self.alloc,
+            &mut self.room,
+            &mut self.finder,
+            network,
+            plan,
+            limit,
+        )
     }
 
     /// Keeps a certified plan as a witness of each limit that is in force for it. Refused for want of

@@ -69,7 +69,7 @@ impl Witnesses {
 }
 
 // Whether each candidate of a plan, of so many, is in another one.
-fn is_within(small: &Plan, large: &Plan, count: u32) -> bool
+pub(crate) fn is_within(small: &Plan, large: &Plan, count: u32) -> bool
     requires small { length small.now ≡ count }
     requires large { length large.now ≡ count }
     ensures { IsTrue result → IsWithin small.now large.now }

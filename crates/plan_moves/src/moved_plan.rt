@@ -7,6 +7,13 @@ use std::alloc::Global;
 // What a limit bears at most: 1 less 2^-20, so that the exact verdict meets it too.
 const MOST_STRENGTH: i64 = ONE - (1 << 12);
 
+// What a limit bears at most of a plan for it alone: 1 less 2^-16, since changes are made there
+// whatever digits they lose.
+const MOST_ALONE: i64 = ONE - (1 << 16);
+
+// So many candidates are moved one after another at most, to get from a plan to another.
+const MOST_MOVED: u32 = 4;
+
 /// A plan with the inverse of its normal matrix. It keeps its memory when another is started.
 #[derive(Drop)]
 pub struct MovedPlan {
@@ -30,6 +37,23 @@ impl MovedPlan {
     pub fn start(&mut self, network: &ScaledNetwork, plan: &Marks) -> Result<(), NoMemory> {
         self.marks.copy_from(plan)?;
         self.invert(network)
+    }
+
+    /// Goes to another plan: that of the candidates that are inside.
+    pub fn go_to(&mut self, network: &ScaledNetwork, plan: &Marks) -> Result<(), NoMemory> {
+        if self.marks.differing(plan) > MOST_MOVED {
+            return self.start(network, plan);
+        }
+        let mut candidate = 0u32;
+        for mark in plan.all() {
+            match *mark {
+                Mark::Inside => self.add(network, candidate)?,
+                _ if self.has(candidate) => self.take_out(network, candidate)?,
+                _ => {}
+            }
+            candidate = candidate.saturating_add(1);
+        }
+        Ok(())
     }
 
     /// Makes it a copy of another.
@@ -70,6 +94,12 @@ impl MovedPlan {
         self.make(network)
     }
 
+    /// Whether a limit bears the plan.
+    pub fn is_borne_by(&mut self, network: &ScaledNetwork, limit: u32) -> bool {
+        self.bearing.look_at_none(network);
+        self.bears(network, limit)
+    }
+
     /// Whether all limits in force bear the plan.
     pub fn is_borne(&mut self, network: &ScaledNetwork) -> bool {
         self.bearing.look_at_none(network);
@@ -99,6 +129,46 @@ impl MovedPlan {
             }
         }
         Ok(())
+    }
+
+    /// Takes out the candidates of a list one after another, each where one limit bears it, whatever
+    /// others do, and the change has this least pivot: above 0, no direction is left without rows.
+    pub fn reduce_for(
+        &mut self,
+        network: &ScaledNetwork,
+        order: &[u32],
+        limit: u32,
+        least_pivot: i64,
+    ) -> Result<(), NoMemory> {
+        self.bearing.look_at_none(network);
+        let mut strength = self.bearing.strength(network, &self.inverse, limit);
+        for candidate in order {
+            if self.has(*candidate) {
+                self.bearing
+                    .look_at(network, &self.inverse, *candidate, ONE)?;
+                if self.bearing.least_pivot() >= least_pivot {
+                    strength = self.take_out_for(network, *candidate, limit, strength);
+                }
+            }
+        }
+        Ok(())
+    }
+
+    // Takes out the candidate that is looked at where one limit bears it, and answers what it bears then.
+    fn take_out_for(
+        &mut self,
+        network: &ScaledNetwork,
+        candidate: u32,
+        limit: u32,
+        strength: i64,
+    ) -> i64 {
+        let after = self.bearing.strength(network, &self.inverse, limit);
+        if after > MOST_ALONE {
+            return strength;
+        }
+        self.marks.set(candidate, Mark::Outside);
+        self.bearing.make(network, &mut self.inverse);
+        after
     }
 
     // Takes a candidate out where the limits in force bear it.

@@ -107,6 +107,20 @@ impl Marks {
         }
     }
 
+    /// How many candidates have other marks; all of them, and more, where there are fewer there or here.
+    pub fn differing(&self, other: &Marks) -> u32 {
+        if self.marks.len() != other.marks.len() {
+            return u32::MAX;
+        }
+        let mut count = 0u32;
+        for (here, there) in self.marks.iter().zip(other.marks.as_slice()) {
+            if *here != *there {
+                count = count.saturating_add(1);
+            }
+        }
+        count
+    }
+
     /// Whether a node with other marks is one below the node of these: it leaves each candidate as
     /// it is here, but for open ones.
     pub fn are_above(&self, other: &Marks) -> bool {
