@@ -1,27 +1,34 @@
-ghost use Rattle.std.specs.Prelude.{◌≡◌, ◌↔◌, ◌<◌, ◌^◌, ◌++◌, ◌∷◌, [], Ok, Some, true, false, length, slice_get, Any, OnErr};
-ghost use Rattle.cut_pool.specs.Pool.{IsPool, IsSameCut};
+ghost use Rattle.std.specs.Prelude.{◌≡◌, ◌↔◌, ◌<◌, ◌^◌, ◌++◌, ◌∷◌, [], Ok, Some, true, false, length, map, slice_get, Any, OnErr};
+ghost use Rattle.cut_pool.specs.Pool.{IsPool, IsSameCut, KeepsKeys, cut_key, with_entry};
 
 use crate::cut::Cut;
 use geo_base::NoMemory;
 use std::alloc::Global;
 use std::marker::Model;
 
+// What a key is multiplied by where an entry is worked in: Knuth's multiplicative hash, 2^32 over the
+// golden ratio.
+const MULTIPLIER: u32 = 2_654_435_761;
+
 /// A list of cuts, no two of the same limit and displacement. Contracts see it as that list.
 #[derive(Debug, Drop)]
 pub struct CutPool {
     cuts: Vec<Cut>,
+    // The key of each cut, by its number: so a cut is looked for among narrow numbers, and only those of
+    // its key are compared with it. Past the cuts a key may stand that no cut followed.
+    keys: Vec<u32>,
 }
 
 impl Model for CutPool {
     ghost use Rattle.std.specs.Prelude.{List};
     ghost use Rattle.cut_pool.specs.Cut.{CutOf};
-    ghost use Rattle.cut_pool.specs.Pool.{IsPool};
+    ghost use Rattle.cut_pool.specs.Pool.{IsPool, KeepsKeys};
 
     ghost Value = { List CutOf };
 
     ghost view = { λ pool. pool.cuts.items };
 
-    ghost invariant = { λ pool. IsPool pool.cuts.items };
+    ghost invariant = { λ pool. IsPool pool.cuts.items × KeepsKeys pool.cuts.items pool.keys.items };
 }
 
 impl CutPool {
@@ -31,6 +38,7 @@ impl CutPool {
     {
         CutPool {
             cuts: Vec::new(alloc),
+            keys: Vec::new(alloc),
         }
     }
 
@@ -45,9 +53,12 @@ impl CutPool {
         ensures kept { result ≡ Ok false → self.new ≡ self.old }
         ensures refused { OnErr result (self.new ≡ self.old) }
     {
-        if has_same(self.cuts.as_slice(), &cut) {
+        let key = cut_key(&cut);
+        self.keys.truncate(self.cuts.len());
+        if has_same(self.cuts.as_slice(), self.keys.as_slice(), &cut, key) {
             return Ok(false);
         }
+        self.keys.push(key)?;
         self.cuts.push(cut)?;
         Ok(true)
     }
@@ -69,13 +80,34 @@ impl CutPool {
     }
 }
 
-// Whether a cut of the same limit and displacement is among these.
-fn has_same(cuts: &[Cut], cut: &Cut) -> bool
+// The key of a cut.
+fn cut_key(cut: &Cut) -> u32
+    ensures { result ≡ cut_key cut.now }
+{
+    let mut key = cut.limit;
+    for entry in cut.x.entries() {
+        key = with_entry(key, *entry);
+    }
+    key
+}
+
+// A key with an entry of a displacement worked in.
+fn with_entry(key: u32, entry: i32) -> u32
+    ensures { result ≡ with_entry key entry }
+{
+    key.wrapping_mul(MULTIPLIER)
+        .wrapping_add(entry.unsigned_abs())
+}
+
+// Whether a cut of the same limit and displacement, and so of the same key, is among these.
+fn has_same(cuts: &[Cut], keys: &[u32], cut: &Cut, key: u32) -> bool
+    requires keys { keys.now ≡ map cut_key cuts.now }
+    requires key { key ≡ cut_key cut.now }
     ensures there { result ≡ true → Any (λ other. IsSameCut other cut.now) cuts.now }
     ensures absent { result ≡ false → Any (λ other. IsSameCut other cut.now) cuts.now → ⊥ }
 {
-    for other in cuts {
-        if is_same(other, cut) {
+    for (number, other) in cuts.iter().enumerate() {
+        if keys[number] == key && is_same(other, cut) {
             return true;
         }
     }
