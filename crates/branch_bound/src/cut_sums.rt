@@ -11,9 +11,16 @@ use std::alloc::Global;
 /// bound, by at most one for each of at most 256 candidates, and one for the bound.
 const SLACK: u32 = 257;
 
-/// The coefficients of the cuts of a pool, stored by candidate, and what they sum to under a plan.
+/// So many of the further cuts, the last ones, are summed under each plan. All of them would take most
+/// of the time of a long search, and cuts that are broken again are mostly young.
+const WINDOW: usize = 4096;
+
+/// The coefficients of the cuts of a pool, stored by candidate, and what they sum to under a plan. Those
+/// that the pool began with are always summed, of the further ones the last.
 #[derive(Drop)]
 pub struct CutSums {
+    /// How many cuts the pool began with.
+    first: usize,
     /// For each candidate its coefficient in each cut.
     columns: Vec<Vec<u32>>,
     bounds: Vec<u32>,
@@ -30,6 +37,7 @@ impl CutSums {
         let sums = vec![in alloc; 0; pool.len() as usize]?;
         let bounds = bounds_of(alloc, pool)?;
         Ok(CutSums {
+            first: pool.len() as usize,
             columns,
             bounds,
             sums,
@@ -59,9 +67,34 @@ impl CutSums {
 
     // Adds the coefficients of a candidate.
     fn add_candidate(&mut self, candidate: u32) {
-        if let Some(column) = self.columns.get(candidate as usize) {
-            add_column(self.sums.as_mut_slice(), column.as_slice());
-        }
+        let Some(column) = self.columns.get(candidate as usize) else {
+            return;
+        };
+        let recent = recent_of(self.sums.len(), self.first);
+        add_column(
+            self.sums
+                .as_mut_slice()
+                .get_mut(..self.first)
+                .unwrap_or(&mut []),
+            column.as_slice(),
+        );
+        add_column(
+            self.sums
+                .as_mut_slice()
+                .get_mut(recent..)
+                .unwrap_or(&mut []),
+            column.as_slice().get(recent..).unwrap_or(&[]),
+        );
+    }
+
+    /// How many cuts the pool began with.
+    pub fn first(&self) -> u32 {
+        (self.first as u64 & 0xffff_ffff) as u32
+    }
+
+    /// The number of the first of the further cuts that are summed.
+    pub fn recent(&self) -> u32 {
+        (recent_of(self.sums.len(), self.first) as u64 & 0xffff_ffff) as u32
     }
 
     /// Takes in a further cut of the pool, with what it reaches under a plan.
@@ -82,6 +115,11 @@ impl CutSums {
         let bound = self.bounds.get(at).copied().unwrap_or(0);
         self.sums.get(at).copied().unwrap_or(0) <= bound.saturating_add(SLACK)
     }
+}
+
+// The number of the first of the further cuts that are summed, of so many cuts.
+fn recent_of(count: usize, first: usize) -> usize {
+    count.saturating_sub(WINDOW).max(first)
 }
 
 // The sum of the coefficients of the candidates of a plan.

@@ -30,7 +30,7 @@ use geo_base::NoMemory;
 use geo_model::{Displacement, Network, Node, Plan, breaks, cost};
 use idle_splits::{IdleTest, UnitShare, unit_cut, unit_move};
 use pivot_chain::is_in_force;
-use proposer::{Forced, Proposal, Proposer};
+use proposer::{BoundBy, Forced, Proposal, Proposer};
 use std::alloc::Global;
 use std::marker::Model;
 
@@ -38,8 +38,8 @@ use std::marker::Model;
 /// and the verdicts decide alone.
 const MOST_CUTS: u32 = 4096;
 
-/// So many cuts in all: past them no proposal gives one.
-const MOST_IN_ALL: u32 = 8192;
+/// So many cuts in all, for which a log has names: past them no proposal gives one.
+const MOST_IN_ALL: u32 = 65536;
 
 /// How often cuts are sought for the linear program of a node: at the root, and below it.
 const ROOT_ROUNDS: u32 = 60;
@@ -64,6 +64,8 @@ pub struct Cuts {
     // The multipliers of the linear program of the node, where it was solved and ended below the price
     // of the best plan.
     dual: Option<Dual>,
+    // A candidate on which a split was proposed without a linear program of the node.
+    forced: Option<u32>,
     // How often cuts are sought at the next node.
     rounds: u32,
 }
@@ -97,6 +99,7 @@ impl Cuts {
             names: Names::new(alloc),
             proposer,
             dual: None,
+            forced: None,
             rounds: ROOT_ROUNDS,
         })
     }
@@ -163,7 +166,29 @@ impl Cuts {
         if inherited.chosen.is_none() {
             self.sums.take(network, &node.upper);
         }
-        for number in 0..self.pool.len() {
+        let first = self.sums.first().min(self.pool.len());
+        let recent = self.sums.recent();
+        match self.broken_in(network, node, inherited, 0, first) {
+            Some(number) => Some(number),
+            None => self.broken_in(network, node, inherited, recent, self.pool.len()),
+        }
+    }
+
+    // The number of the first cut of some that all plans of a node break.
+    fn broken_in(
+        &self,
+        network: &Network,
+        node: &Node,
+        inherited: &Inherited,
+        from: u32,
+        to: u32,
+    ) -> Option<u32>
+        requires cuts { AreCutsFor network.now self.now }
+        requires node { IsNode network.now node.now }
+        requires to { to ≤ length self.now.pool }
+        ensures { IfSome result (IsBrokenCut network.now node.now self.now) }
+    {
+        for number in from..to {
             if self.breaks(network, node, inherited, number) {
                 return Some(number);
             }
@@ -202,6 +227,7 @@ impl Cuts {
         ensures same { self.new ≡ self.old }
     {
         self.dual = None;
+        self.forced = None;
         self.proposer.visit(alloc, network, node)
     }
 
@@ -252,9 +278,43 @@ impl Cuts {
         self.pool.len()
     }
 
-    /// A dual bound of shares of the cuts that is past the best plan at a node, where one is found. Cuts
-    /// that are sought for it are added to the pool. Refused for want of memory alone.
+    /// A dual bound of shares of the cuts that is past the best plan at a node, where one is found: of
+    /// shares that are known, or else, where no split is proposed without it, of the node's linear
+    /// program. Cuts that are sought for it are added to the pool. Refused for want of memory alone.
     pub fn dual_past(
+        &mut self,
+        alloc: Global,
+        network: &Network,
+        node: &Node,
+        best: &Best,
+    ) -> Result<Option<Dual>, NoMemory>
+        requires cuts { AreCutsFor network.now self.old }
+        requires node { IsNode network.now node.now }
+        requires kept { IsTrueBest network.now best.now }
+        ensures got { OnOk result (GotCuts network.now self.old self.new) }
+        ensures found { IfOk result (λ found. IfSome found (λ dual. CutsOff network.now node.now best.now self.new.pool dual.d dual.shares.items)) }
+        ensures writable { IfOk result (λ found. IfSome found (IsDualWritable self.new.pool)) }
+    {
+        if let Some(dual) = self.bound_past(alloc, network, node, best, BoundBy::KnownShares)? {
+            return Ok(Some(dual));
+        }
+        if self.is_forced(network)? {
+            return Ok(None);
+        }
+        self.program_past(alloc, network, node, best)
+    }
+
+    // Whether a split is proposed of which one child ends at once, without a linear program.
+    fn is_forced(&mut self, network: &Network) -> Result<bool, NoMemory>
+        ensures same { self.new ≡ self.old }
+    {
+        let forced = self.proposer.forced(network)?;
+        self.forced = forced.map(|forced| forced.candidate);
+        Ok(self.forced.is_some())
+    }
+
+    // The dual bound of the node's linear program, where it is past the best plan.
+    fn program_past(
         &mut self,
         alloc: Global,
         network: &Network,
@@ -271,14 +331,14 @@ impl Cuts {
         let rounds = self.rounds;
         self.rounds = ROUNDS;
         for _ in 0..rounds {
-            if let Some(dual) = self.bound_past(alloc, network, node, best)? {
+            if let Some(dual) = self.bound_past(alloc, network, node, best, BoundBy::Program)? {
                 return Ok(Some(dual));
             }
             if !self.add_sought(alloc, network, node)? {
                 return Ok(None);
             }
         }
-        self.bound_past(alloc, network, node, best)
+        self.bound_past(alloc, network, node, best, BoundBy::Program)
     }
 
     // The dual bound that is proposed under the cuts of the pool, where it is past the best plan.
@@ -288,6 +348,7 @@ impl Cuts {
         network: &Network,
         node: &Node,
         best: &Best,
+        by: BoundBy,
     ) -> Result<Option<Dual>, NoMemory>
         requires cuts { AreCutsFor network.now self.old }
         requires node { IsNode network.now node.now }
@@ -301,7 +362,7 @@ impl Cuts {
         let price = price_of(network, best);
         let Some(dual) = self
             .proposer
-            .bound(alloc, network, node, &self.pool, price)?
+            .bound_by(alloc, network, node, &self.pool, price, by)?
         else {
             return Ok(None);
         };
@@ -378,25 +439,9 @@ impl Cuts {
         Ok(true)
     }
 
-    /// An open candidate on which a split is proposed of which one child ends at once, without a bound.
+    /// An open candidate on which a split is proposed after a bound: one of which one child ends at once,
+    /// by what was known before the bound or by the bound itself, or the one that lifts the bound most.
     /// Refused for want of memory alone.
-    pub fn forced_candidate(
-        &mut self,
-        network: &Network,
-        node: &Node,
-    ) -> Result<Option<u32>, NoMemory>
-        requires node { IsNode network.now node.now }
-        ensures open { IfOk result (λ found. IfSome found (λ candidate. IsOpenAt network.now node.now candidate)) }
-        ensures same { self.new ≡ self.old }
-    {
-        match self.proposer.forced(network)? {
-            Some(forced) => Ok(where_open(network, node, forced.candidate)),
-            None => Ok(None),
-        }
-    }
-
-    /// An open candidate on which a split is proposed after a bound: one that the bound fixes, or the one
-    /// that lifts the bound most. Refused for want of memory alone.
     pub fn split_candidate(
         &mut self,
         alloc: Global,
@@ -409,6 +454,9 @@ impl Cuts {
         ensures open { IfOk result (λ found. IfSome found (λ candidate. IsOpenAt network.now node.now candidate)) }
         ensures same { self.new ≡ self.old }
     {
+        if let Some(candidate) = self.forced {
+            return Ok(where_open(network, node, candidate));
+        }
         if let Some(candidate) = self.fixed_candidate(alloc, network, node, best)? {
             return Ok(Some(candidate));
         }

@@ -5,7 +5,6 @@ ghost use Rattle.geo_model.specs.Network.{IsNetwork};
 ghost use Rattle.limit_stacks.specs.Kept.{IsVerdictsOf};
 ghost use Rattle.bound_log.specs.LogTree.{IsNodeRefutedBy};
 ghost use Rattle.branch_bound.specs.Cuts.{AreCutsFor, GotCuts, IsWritable, log_line_of};
-ghost use Rattle.idle_splits.specs.Idle.{IsIdle};
 ghost use Rattle.branch_bound.specs.Explored.{IsNode, IsLineAt};
 ghost use Rattle.branch_bound.specs.Found.{IsTrueBest, IsCovered, IsBelow, IsOffered, best_bound};
 ghost use Rattle.branch_bound.specs.Searched.{IsCertified};
@@ -124,38 +123,6 @@ fn is_cheaper(network: &Network, plan: &Plan, best: &Best) -> bool
     }
 }
 
-/// The line that is proposed for a node that no limit refutes and where no split is idle: a dual bound,
-/// or a split on an open candidate.
-fn proposed_line(
-    alloc: Global,
-    network: &Network,
-    node: &Node,
-    best: &Best,
-    cuts: &mut Cuts,
-) -> Result<Option<NodeLine>, NoMemory>
-    requires node { IsNode network.now node.now }
-    requires kept { IsTrueBest network.now best.now }
-    requires cuts { AreCutsFor network.now cuts.old }
-    requires unrefuted { (k : ℕ) → IsNodeRefutedBy network.now node.now k → ⊥ }
-    requires used { IsIdle network.now node.now (best_bound network.now best.now) → ⊥ }
-    ensures line { IfOk result (λ found. IfSome found (λ line. IsLineAt network.now node.now best.now best.now (log_line_of cuts.new.pool line))) }
-    ensures writable { IfOk result (λ found. IfSome found (IsWritable network.now cuts.new.pool)) }
-    ensures cuts { OnOk result (GotCuts network.now cuts.old cuts.new) }
-{
-    // The network's bounds, for the proof.
-    let _bounds = network.candidates();
-    if let Some(candidate) = cuts.forced_candidate(network, node)? {
-        return Ok(Some(NodeLine::Split(candidate)));
-    }
-    if let Some(dual) = cuts.dual_past(alloc, network, node, best)? {
-        return Ok(Some(NodeLine::Dual(dual)));
-    }
-    match cuts.split_candidate(alloc, network, node, best)? {
-        Some(candidate) => Ok(Some(NodeLine::Split(candidate))),
-        None => Ok(None),
-    }
-}
-
 /// The line of a node: a leaf, or a split on an open candidate. At a leaf the inner plan becomes the
 /// best one, where it is certified and not cut off, or where it is the node's only plan, unsettled,
 /// and cheaper than the best one. `inherited` is what the node inherits, and takes what it finds besides.
@@ -197,6 +164,10 @@ pub fn line_at(
     if let Some(number) = cuts.refuting_cut(alloc, network, node, inherited)? {
         return Ok(NodeLine::Cut(number));
     }
+    // A dual bound ends the node without a verdict; before a split they are asked.
+    if let Some(dual) = cuts.dual_past(alloc, network, node, best)? {
+        return Ok(NodeLine::Dual(dual));
+    }
     if let Some(limit) = refuting_limit(verdicts, network, node, inherited)? {
         return Ok(NodeLine::Pivot(limit));
     }
@@ -205,8 +176,8 @@ pub fn line_at(
         return Ok(NodeLine::Cost);
     };
     inherited.unmet = Some(limit);
-    if let Some(line) = proposed_line(alloc, network, node, best, cuts)? {
-        return Ok(line);
+    if let Some(candidate) = cuts.split_candidate(alloc, network, node, best)? {
+        return Ok(NodeLine::Split(candidate));
     }
     let none_shut = &mut inherited.none_shut;
     if let Some(candidate) = branch_candidate(verdicts, network, node, none_shut, limit)? {

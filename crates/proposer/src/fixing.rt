@@ -46,31 +46,30 @@ impl Fixing {
         Ok(bounds.wrapping_add(self.least_sum(level)))
     }
 
-    /// The open candidates that a dual bound fixes at a node, where plans that cost `price` or more
-    /// aren't sought: the other child of a split on one has a bound of that much.
+    /// Finds the open candidates that a dual bound fixes at a node, where plans that cost `price` or
+    /// more aren't sought: the other child of a split on one has a bound of that much.
     pub fn find(
         &mut self,
-        alloc: Global,
         network: &ScaledNetwork,
-        level: &Level,
+        level: &mut Level,
         pool: &CutPool,
         dual: &Dual,
         price: u64,
-    ) -> Result<Vec<Forced>, NoMemory> {
+    ) -> Result<(), NoMemory> {
         let sum = self.sum(network, level, pool, dual)?;
         let needed = needed(dual, price);
-        let mut fixed = Vec::new(alloc);
+        level.fixed.clear();
         let mut candidate = 0u32;
         for (mark, reduced) in level.marks.all().iter().zip(self.reduced.as_slice()) {
             if *mark == Mark::Open && sum.wrapping_add(reduced.saturating_abs()) > needed {
-                fixed.push(Forced {
+                level.fixed.push(Forced {
                     candidate,
                     is_in: *reduced < 0,
                 })?;
             }
             candidate = candidate.saturating_add(1);
         }
-        Ok(fixed)
+        Ok(())
     }
 
     // Starts with the divisor times the prices.

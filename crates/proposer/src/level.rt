@@ -1,3 +1,4 @@
+use crate::forced::Forced;
 use dual_ascent::RelaxationEnd;
 use dual_simplex::{CutMultiplier, Tableau};
 use fixed_point::ONE;
@@ -8,13 +9,14 @@ use std::alloc::Global;
 
 /// A node of the search: what it says of each candidate, the tableau of its linear program, the
 /// multipliers of the last program that was solved there or at a node above it, the greatest first,
-/// and the inverse of the normal matrix of its upper plan.
+/// the candidates that they fix, and the inverse of the normal matrix of its upper plan.
 #[derive(Drop)]
 pub(crate) struct Level {
     pub marks: Marks,
     pub tableau: Tableau,
     pub end: Option<RelaxationEnd>,
     pub multipliers: Vec<CutMultiplier>,
+    pub fixed: Vec<Forced>,
     pub upper: Inverse,
     // Whether the inverse lost digits and has to be found anew.
     is_stale: bool,
@@ -28,6 +30,7 @@ impl Level {
             tableau: Tableau::new(alloc),
             end: None,
             multipliers: Vec::new(alloc),
+            fixed: Vec::new(alloc),
             upper: Inverse::new(alloc),
             is_stale: false,
         }
@@ -38,12 +41,13 @@ impl Level {
         self.marks.copy_from(&other.marks)?;
         self.tableau.copy_from(&other.tableau)?;
         self.keep(other.end, other.multipliers.as_slice())?;
+        self.fixed.extend_from_slice(other.fixed.as_slice())?;
         self.upper.copy_from(&other.upper)?;
         self.is_stale = other.is_stale;
         Ok(())
     }
 
-    /// Keeps multipliers, and how the linear program ended that has them.
+    /// Keeps multipliers, and how the linear program ended that has them. They fix no candidate yet.
     pub fn keep(
         &mut self,
         end: Option<RelaxationEnd>,
@@ -52,7 +56,23 @@ impl Level {
         self.end = end;
         self.multipliers.clear();
         self.multipliers.extend_from_slice(multipliers)?;
+        self.fixed.clear();
         Ok(())
+    }
+
+    /// The first open candidate that the multipliers fix. None where a candidate was decided as they
+    /// don't fix it: the node ends by them.
+    pub fn first_fixed(&self) -> Option<Forced> {
+        let mut first = None;
+        for forced in self.fixed.as_slice() {
+            match self.marks.get(forced.candidate) {
+                Mark::Open if first.is_none() => first = Some(*forced),
+                Mark::Inside if !forced.is_in => return None,
+                Mark::Outside if forced.is_in => return None,
+                _ => {}
+            }
+        }
+        first
     }
 
     /// Starts at a node, without cuts.

@@ -10,9 +10,10 @@
 //! displacements and plans with an entry for each unknown or candidate, and multipliers within the
 //! bounds of a log. Nothing is proved of how good it is.
 //!
-//! Said by: `Proposer`: `refuting`, `forced`, `bound`, `separate`, `split`, `offer`.
+//! Said by: `Proposer`: `refuting`, `forced`, `bound`, `bound_by`, `separate`, `split`, `offer`.
 #![tactic(auto)]
 
+mod bound_by;
 mod fixing;
 mod forced;
 mod level;
@@ -24,6 +25,7 @@ mod rounded_plan;
 mod splitting;
 mod watch;
 
+pub use bound_by::BoundBy;
 pub use forced::Forced;
 pub use nodes::Proposer;
 pub use separation::Proposal;

@@ -1,6 +1,7 @@
 ghost use Rattle.std.specs.Prelude.{◌≡◌, ◌<◌, Some, true, false, length, slice_get, All, IfOk, IfSome};
 ghost use Rattle.dual_ascent.specs.Duals.{IsDualWithin};
 
+use crate::bound_by::BoundBy;
 use crate::fixing::Fixing;
 use crate::forced::Forced;
 use crate::levels::{Entered, Levels};
@@ -32,9 +33,9 @@ const PAST_BITS: u32 = 26;
 /// What proposes to a search, at one node after the other: the nodes may come in any order, and those
 /// below one another are found out fastest. All of it may be wrong; only the shapes are proved.
 ///
-/// At a node a search asks in this order: `visit`; `refuting` and `forced`, which need no linear
-/// program; `bound`, and `separate` and `bound` again as long as that adds cuts to its pool; `fixed`,
-/// `offer` and `split`, which take the shares of the last bound.
+/// At a node a search asks in this order: `visit`; `refuting`, `bound_by` known shares and `forced`,
+/// which need no linear program; `bound`, and `separate` and `bound` again as long as that adds cuts to
+/// its pool; `fixed`, `offer` and `split`, which take the shares of the last bound.
 #[derive(Drop)]
 pub struct Proposer {
     network: ScaledNetwork,
@@ -144,14 +145,18 @@ impl Proposer {
         Ok(None)
     }
 
-    /// An open candidate on which a split has a child that ends at once by a refuted limit: one whose
-    /// own limits the upper plan breaks, or one without which a limit in force is broken.
+    /// An open candidate on which a split has a child that ends at once: one that the multipliers fix
+    /// which a node above was left with, so that the child ends by them; one whose own limits the upper
+    /// plan breaks, or one without which a limit in force is broken.
     pub fn forced(&mut self, network: &Network) -> Result<Option<Forced>, NoMemory>
         ensures { IfOk result (λ found. IfSome found (λ forced. forced.candidate < length network.now.candidates)) }
     {
         let Some(level) = self.levels.present() else {
             return Ok(None);
         };
+        if let Some(fixed) = level.first_fixed() {
+            return Ok(in_range(network, Some(fixed)));
+        }
         let found = match self
             .watch
             .shut_owner(&self.network, &mut self.bearing, level)
@@ -159,12 +164,7 @@ impl Proposer {
             Some(shut) => Some(shut),
             None => self.watch.needed(&self.network, &mut self.bearing, level)?,
         };
-        match found {
-            Some(forced) if (forced.candidate as usize) < network.candidates().len() => {
-                Ok(Some(forced))
-            }
-            _ => Ok(None),
-        }
+        Ok(in_range(network, found))
     }
 
     /// Multipliers for cuts of the pool, for a dual bound of the node: those of its linear program
@@ -197,6 +197,29 @@ impl Proposer {
         match end {
             Some(end) => dual_of(alloc, network, node, pool, end, multipliers),
             None => Ok(None),
+        }
+    }
+
+    /// A dual bound of the node as `bound` answers it, or only one that is known without a linear program.
+    pub fn bound_by(
+        &mut self,
+        alloc: Global,
+        network: &Network,
+        node: &Node,
+        pool: &CutPool,
+        price: Option<u64>,
+        by: BoundBy,
+    ) -> Result<Option<Dual>, NoMemory>
+        requires inside { length node.now.inside ≡ length network.now.candidates }
+        requires limits { All (λ cut. cut.limit < length network.now.limits) pool.now }
+        ensures dual { IfOk result (λ found. IfSome found (IsDualWithin network.now node.now pool.now)) }
+    {
+        match (by, price) {
+            (BoundBy::Program, _) => self.bound(alloc, network, node, pool, price),
+            (BoundBy::KnownShares, Some(price)) => {
+                self.known_bound(alloc, network, node, pool, price)
+            }
+            (BoundBy::KnownShares, None) => Ok(None),
         }
     }
 
@@ -267,7 +290,8 @@ impl Proposer {
     }
 
     /// The open candidates that a dual bound of the node fixes, where the best plan has this price: the
-    /// other child of a split on one ends by the same multipliers.
+    /// other child of a split on one ends by the same multipliers. `forced` proposes them one after the
+    /// other at the nodes below.
     pub fn fixed(
         &mut self,
         alloc: Global,
@@ -275,11 +299,13 @@ impl Proposer {
         dual: &Dual,
         price: u64,
     ) -> Result<Vec<Forced>, NoMemory> {
-        let Some(level) = self.levels.present() else {
-            return Ok(Vec::new(alloc));
+        let mut fixed = Vec::new(alloc);
+        let Some(level) = self.levels.present_mut() else {
+            return Ok(fixed);
         };
-        self.fixing
-            .find(alloc, &self.network, level, pool, dual, price)
+        self.fixing.find(&self.network, level, pool, dual, price)?;
+        fixed.extend_from_slice(level.fixed.as_slice())?;
+        Ok(fixed)
     }
 
     /// An open candidate to split the node on, by the linear program that was solved last.
@@ -338,5 +364,15 @@ impl Proposer {
             return Ok(None);
         }
         Ok(Some(self.rounded.plan().plan().plan(alloc, network)?))
+    }
+}
+
+// A candidate of any number, where the network has one of it.
+fn in_range(network: &Network, found: Option<Forced>) -> Option<Forced>
+    ensures { IfSome result (λ forced. forced.candidate < length network.now.candidates) }
+{
+    match found {
+        Some(forced) if (forced.candidate as usize) < network.candidates().len() => Some(forced),
+        _ => None,
     }
 }

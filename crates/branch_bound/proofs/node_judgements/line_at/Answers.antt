@@ -6,9 +6,10 @@ use Rattle.bound_log.proofs.AllowedLemmas.{cost_allowed, cut_allowed, pivot_allo
 use Rattle.geo_model.specs.Row.{unit_at}
 use Rattle.cut_pool.specs.Cut.{cover_of}
 use Rattle.bound_log.specs.declared.log_leaf.LogLeaf.TheVariants.{Dual}
-use Rattle.bound_log.specs.DualText.{text_or_none}
+use Rattle.bound_log.specs.DualText.{text_or_none, texts_of_shares}
 use Rattle.idle_splits.specs.Idle.{bound_by}
 use Rattle.branch_bound.specs.Cuts.{IsBrokenCut}
+use Rattle.branch_bound.specs.Explored.{CutsOff}
 use Rattle.branch_bound.specs.Found.{best_bound}
 use Rattle.branch_bound.proofs.DearLemmas.{above_past, not_idle, unit_allowed, unit_bound}
 use Rattle.branch_bound.specs.Cuts.{unit_text}
@@ -56,63 +57,65 @@ returns-in-Some-2-clause-line c =
     }
 
 pub returns-in-Some-3-clause-line : goal.returns-in-Some-3-clause-line
-unfolding leaf_bound_for
 returns-in-Some-3-clause-line c =
-    let refuted : IsNodeRefutedBy c.args.network.now c.args.node.now c.in-Some-3.limit = rw c.in-Some-3.is at c.in_ok-limit.ensures.found in
+    let off : CutsOff c.args.network.now c.args.node.now c.args.best.now c.dual_past.new.self.pool c.in-Some-3.dual.d c.in-Some-3.dual.shares.items = rw c.in-Some-3.is at c.in_ok-dual.ensures.found in
     record {
-      allowed = pivot_allowed c.args.network.now c.args.node.now c.in-Some-3.limit refuted;
-      done = IsDone-refuted c.args.network.now c.args.node.now c.in-Some-3.limit c.args.best.now c.first_broken.ensures.bounds c.requires.kept refuted;
+      allowed = off.allowed;
+      done = IsDone-past c.args.network.now c.args.node.now (Dual c.in-Some-3.dual.d (texts_of_shares c.dual_past.new.self.pool c.in-Some-3.dual.shares.items)) off.price c.args.best.now c.first_broken.ensures.bounds c.requires.kept off.allowed off.bound off.past;
     }
 
-pub returns-in_default-4-clause-line : goal.returns-in_default-4-clause-line
+pub returns-in-Some-4-clause-line : goal.returns-in-Some-4-clause-line
 unfolding leaf_bound_for
-returns-in_default-4-clause-line c =
-    let certified : IsCertified c.args.network.now c.args.node.now.inside = if_none (IsCertified c.args.network.now c.args.node.now.inside) c.in_ok-limit-2.field-0 c.in_default-4.not-Some c.in_ok-limit-2.ensures.none in
+returns-in-Some-4-clause-line c =
+    let refuted : IsNodeRefutedBy c.args.network.now c.args.node.now c.in-Some-4.limit = rw c.in-Some-4.is at c.in_ok-limit.ensures.found in
+    record {
+      allowed = pivot_allowed c.args.network.now c.args.node.now c.in-Some-4.limit refuted;
+      done = IsDone-refuted c.args.network.now c.args.node.now c.in-Some-4.limit c.args.best.now c.first_broken.ensures.bounds c.requires.kept refuted;
+    }
+
+pub returns-in_default-5-clause-line : goal.returns-in_default-5-clause-line
+unfolding leaf_bound_for
+returns-in_default-5-clause-line c =
+    let certified : IsCertified c.args.network.now c.args.node.now.inside = if_none (IsCertified c.args.network.now c.args.node.now.inside) c.in_ok-limit-2.field-0 c.in_default-5.not-Some c.in_ok-limit-2.ensures.none in
     record {
       allowed = cost_allowed c.args.network.now c.args.node.now;
       done = IsDone-certified c.args.network.now c.args.node.now c.args.best.now c.in_ok-copy.field-0 c.in_ok-copy.ensures certified (iff_false c.is_cut_off.ensures c.if-is_cut_off.false);
     }
 
-pub proposed_line-requires-clause-unrefuted : goal.proposed_line-requires-clause-unrefuted
-proposed_line-requires-clause-unrefuted c =
-    if_none ((k : ℕ) → IsNodeRefutedBy c.args.network.now c.args.node.now k → ⊥) c.in_ok-limit.field-0 c.in_default-3.not-Some c.in_ok-limit.ensures.none
-
-pub proposed_line-requires-clause-used : goal.proposed_line-requires-clause-used
-proposed_line-requires-clause-used c =
-    let none : (k : ℕ) → IsNodeRefutedBy c.args.network.now c.args.node.now k → ⊥ = if_none ((k : ℕ) → IsNodeRefutedBy c.args.network.now c.args.node.now k → ⊥) c.in_ok-limit.field-0 c.in_default-3.not-Some c.in_ok-limit.ensures.none in
-    not_idle c.args.network.now c.args.node.now c.args.best.now (iff_false c.is_cut_off.ensures c.if-is_cut_off.false) none c.in_default-dear_share.ensures.none
-
-pub returns-in-Some-5-clause-line : goal.returns-in-Some-5-clause-line
-returns-in-Some-5-clause-line c = rw c.in-Some-5.is at c.in_ok-line.ensures.line
-
 pub returns-in-Some-6-clause-line : goal.returns-in-Some-6-clause-line
 returns-in-Some-6-clause-line c =
-    let none : (k : ℕ) → IsNodeRefutedBy c.args.network.now c.args.node.now k → ⊥ = if_none ((k : ℕ) → IsNodeRefutedBy c.args.network.now c.args.node.now k → ⊥) c.in_ok-limit.field-0 c.in_default-3.not-Some c.in_ok-limit.ensures.none in
+    let none : (k : ℕ) → IsNodeRefutedBy c.args.network.now c.args.node.now k → ⊥ = if_none ((k : ℕ) → IsNodeRefutedBy c.args.network.now c.args.node.now k → ⊥) c.in_ok-limit.field-0 c.in_default-4.not-Some c.in_ok-limit.ensures.none in
     let found : IsOpenAt c.args.network.now c.args.node.now c.in-Some-6.candidate = rw c.in-Some-6.is at c.in_ok-candidate.ensures.open in
+    (found, refl, none, not_idle c.args.network.now c.args.node.now c.args.best.now (iff_false c.is_cut_off.ensures c.if-is_cut_off.false) none c.in_default-dear_share.ensures.none)
+
+pub returns-in-Some-7-clause-line : goal.returns-in-Some-7-clause-line
+returns-in-Some-7-clause-line c =
+    let none : (k : ℕ) → IsNodeRefutedBy c.args.network.now c.args.node.now k → ⊥ = if_none ((k : ℕ) → IsNodeRefutedBy c.args.network.now c.args.node.now k → ⊥) c.in_ok-limit.field-0 c.in_default-4.not-Some c.in_ok-limit.ensures.none in
+    let found : IsOpenAt c.args.network.now c.args.node.now c.in-Some-7.candidate = rw c.in-Some-7.is at c.in_ok-candidate-2.ensures.open in
     (found, refl, none, not_idle c.args.network.now c.args.node.now c.args.best.now (iff_false c.is_cut_off.ensures c.if-is_cut_off.false) none c.in_default-dear_share.ensures.none)
 
 pub returns-clause-line : goal.returns-clause-line
 unfolding leaf_bound_for
 returns-clause-line c =
-    let none : (k : ℕ) → IsNodeRefutedBy c.args.network.now c.args.node.now k → ⊥ = if_none ((k : ℕ) → IsNodeRefutedBy c.args.network.now c.args.node.now k → ⊥) c.in_ok-limit.field-0 c.in_default-3.not-Some c.in_ok-limit.ensures.none in
-    let unmet : IsUnmetAt c.args.network.now c.args.node.now.inside c.in-Some-4.limit = rw c.in-Some-4.is at c.in_ok-limit-2.ensures.unmet in
-    let one : c.args.node.now.inside ≡ c.args.node.now.upper = if_none (c.args.node.now.inside ≡ c.args.node.now.upper) c.in_ok-candidate.field-0 c.in_default-6.not-Some c.in_ok-candidate.ensures.none in
+    let none : (k : ℕ) → IsNodeRefutedBy c.args.network.now c.args.node.now k → ⊥ = if_none ((k : ℕ) → IsNodeRefutedBy c.args.network.now c.args.node.now k → ⊥) c.in_ok-limit.field-0 c.in_default-4.not-Some c.in_ok-limit.ensures.none in
+    let unmet : IsUnmetAt c.args.network.now c.args.node.now.inside c.in-Some-5.limit = rw c.in-Some-5.is at c.in_ok-limit-2.ensures.unmet in
+    let one : c.args.node.now.inside ≡ c.args.node.now.upper = if_none (c.args.node.now.inside ≡ c.args.node.now.upper) c.in_ok-candidate-2.field-0 c.in_default-7.not-Some c.in_ok-candidate-2.ensures.none in
     record {
       allowed = cost_allowed c.args.network.now c.args.node.now;
       done = IsDone-unsettled c.args.network.now c.args.node.now c.args.best.now c.in_ok-copy-2.field-0 c.in_ok-copy-2.ensures one
-          (unsettled_by c.args.network.now c.args.node.now c.in-Some-4.limit c.requires.node one none unmet.unmet)
+          (unsettled_by c.args.network.now c.args.node.now c.in-Some-5.limit c.requires.node one none unmet.unmet)
           (iff_false c.is_cut_off.ensures c.if-is_cut_off.false);
     }
 
 pub returns-then-not-is_cheaper-clause-line : goal.returns-then-not-is_cheaper-clause-line
 unfolding leaf_bound_for
 returns-then-not-is_cheaper-clause-line c =
-    let none : (k : ℕ) → IsNodeRefutedBy c.args.network.now c.args.node.now k → ⊥ = if_none ((k : ℕ) → IsNodeRefutedBy c.args.network.now c.args.node.now k → ⊥) c.in_ok-limit.field-0 c.in_default-3.not-Some c.in_ok-limit.ensures.none in
-    let unmet : IsUnmetAt c.args.network.now c.args.node.now.inside c.in-Some-4.limit = rw c.in-Some-4.is at c.in_ok-limit-2.ensures.unmet in
-    let one : c.args.node.now.inside ≡ c.args.node.now.upper = if_none (c.args.node.now.inside ≡ c.args.node.now.upper) c.in_ok-candidate.field-0 c.in_default-6.not-Some c.in_ok-candidate.ensures.none in
+    let none : (k : ℕ) → IsNodeRefutedBy c.args.network.now c.args.node.now k → ⊥ = if_none ((k : ℕ) → IsNodeRefutedBy c.args.network.now c.args.node.now k → ⊥) c.in_ok-limit.field-0 c.in_default-4.not-Some c.in_ok-limit.ensures.none in
+    let unmet : IsUnmetAt c.args.network.now c.args.node.now.inside c.in-Some-5.limit = rw c.in-Some-5.is at c.in_ok-limit-2.ensures.unmet in
+    let one : c.args.node.now.inside ≡ c.args.node.now.upper = if_none (c.args.node.now.inside ≡ c.args.node.now.upper) c.in_ok-candidate-2.field-0 c.in_default-7.not-Some c.in_ok-candidate-2.ensures.none in
     record {
       allowed = cost_allowed c.args.network.now c.args.node.now;
       done = IsDone-undercut c.args.network.now c.args.node.now c.args.best.now c.requires.kept one
-          (unsettled_by c.args.network.now c.args.node.now c.in-Some-4.limit c.requires.node one none unmet.unmet)
+          (unsettled_by c.args.network.now c.args.node.now c.in-Some-5.limit c.requires.node one none unmet.unmet)
           (iff_false c.is_cheaper.ensures c.if-not-is_cheaper.true);
     }

@@ -3,8 +3,8 @@ use Rattle.branch_bound.specs.Cuts.{SearchCuts, ArePoolFor}
 use Rattle.branch_bound.proofs.DualLemmas.{are_shares, cuts_off, dual_writable, limits_in_range}
 use Rattle.branch_bound.proofs.cuts.Cuts.bound_past.Goals as goal
 
-pub bound-requires-clause-limits : goal.bound-requires-clause-limits
-bound-requires-clause-limits c =
+pub bound_by-requires-clause-limits : goal.bound_by-requires-clause-limits
+bound_by-requires-clause-limits c =
     let all : ArePoolFor c.args.network.now c.self.inside.pool = subst (λ (cs : SearchCuts). ArePoolFor c.args.network.now cs.pool) (sym c.self.view_is) c.requires.cuts.pool.each in
     limits_in_range c.args.network.now c.self.inside.pool all
 
