@@ -56,6 +56,56 @@ impl MovedPlan {
         Ok(())
     }
 
+    /// Starts with a plan, but for the candidates of a station.
+    pub fn start_without(
+        &mut self,
+        network: &ScaledNetwork,
+        plan: &Marks,
+        station: u32,
+    ) -> Result<(), NoMemory> {
+        self.marks.copy_from(plan)?;
+        let mut candidate = 0u32;
+        for own in network.stations().of_candidates() {
+            if *own == Some(station) {
+                self.marks.set(candidate, Mark::Outside);
+            }
+            candidate = candidate.saturating_add(1);
+        }
+        self.invert(network)
+    }
+
+    /// Starts with all candidates of the stations that a plan pays, and of one more, but for those of one,
+    /// and with all candidates whose station costs nothing.
+    pub fn start_at_stations(
+        &mut self,
+        network: &ScaledNetwork,
+        plan: &Marks,
+        added: u32,
+        closed: u32,
+    ) -> Result<(), NoMemory> {
+        self.marks.copy_from(plan)?;
+        let stations = network.stations();
+        let mut candidate = 0u32;
+        for own in stations.of_candidates() {
+            let is_chosen = match *own {
+                Some(station) => {
+                    station == added || station != closed && stations.is_paid(station, plan)
+                }
+                None => true,
+            };
+            self.marks.set(
+                candidate,
+                if is_chosen {
+                    Mark::Inside
+                } else {
+                    Mark::Outside
+                },
+            );
+            candidate = candidate.saturating_add(1);
+        }
+        self.invert(network)
+    }
+
     /// Makes it a copy of another.
     pub fn copy_from(&mut self, other: &MovedPlan) -> Result<(), NoMemory> {
         self.marks.copy_from(&other.marks)?;
@@ -72,15 +122,9 @@ impl MovedPlan {
         self.marks.get(candidate) == Mark::Inside
     }
 
-    /// The price of its candidates.
+    /// The price of its candidates, with that of their stations.
     pub fn price(&self, network: &ScaledNetwork) -> u64 {
-        let mut sum = 0u64;
-        for (mark, price) in self.marks.all().iter().zip(network.prices()) {
-            if *mark == Mark::Inside {
-                sum = sum.saturating_add(*price);
-            }
-        }
-        sum
+        network.price_of(&self.marks)
     }
 
     /// Adds a candidate, where it isn't chosen yet.

@@ -1,4 +1,5 @@
 use crate::marks::{Mark, Marks};
+use crate::stations::CostlyStations;
 use fixed_point::{product, quotient};
 use geo_base::NoMemory;
 use geo_model::{Candidate, Limit, Network};
@@ -6,7 +7,7 @@ use std::alloc::Global;
 use weak_direction::{Form, Scaling};
 
 /// A network in fixed point: the rows of its candidates and the squares of its limits as forms of
-/// scaled unknowns, with prices and owners.
+/// scaled unknowns, with prices, owners and the stations that cost something.
 #[derive(Drop)]
 pub struct ScaledNetwork {
     // What a scaled unit is in each unknown, up to one factor for all.
@@ -19,6 +20,7 @@ pub struct ScaledNetwork {
     squares: Vec<Vec<Form>>,
     owners: Vec<Option<u32>>,
     prices: Vec<u64>,
+    stations: CostlyStations,
 }
 
 impl ScaledNetwork {
@@ -32,6 +34,7 @@ impl ScaledNetwork {
             squares: squares_of_all(alloc, &scaling, network)?,
             owners: owners_of(alloc, network)?,
             prices: prices_of(alloc, network)?,
+            stations: CostlyStations::new(alloc, network)?,
         })
     }
 
@@ -69,6 +72,22 @@ impl ScaledNetwork {
     /// The price of a candidate; 0 where there is none of that number.
     pub fn price(&self, candidate: u32) -> u64 {
         self.prices.get(candidate as usize).copied().unwrap_or(0)
+    }
+
+    /// The stations that cost something.
+    pub fn stations(&self) -> &CostlyStations {
+        &self.stations
+    }
+
+    /// The price of the candidates that are inside, with that of their stations.
+    pub fn price_of(&self, marks: &Marks) -> u64 {
+        let mut sum = self.stations.price_of(marks);
+        for (mark, price) in marks.all().iter().zip(self.prices.as_slice()) {
+            if *mark == Mark::Inside {
+                sum = sum.saturating_add(*price);
+            }
+        }
+        sum
     }
 
     /// The owner of each limit, if any.
