@@ -62,17 +62,41 @@ impl Tableau {
     pub fn cuts(&self, numbers: &mut Vec<u32>) -> Result<(), NoMemory> {
         numbers.clear();
         for column in self.columns.as_slice() {
-            if let Role::Slack(cut) = column.variable.name {
-                numbers.push(cut)?;
-            }
+            push_cut(numbers, column.variable)?;
         }
         for basic in self.basics.as_slice() {
-            if let Role::Slack(cut) = basic.variable.name {
-                numbers.push(cut)?;
-            }
+            push_cut(numbers, basic.variable)?;
         }
         Ok(())
     }
+
+    /// Writes the candidates whose links it has.
+    pub fn links(&self, candidates: &mut Vec<u32>) -> Result<(), NoMemory> {
+        candidates.clear();
+        for column in self.columns.as_slice() {
+            push_link(candidates, column.variable)?;
+        }
+        for basic in self.basics.as_slice() {
+            push_link(candidates, basic.variable)?;
+        }
+        Ok(())
+    }
+}
+
+// Adds the number of a cut where the variable is its slack.
+fn push_cut(numbers: &mut Vec<u32>, variable: Variable) -> Result<(), NoMemory> {
+    if let Role::Slack(cut) = variable.name {
+        numbers.push(cut)?;
+    }
+    Ok(())
+}
+
+// Adds a candidate where the variable is the slack of its link.
+fn push_link(candidates: &mut Vec<u32>, variable: Variable) -> Result<(), NoMemory> {
+    if let Role::Link(candidate) = variable.name {
+        candidates.push(candidate)?;
+    }
+    Ok(())
 }
 
 // Adds a share where the variable is a slack and its multiplier above 0.

@@ -8,10 +8,26 @@ impl Tableau {
     /// Adds a cut by its number and its coefficients over its bound, one for each candidate: together
     /// with the shares they sum to at least 1.
     pub fn add_cut(&mut self, cut: u32, coefficients: &[i64]) -> Result<(), NoMemory> {
+        self.add_row(Variable::slack(cut), ONE, coefficients)
+    }
+
+    /// Adds a link by the number of its candidate: coefficients that together with the shares sum to at
+    /// least 0. So the share of one may be held below that of another.
+    pub fn add_link(&mut self, candidate: u32, coefficients: &[i64]) -> Result<(), NoMemory> {
+        self.add_row(Variable::link(candidate), 0, coefficients)
+    }
+
+    // Adds the row of a slack: what coefficients together with the shares sum to, less `least`.
+    fn add_row(
+        &mut self,
+        slack: Variable,
+        least: i64,
+        coefficients: &[i64],
+    ) -> Result<(), NoMemory> {
         let width = self.columns.len();
         self.line.clear();
         self.line.resize(width, 0)?;
-        let mut value = self.fixed_part(coefficients).wrapping_sub(ONE);
+        let mut value = self.fixed_part(coefficients).wrapping_sub(least);
         for (place, column) in self
             .line
             .as_mut_slice()
@@ -33,7 +49,7 @@ impl Tableau {
         }
         self.table.push(self.line.as_slice())?;
         self.basics.push(Basic {
-            variable: Variable::slack(cut),
+            variable: slack,
             value,
         })?;
         Ok(())
@@ -57,7 +73,7 @@ impl Tableau {
         }
     }
 
-    /// Drops the cuts whose slack is in a row and above `most`: those that are met by far.
+    /// Drops the cuts and links whose slack is in a row and above `most`: those that are met by far.
     pub fn drop_slack_cuts(&mut self, most: i64) {
         for row in (0..self.basics.len()).rev() {
             self.drop_slack_cut(row, most);
@@ -69,10 +85,7 @@ impl Tableau {
         let Some(basic) = self.basics.get(row).copied() else {
             return;
         };
-        if let Role::Slack(_) = basic.variable.name
-            && basic.value > most
-            && row < self.basics.len()
-        {
+        if basic.variable.is_slack() && basic.value > most && row < self.basics.len() {
             let _dropped = self.basics.swap_remove(row);
             self.table.drop_row(row);
         }
@@ -83,6 +96,6 @@ impl Tableau {
 fn coefficient_of(coefficients: &[i64], variable: Variable) -> i64 {
     match variable.name {
         Role::Candidate(candidate) => coefficients.get(candidate as usize).copied().unwrap_or(0),
-        Role::Slack(_) => 0,
+        Role::Slack(_) | Role::Link(_) => 0,
     }
 }

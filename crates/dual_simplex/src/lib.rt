@@ -1,7 +1,7 @@
 //! A bounded dual simplex that proposes bounds to the search: the least price of shares of
 //! candidates, from 0 to 1 each, under cuts in the form that the coefficients times the shares sum
-//! to at least 1. It starts warm from the tableau of a node above. Everything is fixed point with
-//! 32 fractional bits.
+//! to at least 1. Links hold the share of a candidate below another, as that of its station. It
+//! starts warm from the tableau of a node above. Everything is fixed point with 32 fractional bits.
 //!
 //! Proved: no call goes wrong, whatever it is given: no index out of range, no overflow, and each
 //! ends.

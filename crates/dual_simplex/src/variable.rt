@@ -3,11 +3,13 @@ use fixed_point::ONE;
 /// What a slack without an upper bound has in its place.
 pub(crate) const UNBOUNDED: i64 = 1 << 61;
 
-/// What a variable stands for: the share of a candidate, or the slack of a cut, each by its number.
+/// What a variable stands for: the share of a candidate, the slack of a cut, each by its number, or the
+/// slack of a link, by the number of its candidate.
 #[derive(Clone, Copy)]
 pub(crate) enum Role {
     Candidate(u32),
     Slack(u32),
+    Link(u32),
 }
 
 /// A variable and its bounds, in fixed point.
@@ -37,6 +39,15 @@ impl Variable {
         }
     }
 
+    /// The slack of a candidate's link, from 0.
+    pub fn link(candidate: u32) -> Variable {
+        Variable {
+            name: Role::Link(candidate),
+            low: 0,
+            high: UNBOUNDED,
+        }
+    }
+
     /// How far the bounds are apart.
     pub fn range(self) -> i64 {
         self.high.wrapping_sub(self.low)
@@ -52,11 +63,19 @@ impl Variable {
         self.low == self.high
     }
 
+    /// Whether this is the slack of a cut or of a link.
+    pub fn is_slack(self) -> bool {
+        match self.name {
+            Role::Candidate(_) => false,
+            Role::Slack(_) | Role::Link(_) => true,
+        }
+    }
+
     /// Whether this is the share of that candidate.
     pub fn is_candidate(self, number: u32) -> bool {
         match self.name {
             Role::Candidate(candidate) => candidate == number,
-            Role::Slack(_) => false,
+            Role::Slack(_) | Role::Link(_) => false,
         }
     }
 }

@@ -39,13 +39,27 @@ impl Branching {
     }
 
     /// Tries a candidate at the node of a tableau that was run, for at most so many pivots a side. The
-    /// best candidate's tableaus are kept; of equal ones the first is.
-    pub fn probe(&mut self, node: &Tableau, candidate: u32, steps: u32) -> Result<Probe, NoMemory> {
+    /// side that takes it takes the share of its station too, if it has one. The best candidate's
+    /// tableaus are kept; of equal ones the first is.
+    pub fn probe(
+        &mut self,
+        node: &Tableau,
+        candidate: u32,
+        station: Option<u32>,
+        steps: u32,
+    ) -> Result<Probe, NoMemory> {
         let before = node.objective();
+        self.inside.copy_from(node)?;
+        self.inside.fix(candidate, true);
+        if let Some(station) = station {
+            self.inside.fix(station, true);
+        }
+        self.outside.copy_from(node)?;
+        self.outside.fix(candidate, false);
         let probe = Probe {
             candidate,
-            inside: side(&mut self.inside, node, candidate, true, before, steps)?,
-            outside: side(&mut self.outside, node, candidate, false, before, steps)?,
+            inside: run_side(&mut self.inside, before, steps)?,
+            outside: run_side(&mut self.outside, before, steps)?,
         };
         let is_better = match self.best {
             Some(best) => best.score(self.least) < probe.score(self.least),
@@ -75,17 +89,8 @@ impl Branching {
     }
 }
 
-// Runs one side of a split in the tableau `child`.
-fn side(
-    child: &mut Tableau,
-    node: &Tableau,
-    candidate: u32,
-    is_in: bool,
-    before: i64,
-    steps: u32,
-) -> Result<SplitSide, NoMemory> {
-    child.copy_from(node)?;
-    child.fix(candidate, is_in);
-    let outcome = child.run(steps)?;
-    Ok(SplitSide::of(outcome, before, child.objective()))
+// Runs the tableau of one side of a split.
+fn run_side(side: &mut Tableau, before: i64, steps: u32) -> Result<SplitSide, NoMemory> {
+    let outcome = side.run(steps)?;
+    Ok(SplitSide::of(outcome, before, side.objective()))
 }
