@@ -17,4 +17,4 @@ mod relaxation;
 pub use ascent::{ascend, dual_of};
 pub use cut_pool::Share;
 pub use dual::Dual;
-pub use relaxation::{RelaxationEnd, price_shift, scaled_prices};
+pub use relaxation::{RelaxationEnd, price_shift, scaled_price, scaled_prices};

@@ -23,7 +23,7 @@ const MOST_PIVOTS: u32 = 600;
 // A cut is broken that lacks more than this part of its bound: a 4096th.
 const LACKING: i64 = 1 << 28;
 
-// What all prices together stay below in a tableau, as a power of two.
+// What all prices together, with those of stations, stay below in a tableau, as a power of two.
 const PRICE_BITS: u32 = 28;
 
 /// How a relaxation ended: multipliers of a bound, or those that show that no shares meet all cuts.
@@ -59,6 +59,9 @@ pub fn price_shift(network: &Network) -> u32
     for candidate in network.candidates() {
         total = total.saturating_add(candidate.price);
     }
+    for price in network.station_prices() {
+        total = total.saturating_add(*price);
+    }
     (64 - (total >> PRICE_BITS).leading_zeros()).min(32)
 }
 
@@ -67,9 +70,15 @@ pub fn scaled_prices(alloc: Global, network: &Network) -> Result<Vec<i64>, NoMem
     let shift = price_shift(network);
     let mut prices = Vec::new(alloc);
     for candidate in network.candidates() {
-        prices.push(candidate.price.wrapping_shl(32 - shift).min(1 << 60) as i64)?;
+        prices.push(scaled_price(candidate.price, shift))?;
     }
     Ok(prices)
+}
+
+/// A price over a power of two, as `price_shift` answers it, in fixed point.
+pub fn scaled_price(price: u64, shift: u32) -> i64 {
+    let bits = 32u32.saturating_sub(shift);
+    price.wrapping_shl(bits).min(1 << 60) as i64
 }
 
 // What a cut lacks of its bound at shares of the candidates, over the bound, times 256; 0 or less where

@@ -1,4 +1,5 @@
 use crate::forced::Forced;
+use crate::links::station_share;
 use dual_ascent::RelaxationEnd;
 use dual_simplex::{CutMultiplier, Tableau};
 use fixed_point::ONE;
@@ -84,19 +85,23 @@ impl Level {
         marks: &Marks,
     ) -> Result<(), NoMemory> {
         self.marks.copy_from(marks)?;
-        self.restart_tableau(prices)?;
+        self.restart_tableau(network, prices)?;
         self.keep(None, &[])?;
         self.is_stale = false;
         bearing.invert_upper(network, &self.marks, &mut self.upper)
     }
 
-    /// Starts the tableau anew, without cuts.
-    pub fn restart_tableau(&mut self, prices: &[i64]) -> Result<(), NoMemory> {
+    /// Starts the tableau anew, without cuts and links.
+    pub fn restart_tableau(
+        &mut self,
+        network: &ScaledNetwork,
+        prices: &[i64],
+    ) -> Result<(), NoMemory> {
         self.tableau.start(prices)?;
         let mut candidate = 0u32;
         for mark in self.marks.all() {
             if *mark != Mark::Open {
-                self.tableau.fix(candidate, *mark == Mark::Inside);
+                fix(&mut self.tableau, network, candidate, *mark);
             }
             candidate = candidate.saturating_add(1);
         }
@@ -133,7 +138,7 @@ impl Level {
         mark: Mark,
     ) -> Result<(), NoMemory> {
         self.marks.set(candidate, mark);
-        self.tableau.fix(candidate, mark == Mark::Inside);
+        fix(&mut self.tableau, network, candidate, mark);
         if mark != Mark::Outside || self.is_stale {
             return Ok(());
         }
@@ -144,5 +149,15 @@ impl Level {
             self.is_stale = true;
         }
         Ok(())
+    }
+}
+
+// Fixes the share of a candidate that isn't open, and that of the station that it pays.
+fn fix(tableau: &mut Tableau, network: &ScaledNetwork, candidate: u32, mark: Mark) {
+    tableau.fix(candidate, mark == Mark::Inside);
+    if mark == Mark::Inside
+        && let Some(station) = station_share(network, candidate)
+    {
+        tableau.fix(station, true);
     }
 }

@@ -18,6 +18,7 @@ mod fixing;
 mod forced;
 mod level;
 mod levels;
+mod links;
 mod live_cuts;
 mod nodes;
 mod relaxation;

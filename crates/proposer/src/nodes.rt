@@ -58,14 +58,15 @@ pub struct Proposer {
 impl Proposer {
     /// What proposes for a network. Refused for want of memory alone.
     pub fn new(alloc: Global, network: &Network) -> Result<Proposer, NoMemory> {
+        let scaled = ScaledNetwork::new(alloc, network)?;
         Ok(Proposer {
-            network: ScaledNetwork::new(alloc, network)?,
+            relaxation: Relaxation::new(alloc, network, &scaled)?,
+            network: scaled,
             price_shift: price_shift(network),
             levels: Levels::new(alloc),
             marks: Marks::new(alloc),
             bearing: Bearing::new(alloc),
             watch: Watch::new(alloc),
-            relaxation: Relaxation::new(alloc, network)?,
             separation: Separation::new(alloc),
             fixing: Fixing::new(alloc),
             splitting: Splitting::new(alloc),
@@ -357,7 +358,8 @@ impl Proposer {
             return Ok(None);
         };
         let shares = self.relaxation.shares();
-        if !self.rounded.round(&self.network, level, shares)? {
+        let stations = self.relaxation.station_shares();
+        if !self.rounded.round(&self.network, level, shares, stations)? {
             return Ok(None);
         }
         if self.rounded.plan().price(&self.network) >= price {

@@ -1,7 +1,8 @@
 use crate::level::Level;
+use crate::links::Links;
 use crate::live_cuts::LiveCuts;
 use cut_pool::CutPool;
-use dual_ascent::{RelaxationEnd, scaled_prices};
+use dual_ascent::{RelaxationEnd, price_shift, scaled_price, scaled_prices};
 use dual_simplex::{CutMultiplier, RunEnd};
 use fixed_point::ONE;
 use geo_base::NoMemory;
@@ -27,13 +28,17 @@ const LACKING: i64 = ONE / 50;
 // A cut that is met by more than this part of its bound leaves the tableau: a tenth.
 const MET_BY_FAR: i64 = ONE / 10;
 
-/// The linear program of a node: the least price where each candidate may be chosen in part, under
-/// the cuts of a pool.
+/// The linear program of a node: the least price where each candidate may be chosen in part, and each
+/// station paid in part, under the cuts of a pool, and where no candidate is chosen by more than its
+/// station is paid.
 #[derive(Drop)]
 pub(crate) struct Relaxation {
+    // The price of each candidate and, after them, of each station.
     prices: Vec<i64>,
+    candidates: usize,
     live: LiveCuts,
-    // The share of each candidate.
+    links: Links,
+    // The share of each candidate and, after them, of each station.
     shares: Vec<i64>,
     multipliers: Vec<CutMultiplier>,
     // The numbers of the cuts of a tableau that is built anew.
@@ -42,26 +47,44 @@ pub(crate) struct Relaxation {
 
 impl Relaxation {
     /// The relaxation of a network, without cuts.
-    pub fn new(alloc: Global, network: &Network) -> Result<Relaxation, NoMemory> {
-        let prices = scaled_prices(alloc, network)?;
+    pub fn new(
+        alloc: Global,
+        network: &Network,
+        scaled: &ScaledNetwork,
+    ) -> Result<Relaxation, NoMemory> {
+        let mut prices = scaled_prices(alloc, network)?;
+        let candidates = prices.len();
+        let shift = price_shift(network);
+        for price in scaled.stations().prices() {
+            prices.push(scaled_price(*price, shift))?;
+        }
         let count = prices.len();
         Ok(Relaxation {
             prices,
-            live: LiveCuts::new(alloc, count)?,
+            candidates,
+            live: LiveCuts::new(alloc, candidates)?,
+            links: Links::new(alloc, count)?,
             shares: vec![in alloc; 0; count]?,
             multipliers: Vec::new(alloc),
             numbers: Vec::new(alloc),
         })
     }
 
-    /// The price of each candidate in a tableau.
+    /// The price of each candidate in a tableau and, after them, of each station.
     pub fn prices(&self) -> &[i64] {
         self.prices.as_slice()
     }
 
     /// The share of each candidate, from 0 to 1, where the last run ended.
     pub fn shares(&self) -> &[i64] {
-        self.shares.as_slice()
+        let shares = self.shares.as_slice();
+        shares.get(..self.candidates).unwrap_or(&[])
+    }
+
+    /// The share of each station, from 0 to 1, where the last run ended.
+    pub fn station_shares(&self) -> &[i64] {
+        let shares = self.shares.as_slice();
+        shares.get(self.candidates..).unwrap_or(&[])
     }
 
     /// The multipliers of the last run, the greatest first.
@@ -109,7 +132,7 @@ impl Relaxation {
         most: i64,
     ) -> Result<Option<RelaxationEnd>, NoMemory> {
         for _ in 0..ROUNDS {
-            match self.run_tableau(level, pool, most)? {
+            match self.run_tableau(network, level, pool, most)? {
                 RunEnd::Solved => {}
                 RunEnd::Infeasible => return Ok(Some(RelaxationEnd::Ray)),
                 RunEnd::OutOfSteps => return Ok(Some(RelaxationEnd::Bound)),
@@ -127,34 +150,41 @@ impl Relaxation {
     // large or inexact, the tableau is built anew once.
     fn run_tableau(
         &mut self,
+        network: &ScaledNetwork,
         level: &mut Level,
         pool: &CutPool,
         most: i64,
     ) -> Result<RunEnd, NoMemory> {
         if level.tableau.pivots() > MOST_PIVOTS {
-            self.rebuild(level, pool)?;
+            self.rebuild(network, level, pool)?;
         }
         match run_until(level, most)? {
             RunEnd::Lost => {
-                self.rebuild(level, pool)?;
+                self.rebuild(network, level, pool)?;
                 run_until(level, most)
             }
             outcome => Ok(outcome),
         }
     }
 
-    // Builds the tableau anew from its cuts.
-    fn rebuild(&mut self, level: &mut Level, pool: &CutPool) -> Result<(), NoMemory> {
+    // Builds the tableau anew from its cuts and links.
+    fn rebuild(
+        &mut self,
+        network: &ScaledNetwork,
+        level: &mut Level,
+        pool: &CutPool,
+    ) -> Result<(), NoMemory> {
         level.tableau.cuts(&mut self.numbers)?;
-        level.restart_tableau(self.prices.as_slice())?;
+        self.links.note(&level.tableau)?;
+        level.restart_tableau(network, self.prices.as_slice())?;
         for number in self.numbers.as_slice() {
             let line = self.live.line(pool, *number)?;
             level.tableau.add_cut(*number, line)?;
         }
-        Ok(())
+        self.links.add_noted(network, &mut level.tableau)
     }
 
-    // Adds the cuts that lack most, and answers whether there were any.
+    // Adds the broken links and the cuts that lack most, and answers whether there were any.
     fn add_broken(
         &mut self,
         network: &ScaledNetwork,
@@ -162,14 +192,16 @@ impl Relaxation {
         pool: &CutPool,
     ) -> Result<bool, NoMemory> {
         level.tableau.drop_slack_cuts(MET_BY_FAR);
-        let count = self.live.broken(self.shares.as_slice(), LACKING)?.len();
+        let shares = self.shares.as_slice();
+        let has_links = self.links.add_broken(network, &mut level.tableau, shares)?;
+        let count = self.live.broken(shares, LACKING)?.len();
         let mut added = 0usize;
         for place in 0..count {
             if added < ADDED && self.add_broken_at(network, level, pool, place)? {
                 added = added.saturating_add(1);
             }
         }
-        Ok(added > 0)
+        Ok(added > 0 || has_links)
     }
 
     // Adds a broken cut, where its limit is in force, and answers whether it did.

@@ -1,4 +1,5 @@
 use crate::level::Level;
+use crate::links::station_share;
 use crate::watch::Watch;
 use fixed_point::{ONE, product};
 use geo_base::NoMemory;
@@ -76,11 +77,11 @@ impl Splitting {
         }
         self.sort();
         self.branching.start(1 << 20);
-        self.probe_first(level)?;
+        self.probe_first(network, level)?;
         if has_owner {
             self.score_by_price(network, level, shares)?;
             self.sort();
-            self.probe_first(level)?;
+            self.probe_first(network, level)?;
         }
         Ok(self.branching.best().map(|probe| probe.candidate))
     }
@@ -93,11 +94,13 @@ impl Splitting {
     }
 
     // Tries the first of the scored candidates.
-    fn probe_first(&mut self, level: &Level) -> Result<(), NoMemory> {
+    fn probe_first(&mut self, network: &ScaledNetwork, level: &Level) -> Result<(), NoMemory> {
         for scored in self.scored.iter().take(TRIED) {
+            let candidate = scored.candidate;
+            let station = station_share(network, candidate);
             let _probe = self
                 .branching
-                .probe(&level.tableau, scored.candidate, STEPS)?;
+                .probe(&level.tableau, candidate, station, STEPS)?;
         }
         Ok(())
     }
@@ -120,7 +123,7 @@ impl Splitting {
                 let factor = product(missing, tight.min(ONE << 20)) as i128;
                 self.scored.push(Scored {
                     candidate,
-                    score: factor.wrapping_mul(network.price(candidate) as i128),
+                    score: factor.wrapping_mul(price_at(network, level, candidate) as i128),
                 })?;
             }
             candidate = candidate.saturating_add(1);
@@ -140,7 +143,7 @@ impl Splitting {
         for share in shares {
             if level.marks.get(candidate) == Mark::Open && is_part(*share) {
                 let part = product(*share, ONE.wrapping_sub(*share)) as i128;
-                let price = network.price(candidate) as i128;
+                let price = price_at(network, level, candidate) as i128;
                 self.scored.push(Scored {
                     candidate,
                     score: part.wrapping_mul(price).wrapping_mul(price),
@@ -215,7 +218,7 @@ fn dearest_chosen(network: &ScaledNetwork, level: &Level, shares: &[i64]) -> Opt
     let mut candidate = 0u32;
     for mark in level.marks.all() {
         let share = shares.get(candidate as usize).copied().unwrap_or(0);
-        let worth = (share > ONE / 2, network.price(candidate));
+        let worth = (share > ONE / 2, price_at(network, level, candidate));
         if *mark == Mark::Open && (best.is_none() || worth > most) {
             most = worth;
             best = Some(candidate);
@@ -223,4 +226,10 @@ fn dearest_chosen(network: &ScaledNetwork, level: &Level, shares: &[i64]) -> Opt
         candidate = candidate.saturating_add(1);
     }
     best
+}
+
+// The price of a candidate, with that of its station where no plan of the node has to pay it.
+fn price_at(network: &ScaledNetwork, level: &Level, candidate: u32) -> u64 {
+    let station = network.stations().unpaid_price(candidate, &level.marks);
+    network.price(candidate).saturating_add(station)
 }
