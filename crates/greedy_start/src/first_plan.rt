@@ -4,6 +4,7 @@ ghost use Rattle.pivot_chain.specs.Room.{IsRoomOf};
 
 use crate::deletion::take_out_each;
 use crate::offer::dearest_first;
+use crate::stations::{dearest_stations, take_out_stations};
 use crate::unmet::unmet_limit;
 use geo_base::NoMemory;
 use geo_model::{Network, Plan};
@@ -28,8 +29,9 @@ fn certified_whole(
     Ok(Some(plan))
 }
 
-/// A certified plan to start a search with: the plan of all candidates, of which one after the other
-/// is taken out, the dearest first, where the plan stays certified. There is none only where the plan
+/// A certified plan to start a search with: the plan of all candidates, of which first all candidates
+/// of a station that costs something, and then one after the other is taken out, the dearest first,
+/// where the plan stays certified. There is none only where the plan
 /// of all candidates isn't certified. Refused for want of memory alone.
 pub fn start(alloc: Global, network: &Network) -> Result<Option<Plan>, NoMemory>
     ensures certified { IfOk result (λ found. IfSome found (λ plan. IsCertified network.now plan)) }
@@ -39,6 +41,8 @@ pub fn start(alloc: Global, network: &Network) -> Result<Option<Plan>, NoMemory>
     let Some(mut plan) = certified_whole(alloc, &mut room, network)? else {
         return Ok(None);
     };
+    let stations = dearest_stations(alloc, network)?;
+    take_out_stations(alloc, &mut room, network, &mut plan, stations.as_slice())?;
     let offers = dearest_first(alloc, network)?;
     take_out_each(&mut room, network, &mut plan, offers.as_slice());
     Ok(Some(plan))
