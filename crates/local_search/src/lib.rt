@@ -1,6 +1,7 @@
 //! A local search for cheap plans: candidates are added at random or in pairs that check each other,
-//! and then one after the other is taken out, as long as the limits in force bear it. Fixed point
-//! says what they bear; each plan that is kept was certified by exact verdicts.
+//! or a station is changed for another, and then one station and one candidate after the other is
+//! taken out, as long as the limits in force bear it. Fixed point says what they bear; each plan that
+//! is kept was certified by exact verdicts.
 //!
 //! Proved: the plan that it hands over is certified and costs no more than the one that it was
 //! given; there is no first plan only where the plan of all candidates isn't certified; no call goes

@@ -2,7 +2,7 @@ use crate::order::Order;
 use crate::partners::Partners;
 use crate::random::Random;
 use geo_base::NoMemory;
-use plan_moves::MovedPlan;
+use plan_moves::{MovedPlan, StationMoves};
 use scaled_network::{Marks, ScaledNetwork};
 use std::alloc::Global;
 
@@ -15,12 +15,14 @@ const PATIENCE: u32 = 48;
 // How far random prices lie apart at most, in hundredths.
 const MOST_SPREAD: u32 = 100;
 
-/// How a move adds candidates: some at random, a candidate with its partner, or a quarter of all.
+/// How a move adds candidates: some at random, a candidate with its partner, a quarter of all, or all
+/// that are observed from the stations paid, of which one is changed for another.
 #[derive(Clone, Copy, PartialEq, Eq)]
 enum MoveKind {
     Some,
     Pair,
     Many,
+    Stations,
 }
 
 /// A walk from plan to plan, in fixed point.
@@ -32,6 +34,7 @@ pub struct Walk {
     best: MovedPlan,
     here: MovedPlan,
     looked_at: MovedPlan,
+    station_moves: StationMoves,
     order: Order,
     random: Random,
     moves: u32,
@@ -53,6 +56,7 @@ impl Walk {
             best,
             here,
             looked_at: MovedPlan::new(alloc),
+            station_moves: StationMoves::new(alloc),
             order: Order::new(alloc),
             random: Random::new(),
             moves: 0,
@@ -76,7 +80,7 @@ impl Walk {
         let weights = self.partners.weights();
         self.order
             .by_price_for_weight(&self.network, plan, weights)?;
-        self.reduce()
+        self.reduce(1)
     }
 
     /// Takes candidates out of a plan, the dearest first.
@@ -84,7 +88,7 @@ impl Walk {
         self.looked_at.start(&self.network, plan)?;
         self.order
             .by_price(&self.network, plan, &mut self.random, 1)?;
-        self.reduce()
+        self.reduce(1)
     }
 
     /// Makes a move: adds candidates to the plan that the walk stands at, and takes out others.
@@ -104,7 +108,7 @@ impl Walk {
             &mut self.random,
             spread,
         )?;
-        self.reduce()
+        self.reduce(spread)
     }
 
     /// Goes on from the plan that it looks at, where that costs little more than the best one.
@@ -126,6 +130,9 @@ impl Walk {
 
     // The kind of the present move.
     fn kind(&self) -> MoveKind {
+        if self.moves % 2 == 0 && !self.network.stations().prices().is_empty() {
+            return MoveKind::Stations;
+        }
         match self.moves % 8 {
             7 => MoveKind::Many,
             1 | 3 | 5 => MoveKind::Pair,
@@ -141,6 +148,7 @@ impl Walk {
             MoveKind::Some => self.random.below(4).saturating_add(1),
             MoveKind::Pair => self.random.below(2).saturating_add(1),
             MoveKind::Many => (count / 4).saturating_add(1),
+            MoveKind::Stations => return self.change_stations(),
         };
         for _ in 0..added.min(256) {
             let candidate = self.random.below(count);
@@ -148,6 +156,22 @@ impl Walk {
             if kind == MoveKind::Pair {
                 self.add_partner(candidate)?;
             }
+        }
+        Ok(())
+    }
+
+    // Looks at the plan of all candidates of the stations paid, of which one may be changed for another,
+    // where the limits in force bear that.
+    fn change_stations(&mut self) -> Result<(), NoMemory> {
+        let count = self.network.stations().prices().len().min(256) as u32;
+        let added = self.random.below(count);
+        let closed = self.random.below(count);
+        let here = self.here.plan();
+        self.looked_at
+            .start_at_stations(&self.network, here, added, closed)?;
+        self.looked_at.take_out_broken_owners(&self.network)?;
+        if !self.looked_at.is_borne(&self.network) {
+            self.looked_at.copy_from(&self.here)?;
         }
         Ok(())
     }
@@ -160,14 +184,28 @@ impl Walk {
         Ok(())
     }
 
-    // Takes candidates out of the plan that is looked at, in the present order. Where an owner went,
+    // Takes whole stations out of the plan that is looked at, in the order of their prices times a random
+    // number from 100 to `spread` more, and then candidates in the present order. Where an owner went,
     // its limits are no longer in force, so a second pass can take out more.
-    fn reduce(&mut self) -> Result<(), NoMemory> {
+    fn reduce(&mut self, spread: u32) -> Result<(), NoMemory> {
         self.looked_at.take_out_broken_owners(&self.network)?;
+        self.reduce_stations(spread)?;
         for _ in 0..2 {
             self.looked_at
                 .reduce(&self.network, self.order.candidates())?;
         }
         Ok(())
+    }
+
+    // Takes whole stations out of the plan that is looked at.
+    fn reduce_stations(&mut self, spread: u32) -> Result<(), NoMemory> {
+        self.order.by_station_price(
+            &self.network,
+            self.looked_at.plan(),
+            &mut self.random,
+            spread,
+        )?;
+        self.station_moves
+            .reduce(&self.network, &mut self.looked_at, self.order.stations())
     }
 }
