@@ -4,7 +4,7 @@
 ghost use Rattle.std.specs.Prelude.{◌≡◌, length, IfOk};
 
 use crate::exact::Exact;
-use crate::tables::{HALVES, LINE, ONE_HEIGHT};
+use crate::tables::{HALVES, LINE};
 use fixed_point::ONE;
 use geo_base::NoMemory;
 use geo_model::{Network, Plan, cost};
@@ -14,7 +14,7 @@ use plan_moves::{MovedPlan, Rest, WitnessFinder};
 use scaled_network::{Bearing, Marks, ScaledNetwork};
 use std::alloc::Global;
 use std::test::Fail;
-use test_networks::{CaseTables, network_of};
+use test_networks::{CaseTables, ONE_HEIGHT, height_at_stations, network_of};
 
 // A candidate that is taken out of all, if any, a limit, and its load over the energy then, at most:
 // the variance of its height over the square of its limit.
@@ -242,6 +242,26 @@ fn a_local_search_finds_the_cheapest_plans(rt: HostRuntime) -> Result<(), Fail> 
         let network = network_of(rt.alloc(), tables)?;
         let found = prices_of(rt.alloc(), &network)?;
         assert!(rt; found == (greedy, cheapest), "{found:?}");
+    }
+    Ok(())
+}
+
+// What the stations of both ways to observe a height cost, and both prices by hand: one way is a level
+// for 9, the other two for 6 each. Greedy deletion gives up the dearest station first, where it can.
+const AT_STATIONS: [(u64, u64, u64, u64); 5] = [
+    (0, 0, 12, 9),
+    (0, 4, 9, 9),
+    (4, 0, 12, 12),
+    (3, 2, 14, 12),
+    (6, 2, 14, 14),
+];
+
+#[test]
+fn a_local_search_saves_a_station(rt: HostRuntime) -> Result<(), Fail> {
+    for (first, others, greedy, cheapest) in AT_STATIONS {
+        let network = height_at_stations(rt.alloc(), first, others)?;
+        let found = prices_of(rt.alloc(), &network)?;
+        assert!(rt; found == (greedy, cheapest), "{first} {others}: {found:?}");
     }
     Ok(())
 }

@@ -1,7 +1,7 @@
 //! What is proposed to a search at the nodes of small networks.
 ghost use Rattle.std.specs.Prelude.{◌≡◌, ◌<◌, length, All, IfOk};
 
-use crate::tables::{HALVES, LINE, ONE_HEIGHT};
+use crate::tables::{HALVES, LINE};
 use cut_pool::{CutPool, cut_of};
 use dual_ascent::Dual;
 use fixed_point::ONE;
@@ -12,7 +12,7 @@ use scaled_network::{Marks, ScaledNetwork};
 use separation::{Proposal, Separation, Sought, displacement_of};
 use std::alloc::Global;
 use std::test::Fail;
-use test_networks::{CaseTables, network_of};
+use test_networks::{CaseTables, ONE_HEIGHT, network_of};
 
 // A candidate in a decision: it is chosen, or left out.
 #[derive(Clone, Copy)]

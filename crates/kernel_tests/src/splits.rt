@@ -79,7 +79,7 @@ fn sides_rise_by_their_least_price(rt: HostRuntime) -> Result<(), Fail> {
         let node = solved(rt.alloc(), split.cover)?;
         let mut branching = Branching::new(rt.alloc());
         branching.start(1);
-        let probe = branching.probe(&node, split.candidate, STEPS)?;
+        let probe = branching.probe(&node, split.candidate, None, STEPS)?;
         assert!(rt;
             has_rise(probe.inside, split.inside),
             "inside of {}",
@@ -102,7 +102,7 @@ fn best_of(
 ) -> Result<Option<u32>, NoMemory> {
     branching.start(1 << 20);
     for candidate in candidates {
-        let _probe = branching.probe(node, *candidate, STEPS)?;
+        let _probe = branching.probe(node, *candidate, None, STEPS)?;
     }
     Ok(branching.best().map(|probe| probe.candidate))
 }

@@ -7,6 +7,7 @@ use fixed_point::ONE;
 use geo_base::NoMemory;
 use std::alloc::Global;
 use std::test::Fail;
+use strong_branch::Branching;
 
 // Whether a run ends with this least price, or with none as infeasible.
 fn ends_at(tableau: &mut Tableau, price: Option<Exact>) -> Result<bool, NoMemory> {
@@ -92,5 +93,57 @@ fn cuts_are_added_and_dropped_between_runs(rt: HostRuntime) -> Result<(), Fail> 
     other.add_cut(7, [ONE / 4; 2].as_slice())?;
     assert!(rt; ends_at(&mut other, None)?);
     assert!(rt; ends_at(&mut tableau, Some(Exact(4, 1)))?);
+    Ok(())
+}
+
+// A triangle of covers with candidates for 2 each, and a station for 3 of the first two, whose share is
+// the fourth. The least price is 3 where no link asks for the station.
+fn at_a_station(alloc: Global) -> Result<Tableau, NoMemory> {
+    let mut tableau = Tableau::new(alloc);
+    tableau.start([2 * ONE, 2 * ONE, 2 * ONE, 3 * ONE].as_slice())?;
+    tableau.add_cut(0, [ONE, ONE, 0].as_slice())?;
+    tableau.add_cut(1, [0, ONE, ONE].as_slice())?;
+    tableau.add_cut(2, [ONE, 0, ONE].as_slice())?;
+    Ok(tableau)
+}
+
+// Adds the links of the first two candidates with the station.
+fn link_both(tableau: &mut Tableau) -> Result<(), NoMemory> {
+    let less = ONE.wrapping_neg();
+    tableau.add_link(0, [less, 0, 0, ONE].as_slice())?;
+    tableau.add_link(1, [0, less, 0, ONE].as_slice())
+}
+
+// With the links all shares are a half, for 9/2. Where the first candidate is taken, the second covers
+// what is left, for 7 with the station; without the station nothing covers the first side.
+#[test]
+fn links_pay_a_station(rt: HostRuntime) -> Result<(), Fail> {
+    let mut tableau = at_a_station(rt.alloc())?;
+    assert!(rt; ends_at(&mut tableau, Some(Exact(3, 1)))?);
+    link_both(&mut tableau)?;
+    assert!(rt; ends_at(&mut tableau, Some(Exact(9, 2)))?);
+    let mut links = Vec::new(rt.alloc());
+    tableau.links(&mut links)?;
+    links.as_mut_slice().sort_unstable();
+    assert_eq!(rt; links.as_slice(), [0, 1].as_slice());
+    let mut inside = Tableau::new(rt.alloc());
+    inside.copy_from(&tableau)?;
+    inside.fix(0, true);
+    assert!(rt; ends_at(&mut inside, Some(Exact(7, 1)))?);
+    tableau.fix(3, false);
+    assert!(rt; ends_at(&mut tableau, None)?);
+    Ok(())
+}
+
+#[test]
+fn the_side_that_takes_a_candidate_pays_its_station(rt: HostRuntime) -> Result<(), Fail> {
+    let mut tableau = at_a_station(rt.alloc())?;
+    let _outcome = tableau.run(STEPS)?;
+    let mut branching = Branching::new(rt.alloc());
+    let free = branching.probe(&tableau, 0, None, STEPS)?;
+    assert!(rt; Exact(1, 1).is_near(free.inside.rise, TOLERANCE));
+    let paid = branching.probe(&tableau, 0, Some(3), STEPS)?;
+    assert!(rt; Exact(4, 1).is_near(paid.inside.rise, TOLERANCE));
+    assert!(rt; Exact(1, 1).is_near(paid.outside.rise, TOLERANCE));
     Ok(())
 }

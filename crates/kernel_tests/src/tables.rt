@@ -2,19 +2,6 @@
 
 use test_networks::CaseTables;
 
-/// A height with a limit of 0.8 mm, and levels of 0.79, 1.00 and 1.00 mm for 9, 6 and 6. The variance
-/// in mm squared has to be 0.64 at most: the first level has 0.6241, the others together 0.5, and each
-/// of them alone 1. So the cheapest plan is the first level, for 9, and each plan without it has both
-/// others.
-pub const ONE_HEIGHT: CaseTables = CaseTables {
-    points: "A,,,100.000,,fixed\nH,,,101.000,,0.8\n",
-    candidates: "l1,level,A,H,,0.79,,9\nl2,level,A,H,,1.00,,6\nl3,level,A,H,,1.00,,6\n",
-    redundancy: 0,
-    unknowns: 1,
-    choices: 3,
-    limits: 1,
-};
-
 /// A line of two heights between two fixed ones, with levels of 1.00 mm for 5, 3 and 5 and limits of
 /// 1.2 and 1.1 mm. Without a level at its own side a height has the variance 2 or 3, so both outer
 /// levels are needed; the middle one can go, since each height then has 1, of 1.44 and 1.21.

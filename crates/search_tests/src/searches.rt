@@ -8,8 +8,8 @@ use std::alloc::Global;
 use std::process::Abort;
 use std::test::Fail;
 use test_networks::{
-    CLOSER_LEVEL, CaseTables, HALF_REDUNDANT, LEVELLING_LINE, ONE_LEVEL, TOO_REDUNDANT, missed,
-    network_of,
+    CLOSER_LEVEL, CaseTables, HALF_REDUNDANT, LEVELLING_LINE, ONE_LEVEL, TOO_REDUNDANT,
+    height_at_stations, missed, network_of,
 };
 
 // What a search answers: the price of the plan, where it has one, and the open limit with its step and
@@ -136,5 +136,25 @@ fn a_cut_is_named_before_its_first_use_alone(rt: HostRuntime) -> Result<(), Fail
     let done = searched(rt.alloc(), &network)?;
     let log = b"geoplan-log 2\ns 0\ns 1\nc\nk 0 1 0 1\nx 0\nx 0\n".as_slice();
     assert_eq!(rt; done.shelf.file("log"), Some(log));
+    Ok(())
+}
+
+// What the stations of both ways to observe a height cost, and the price of the cheapest plan by hand:
+// one way is a level for 9, the other two for 6 each, which stand at one station.
+const AT_STATIONS: [(u64, u64, u64); 5] = [
+    (0, 0, 9),
+    (4, 0, 12),
+    (4, 2, 13),
+    (6, 2, 14),
+    (0, 4, 9),
+];
+
+#[test]
+fn stations_are_paid_once(rt: HostRuntime) -> Result<(), Fail> {
+    for (first, others, price) in AT_STATIONS {
+        let network = height_at_stations(rt.alloc(), first, others)?;
+        let bound = Bound::AtLeast(u128::from(price));
+        expect_search(&rt, rt.alloc(), &network, Found::Best(price), bound)?;
+    }
     Ok(())
 }

@@ -98,6 +98,19 @@ pub const ONE_DEAR_LEVEL: CaseTables = CaseTables {
     limits: 1,
 };
 
+/// A height with a limit of 0.8 mm, and levels of 0.79, 1.00 and 1.00 mm for 9, 6 and 6. The variance
+/// in mm squared has to be 0.64 at most: the first level has 0.6241, the others together 0.5, and each
+/// of them alone 1. So the cheapest plan is the first level, for 9, and each plan without it has both
+/// others.
+pub const ONE_HEIGHT: CaseTables = CaseTables {
+    points: "A,,,100.000,,fixed\nH,,,101.000,,0.8\n",
+    candidates: "l1,level,A,H,,0.79,,9\nl2,level,A,H,,1.00,,6\nl3,level,A,H,,1.00,,6\n",
+    redundancy: 0,
+    unknowns: 1,
+    choices: 3,
+    limits: 1,
+};
+
 const LINE: &str =
     "l1,level,A,H1,,0.50,,5\nl2,level,H1,H2,,0.50,,5\nl3,level,H2,H3,,0.50,,5\nl4,level,H3,H4,,0.50,,5\n";
 

@@ -3,12 +3,14 @@
 #![tactic(auto)]
 
 mod case_tables;
+mod stations;
 mod tight_networks;
 mod unfit;
 
 pub use case_tables::{
-    CLOSER_LEVEL, CaseTables, HALF_REDUNDANT, LEVELLING_LINE, ONE_DEAR_LEVEL, ONE_LEVEL,
-    THREE_LEVELS, TOO_REDUNDANT, TWO_LEVELS, WIDER_LINE, network_of,
+    CLOSER_LEVEL, CaseTables, HALF_REDUNDANT, LEVELLING_LINE, ONE_DEAR_LEVEL, ONE_HEIGHT,
+    ONE_LEVEL, THREE_LEVELS, TOO_REDUNDANT, TWO_LEVELS, WIDER_LINE, network_of,
 };
+pub use stations::height_at_stations;
 pub use tight_networks::{missed, two_heights};
 pub use unfit::Unfit;
