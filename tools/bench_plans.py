@@ -2,6 +2,7 @@
 told.
 
     python3 tools/bench_plans.py PROGRAM [--other NAME=COMMAND].. [--rows WORD] [--seconds N] [--runs N] [--check]
+    python3 tools/bench_plans.py PROGRAM --stations SHARE [--seconds N] [--runs N]
 
 PROGRAM is crates/geoplan_cli/out/geoplan_cli after `rt run` there. COMMAND is a program with its arguments, in which
 {points}, {candidates}, {redundancy} and {log} stand for the files and the number; what it prints has the word `cost` or
@@ -9,6 +10,10 @@ PROGRAM is crates/geoplan_cli/out/geoplan_cli after `rt run` there. COMMAND is a
 the rows of `all` that `middle` hasn't; each run is ended after N seconds (60), and the least time of so many runs (1)
 counts. Seconds are of the processor, the log included. With --check each log that PROGRAM ended is replayed by its
 `check`, and a last column has those seconds.
+
+With --stations the networks are mixed ones of 4 to 8 points, in which setting up an instrument costs SHARE times what a
+candidate does on average; each is planned with and without those prices, and the last columns have how many times the
+nodes and the seconds the former takes.
 """
 import argparse
 import math
@@ -26,6 +31,7 @@ SMALL = [("level", 8, 1.5), ("trilat", 8, 1.5), ("gnss", 8, 1.5), ("mixed", 4, 1
 MIDDLE = [("level", 12, 1.5), ("trilat", 12, 1.5), ("gnss", 10, 1.5), ("gnss", 12, 1.5), ("mixed", 6, 1.5)]
 LARGE = [("level", 16, 1.2), ("level", 16, 1.5), ("trilat", 16, 1.5), ("gnss", 15, 1.2), ("gnss", 15, 1.5)]
 LARGE += [("mixed", 8, 1.2), ("mixed", 8, 1.5)]
+WITH_STATIONS = [("mixed", 4, 1.5), ("mixed", 5, 1.5), ("mixed", 6, 1.5), ("mixed", 6, 1.2), ("mixed", 8, 1.2)]
 ROWS = {"small": SMALL, "middle": SMALL + MIDDLE, "large": LARGE, "all": SMALL + MIDDLE + LARGE}
 
 
@@ -119,6 +125,36 @@ def print_row(row, redundancy, words):
     return {name: run.seconds for name, run in runs if run.is_ended and run.cost}
 
 
+def times(more, less, least):
+    """How many times one number is another, where both are told; neither counts less than `least`."""
+    if more is None or less is None:
+        return "-"
+    return "%.2f" % (max(float(more), least) / max(float(less), least))
+
+
+def print_stations_row(row, redundancy, words):
+    """Plans a network with and without prices of stations, and prints its row."""
+    kind, size, factor = row
+    with tempfile.TemporaryDirectory() as folder:
+        count = plan_networks.write_tables(kind, size, 1, factor, folder, words.stations)
+        command = commands_of(words.program, [], redundancy)[0][1]
+        free = measured(command, words.seconds, words.runs, folder)
+        paid = measured(command + ["stations.csv"], words.seconds, words.runs, folder)
+    cells = "%s | %s | %s | %s" % (
+        free.cells(), paid.cells(), times(paid.nodes, free.nodes, 1), times(paid.seconds, free.seconds, 0.01))
+    print("| %s-%d-%s | %d | %d | %s |" % (kind, size, factor, redundancy, count, cells), flush=True)
+
+
+def print_stations_table(words):
+    """Prints what prices of stations cost a search."""
+    heads = " | ".join("%s: cost | nodes | lines | seconds" % name for name in ("without", "with stations"))
+    print("| network | redundancy | candidates | %s | times the nodes | times the seconds |" % heads)
+    print("|---" * 13 + "|")
+    for row in WITH_STATIONS:
+        for redundancy in (0, 200):
+            print_stations_row(row, redundancy, words)
+
+
 def print_means(rows, names):
     """For each kind and other program the geometric mean of the seconds of geoplan over its own, where both ended."""
     for name in names[1:]:
@@ -137,7 +173,11 @@ def main():
     parser.add_argument("--seconds", type=float, default=60)
     parser.add_argument("--runs", type=int, default=1)
     parser.add_argument("--check", action="store_true")
+    parser.add_argument("--stations", type=float)
     words = parser.parse_args()
+    if words.stations is not None:
+        print_stations_table(words)
+        return
     names = ["geoplan"] + [other.split("=", 1)[0] for other in words.other]
     heads = " | ".join("%s: cost | nodes | lines | seconds" % name for name in names)
     last = " check |" if words.check else ""

@@ -1,10 +1,11 @@
 """Networks of the kinds that a survey office plans, in growing sizes, as two tables.
 
-    python3 tools/plan_networks.py KIND SIZE SEED FACTOR FOLDER     writes points.csv and candidates.csv
+    python3 tools/plan_networks.py KIND SIZE SEED FACTOR FOLDER [STATIONS]     writes points.csv and candidates.csv
 
 KIND is `level` (SIZE new benchmarks), `trilat` (SIZE new stations with distances and directions), `gnss` (SIZE new
 points with vectors between what is near) or `mixed` (vectors, distances, levels and directions). Each limit is FACTOR
-times what the plan of all candidates reaches, rounded up to 0.1 mm. The same words give the same tables.
+times what the plan of all candidates reaches, rounded up to 0.1 mm. With STATIONS the folder gets stations.csv too, in
+which each point costs STATIONS times what a candidate does on average. The same words give the same tables.
 """
 import math
 import os
@@ -15,6 +16,7 @@ import adjustment
 
 POINTS_HEADER = ("name", "x", "y", "z", "plane", "height")
 CANDIDATES_HEADER = ("name", "kind", "from", "to", "to2", "sd", "sdh", "price")
+STATIONS_HEADER = ("name", "price")
 
 
 def metres(millimetres):
@@ -161,17 +163,31 @@ def tables(kind, size, seed, factor):
     return with_limits(points, candidates, factor), candidates
 
 
-def write_tables(kind, size, seed, factor, folder):
-    """Writes both tables into a folder, and answers how many candidates there are."""
+def station_prices(points, candidates, share):
+    """The records of the stations: each point, at `share` times what a candidate costs on average."""
+    price = round(share * sum(int(candidate[-1]) for candidate in candidates) / len(candidates))
+    return [(point[0], str(price)) for point in points]
+
+
+def write_table(folder, name, header, records):
+    with open(os.path.join(folder, name + ".csv"), "w", encoding="utf-8") as file:
+        file.write("".join(",".join(record) + "\n" for record in [header] + records))
+
+
+def write_tables(kind, size, seed, factor, folder, stations=None):
+    """Writes the tables into a folder, that of the stations where their share is told, and answers how many candidates
+    there are."""
     points, candidates = tables(kind, size, seed, factor)
     os.makedirs(folder, exist_ok=True)
-    for name, header, records in (("points", POINTS_HEADER, points), ("candidates", CANDIDATES_HEADER, candidates)):
-        with open(os.path.join(folder, name + ".csv"), "w", encoding="utf-8") as file:
-            file.write("".join(",".join(record) + "\n" for record in [header] + records))
+    write_table(folder, "points", POINTS_HEADER, points)
+    write_table(folder, "candidates", CANDIDATES_HEADER, candidates)
+    if stations is not None:
+        write_table(folder, "stations", STATIONS_HEADER, station_prices(points, candidates, stations))
     return len(candidates)
 
 
 if __name__ == "__main__":
-    if len(sys.argv) != 6 or sys.argv[1] not in KINDS:
+    if len(sys.argv) not in (6, 7) or sys.argv[1] not in KINDS:
         sys.exit(__doc__)
-    write_tables(sys.argv[1], int(sys.argv[2]), int(sys.argv[3]), float(sys.argv[4]), sys.argv[5])
+    told = float(sys.argv[6]) if len(sys.argv) == 7 else None
+    write_tables(sys.argv[1], int(sys.argv[2]), int(sys.argv[3]), float(sys.argv[4]), sys.argv[5], told)
