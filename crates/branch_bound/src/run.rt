@@ -177,6 +177,10 @@ fn explore<H: Shelf>(
     Ok(())
 }
 
+// How many moves of a local search improve the first plan, where stations cost something: fixed costs
+// lead greedy deletion far from the cheapest plan.
+const FIRST_MOVES: u32 = 48;
+
 /// The plan that a search begins with, where there is a certified one.
 fn first_plan(alloc: Global, network: &Network) -> Result<Best, NoMemory>
     ensures first { IfOk result (IsStart network.now) }
@@ -184,7 +188,12 @@ fn first_plan(alloc: Global, network: &Network) -> Result<Best, NoMemory>
 {
     // The network's bounds, for the proof.
     let _bounds = network.candidates();
-    match start(alloc, network)? {
+    let found = if network.station_prices().is_empty() {
+        start(alloc, network)?
+    } else {
+        local_search::first_plan(alloc, network, FIRST_MOVES)?
+    };
+    match found {
         Some(plan) => Ok(Best::Certified(plan)),
         None => Ok(Best::NoPlan),
     }
