@@ -18,10 +18,13 @@ pub fn product(a: i64, b: i64) -> i64 {
 }
 
 /// The quotient of two numbers, rounded toward zero, and at most 2^30 in size; 0 where the divisor
-/// is 0.
+/// is 0. It is fast for a dividend below a half in size.
 pub fn quotient(a: i64, b: i64) -> i64 {
     if b == 0 {
         return 0;
+    }
+    if a.unsigned_abs() < 1 << 31 {
+        return (a << 32).wrapping_div(b).clamp(-(1 << 62), 1 << 62);
     }
     let wide = ((a as i128) << 32).wrapping_div(b as i128);
     nearest_within(wide)

@@ -86,6 +86,7 @@ fn candidates_go_where_limits_bear_it(rt: HostRuntime) -> Result<(), Fail> {
 
 // Candidates that are missing from a plan which is asked about first, if any, and from the one that is
 // asked about then; a limit; and what is left of the plan, by the variances above.
+#[derive(Drop)]
 struct WitnessCase {
     tables: &'static CaseTables,
     before: Option<&'static [u32]>,

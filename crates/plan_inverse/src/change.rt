@@ -1,4 +1,5 @@
-use fixed_point::{ONE, product, quotient, subtract_scaled};
+use crate::limit_matrix::LimitMatrix;
+use fixed_point::{Divisor, ONE, subtract_scaled};
 use geo_base::NoMemory;
 use std::alloc::Global;
 use weak_direction::Form;
@@ -13,7 +14,9 @@ pub struct InverseChange {
     // The vectors one after another, `size` numbers each.
     vectors: Vec<i64>,
     size: usize,
-    pivots: Vec<i64>,
+    pivots: Vec<Divisor>,
+    // The least pivot in size, at most 1.
+    least_pivot: i64,
 }
 
 impl InverseChange {
@@ -23,6 +26,7 @@ impl InverseChange {
             vectors: Vec::new(alloc),
             size: 1,
             pivots: Vec::new(alloc),
+            least_pivot: ONE,
         }
     }
 
@@ -31,28 +35,25 @@ impl InverseChange {
         self.vectors.clear();
         self.size = unknowns.max(1);
         self.pivots.clear();
+        self.least_pivot = ONE;
     }
 
     /// The least pivot in size, at most 1: near 0, the rows are the only ones in some direction.
     pub fn least_pivot(&self) -> i64 {
-        let mut least = ONE;
-        for pivot in self.pivots.as_slice() {
-            least = least.min(pivot.saturating_abs());
-        }
-        least
+        self.least_pivot
     }
 
     // Adds a row: `vector` is the inverse times the row, to which the rows before are applied here.
-    // `share` is how much of it is taken out, or below 0 added.
+    // `whole` is 1 over the share of it that is taken out, or below 0 added.
     pub(crate) fn push(
         &mut self,
         row: &Form,
-        share: i64,
+        whole: i64,
         vector: &mut [i64],
     ) -> Result<(), NoMemory> {
         self.apply_to(row, 0, vector);
-        let pivot = quotient(ONE, share).wrapping_sub(row.at(vector, 0));
-        let held = if share < 0 {
+        let pivot = whole.wrapping_sub(row.at(vector, 0));
+        let held = if whole < 0 {
             pivot.min(-LEAST_PIVOT)
         } else {
             pivot.max(LEAST_PIVOT)
@@ -60,7 +61,8 @@ impl InverseChange {
         let end = self.pivots.len().saturating_add(1);
         self.vectors.extend_from_slice(vector)?;
         self.vectors.resize(end.saturating_mul(self.size), 0)?;
-        self.pivots.push(held)?;
+        self.pivots.push(Divisor::new(held))?;
+        self.least_pivot = self.least_pivot.min(held.saturating_abs());
         Ok(())
     }
 
@@ -68,7 +70,7 @@ impl InverseChange {
     pub(crate) fn apply_to(&self, form: &Form, shift: u32, vector: &mut [i64]) {
         let steps = self.vectors.as_slice().chunks_exact(self.size.max(1));
         for (step, pivot) in steps.zip(self.pivots.as_slice()) {
-            let factor = quotient(form.at(step, shift), *pivot);
+            let factor = pivot.quotient(form.at(step, shift));
             let _sizes = subtract_scaled(vector, factor.wrapping_neg(), step);
         }
     }
@@ -81,23 +83,28 @@ impl InverseChange {
         }
     }
 
-    // What the change adds to the product of two forms over 2^shift with the inverse between them.
-    pub(crate) fn between(&self, first: &Form, second: &Form, shift: u32) -> i64 {
-        let mut sum = 0i64;
+    /// What a limit bears after the change, where this is what it bears before.
+    pub fn changed(&self, squares: &[Form], before: LimitMatrix) -> LimitMatrix {
+        let Some(first) = squares.first() else {
+            return before;
+        };
+        let shift = before.shift();
+        let mut after = before;
         let steps = self.vectors.as_slice().chunks_exact(self.size.max(1));
         for (step, pivot) in steps.zip(self.pivots.as_slice()) {
-            let factor = quotient(first.at(step, shift), *pivot);
-            sum = sum.wrapping_add(product(factor, second.at(step, shift)));
+            let own = first.at(step, shift);
+            let other = squares.get(1).map_or(0, |second| second.at(step, shift));
+            after = after.plus_products(own, other, *pivot);
         }
-        sum
+        after
     }
 }
 
 // Adds the products of a vector's numbers over a pivot to a matrix.
-fn add_products(entries: &mut [i64], vector: &[i64], pivot: i64) {
+fn add_products(entries: &mut [i64], vector: &[i64], pivot: Divisor) {
     let rows = entries.chunks_exact_mut(vector.len().max(1));
     for (row, number) in rows.zip(vector) {
-        let factor = quotient(*number, pivot);
+        let factor = pivot.quotient(*number);
         let _sizes = subtract_scaled(row, factor.wrapping_neg(), vector);
     }
 }

@@ -1,8 +1,9 @@
 use crate::change::InverseChange;
-use fixed_point::{ONE, product, subtract_scaled};
+use crate::limit_matrix::LimitMatrix;
+use fixed_point::{ONE, product, quotient, subtract_scaled};
 use geo_base::NoMemory;
 use std::alloc::Global;
-use weak_direction::{Factor, Form, common_shift, greatest_eigenvalue, lifted};
+use weak_direction::{Factor, Form, common_shift};
 
 /// The inverse of a scaled normal matrix. Errors grow with each change: past some twelve, or where a
 /// pivot was small, find it anew. It keeps its memory when it is found anew or copied over.
@@ -67,9 +68,10 @@ impl Inverse {
         scratch: &mut Vec<i64>,
     ) -> Result<(), NoMemory> {
         change.clear(self.size);
+        let whole = quotient(ONE, share);
         for row in rows {
             self.times(row, 0, scratch)?;
-            change.push(row, share, scratch.as_mut_slice())?;
+            change.push(row, whole, scratch.as_mut_slice())?;
         }
         Ok(())
     }
@@ -80,20 +82,26 @@ impl Inverse {
         self.changes = self.changes.saturating_add(1);
     }
 
+    /// What a limit of one or two squares bears.
+    pub fn limit_matrix(&self, squares: &[Form]) -> LimitMatrix {
+        let shift = common_shift(squares);
+        let none = LimitMatrix::zero(shift);
+        let Some(first) = squares.first() else {
+            return none;
+        };
+        let own = self.between(first, first, shift);
+        let Some(second) = squares.get(1) else {
+            return none.plus(own, 0, 0);
+        };
+        let mixed = self.between(first, second, shift);
+        none.plus(own, mixed, self.between(second, second, shift))
+    }
+
     /// The load over the energy of a limit of one or two squares, in the direction that bears it worst
     /// after a change: above 1, the limit is broken then.
     pub fn strength(&self, squares: &[Form], change: &InverseChange) -> i64 {
-        let shift = common_shift(squares);
-        let Some(first) = squares.first() else {
-            return 0;
-        };
-        let own = self.between(first, first, change, shift);
-        let Some(second) = squares.get(1) else {
-            return lifted(own, shift);
-        };
-        let mixed = self.between(first, second, change, shift);
-        let other = self.between(second, second, change, shift);
-        lifted(greatest_eigenvalue(own, mixed, other).value, shift)
+        let before = self.limit_matrix(squares);
+        change.changed(squares, before).strength()
     }
 
     /// Writes the inverse after a change times a form over 2^shift: one number for each unknown.
@@ -121,9 +129,9 @@ impl Inverse {
         Ok(())
     }
 
-    // The product of two forms over 2^shift with the inverse after a change between them.
-    fn between(&self, first: &Form, second: &Form, change: &InverseChange, shift: u32) -> i64 {
-        let mut sum = change.between(first, second, shift);
+    // The product of two forms over 2^shift with the inverse between them.
+    fn between(&self, first: &Form, second: &Form, shift: u32) -> i64 {
+        let mut sum = 0i64;
         for term in first.terms() {
             let part = second.at(self.row(term.unknown as usize), shift);
             sum = sum.wrapping_add(product(term.coefficient.wrapping_shr(shift), part));

@@ -11,6 +11,8 @@
 
 mod change;
 mod inverse;
+mod limit_matrix;
 
 pub use change::InverseChange;
 pub use inverse::Inverse;
+pub use limit_matrix::LimitMatrix;

@@ -1,6 +1,6 @@
 use fixed_point::ONE;
 use geo_base::NoMemory;
-use plan_inverse::Inverse;
+use plan_inverse::{Inverse, LimitMatrix};
 use scaled_network::{Bearing, Mark, Marks, ScaledNetwork};
 use std::alloc::Global;
 
@@ -185,13 +185,13 @@ impl MovedPlan {
         least_pivot: i64,
     ) -> Result<(), NoMemory> {
         self.bearing.look_at_none(network);
-        let mut strength = self.bearing.strength(network, &self.inverse, limit);
+        let mut matrix = self.bearing.limit_matrix(network, &self.inverse, limit);
         for candidate in order {
             if self.has(*candidate) {
                 self.bearing
                     .look_at(network, &self.inverse, *candidate, ONE)?;
                 if self.bearing.least_pivot() >= least_pivot {
-                    strength = self.take_out_for(network, *candidate, limit, strength);
+                    matrix = self.take_out_for(network, *candidate, limit, matrix);
                 }
             }
         }
@@ -204,11 +204,11 @@ impl MovedPlan {
         network: &ScaledNetwork,
         candidate: u32,
         limit: u32,
-        strength: i64,
-    ) -> i64 {
-        let after = self.bearing.strength(network, &self.inverse, limit);
-        if after > MOST_ALONE {
-            return strength;
+        matrix: LimitMatrix,
+    ) -> LimitMatrix {
+        let after = self.bearing.changed(network, limit, matrix);
+        if after.is_above(MOST_ALONE) {
+            return matrix;
         }
         self.marks.set(candidate, Mark::Outside);
         self.bearing.make(network, &mut self.inverse);
@@ -249,7 +249,9 @@ impl MovedPlan {
 
     // Whether a limit bears the change that is looked at.
     fn bears(&self, network: &ScaledNetwork, limit: u32) -> bool {
-        self.bearing.strength(network, &self.inverse, limit) <= MOST_STRENGTH
+        !self
+            .bearing
+            .is_above(network, &self.inverse, limit, MOST_STRENGTH)
     }
 
     // Makes the change that is looked at, or finds the inverse anew where that loses digits.

@@ -1,7 +1,8 @@
 use crate::forced::Forced;
 use crate::level::Level;
-use fixed_point::{ONE, quotient};
+use fixed_point::{ONE, product, quotient};
 use geo_base::NoMemory;
+use plan_inverse::LimitMatrix;
 use scaled_network::{Bearing, Mark, Marks, ScaledNetwork};
 use std::alloc::Global;
 
@@ -23,6 +24,8 @@ pub(crate) struct Watch {
     // node.
     strengths: Vec<i64>,
     measured: Vec<i64>,
+    // What each limit that is in force bears.
+    matrices: Vec<LimitMatrix>,
     // By which part of what the limits have left they get tighter without each candidate, at most.
     tightness: Vec<i64>,
     // The open candidates before this one aren't needed.
@@ -36,6 +39,7 @@ impl Watch {
             marks: Marks::new(alloc),
             strengths: Vec::new(alloc),
             measured: Vec::new(alloc),
+            matrices: Vec::new(alloc),
             tightness: Vec::new(alloc),
             tested: 0,
         }
@@ -50,13 +54,16 @@ impl Watch {
     ) -> Result<(), NoMemory> {
         bearing.look_at_none(network);
         self.measured.clear();
+        self.matrices.clear();
         let mut limit = 0u32;
         for _ in network.owners() {
-            self.measured.push(if network.is_in_force(limit, &level.marks) {
-                bearing.strength(network, &level.upper, limit)
+            let matrix = if network.is_in_force(limit, &level.marks) {
+                bearing.limit_matrix(network, &level.upper, limit)
             } else {
-                0
-            })?;
+                LimitMatrix::zero(0)
+            };
+            self.measured.push(matrix.strength())?;
+            self.matrices.push(matrix)?;
             limit = limit.saturating_add(1);
         }
         let is_known = have_one_upper_plan(&self.marks, &level.marks)
@@ -110,7 +117,7 @@ impl Watch {
         for owner in network.owners() {
             if let Some(candidate) = *owner
                 && level.marks.get(candidate) == Mark::Open
-                && bearing.strength(network, &level.upper, limit) > BROKEN
+                && bearing.is_above(network, &level.upper, limit, BROKEN)
             {
                 return Some(Forced {
                     candidate,
@@ -159,13 +166,13 @@ impl Watch {
         bearing.look_at(network, &level.upper, candidate, ONE)?;
         let mut tightest = 0i64;
         let mut limit = 0u32;
-        for strength in self.strengths.as_slice() {
+        for (strength, matrix) in self.strengths.iter().zip(self.matrices.as_slice()) {
             if *strength > 0 {
-                let after = bearing.strength(network, &level.upper, limit);
-                if after > BROKEN {
+                let after = bearing.changed(network, limit, *matrix);
+                if after.is_above(BROKEN) {
                     return Ok(true);
                 }
-                tightest = tightest.max(part_taken(*strength, after));
+                tightest = tighter(tightest, *strength, after);
             }
             limit = limit.saturating_add(1);
         }
@@ -189,10 +196,15 @@ fn have_one_upper_plan(first: &Marks, second: &Marks) -> bool {
     true
 }
 
-// The part of what a limit has left that goes where its strength rises.
-fn part_taken(before: i64, after: i64) -> i64 {
+// The part of what a limit has left that goes where its strength rises, where it is more than
+// `tightest`; else that.
+fn tighter(tightest: i64, before: i64, after: LimitMatrix) -> i64 {
     let left = ONE.wrapping_sub(before).max(LEAST_LEFT);
-    quotient(after.wrapping_sub(before), left)
+    let reached = before.saturating_add(product(tightest, left));
+    if !after.is_above(reached) {
+        return tightest;
+    }
+    tightest.max(quotient(after.strength().wrapping_sub(before), left))
 }
 
 /// Marks of the plan of all candidates whose share is past `least`, or inside.

@@ -2,7 +2,7 @@ use crate::marks::{Mark, Marks};
 use crate::network::ScaledNetwork;
 use fixed_point::ONE;
 use geo_base::NoMemory;
-use plan_inverse::{Inverse, InverseChange};
+use plan_inverse::{Inverse, InverseChange, LimitMatrix};
 use std::alloc::Global;
 use weak_direction::{Factor, Weakest, common_shift};
 
@@ -126,7 +126,36 @@ impl Bearing {
         inverse.strength(network.squares(limit), &self.change)
     }
 
-    /// Finds that direction, and answers the load over the energy there.
+    /// What a limit bears before any change.
+    pub fn limit_matrix(
+        &self,
+        network: &ScaledNetwork,
+        inverse: &Inverse,
+        limit: u32,
+    ) -> LimitMatrix {
+        inverse.limit_matrix(network.squares(limit))
+    }
+
+    /// What a limit bears after the change that is looked at, where this is what it bears before.
+    pub fn changed(&self, network: &ScaledNetwork, limit: u32, before: LimitMatrix) -> LimitMatrix {
+        self.change.changed(network.squares(limit), before)
+    }
+
+    /// Whether the load over the energy of a limit is more than a number, in the direction that bears it
+    /// worst, after the change that is looked at.
+    pub fn is_above(
+        &self,
+        network: &ScaledNetwork,
+        inverse: &Inverse,
+        limit: u32,
+        number: i64,
+    ) -> bool {
+        let before = self.limit_matrix(network, inverse, limit);
+        self.changed(network, limit, before).is_above(number)
+    }
+
+    /// Finds the direction that bears a limit worst after that change, and answers the load over the
+    /// energy there.
     pub fn find_direction(
         &mut self,
         network: &ScaledNetwork,

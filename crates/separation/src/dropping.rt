@@ -141,10 +141,11 @@ impl Dropping {
         strength: i64,
     ) -> Option<Gain> {
         let squares = network.squares(limit);
+        let before = inverse.limit_matrix(squares);
         let mut best = None;
         let mut most = LEAST_GAIN;
         for (place, part) in self.parts.iter().take(self.count).enumerate() {
-            let after = inverse.strength(squares, &part.change);
+            let after = part.change.changed(squares, before).strength();
             let gain = gain_of(strength, after, part.share);
             if gain > most {
                 most = gain;
@@ -162,12 +163,13 @@ impl Dropping {
         limit: u32,
         strength: i64,
     ) -> Result<Option<Gain>, NoMemory> {
+        let before = bearing.limit_matrix(network, &self.reduced, limit);
         let mut best = None;
         let mut most = LEAST_GAIN;
         for (place, part) in self.parts.iter().take(self.count).enumerate() {
             if !part.is_out {
                 bearing.look_at(network, &self.reduced, part.candidate, part.share)?;
-                let after = bearing.strength(network, &self.reduced, limit);
+                let after = bearing.changed(network, limit, before).strength();
                 let gain = gain_of(strength, after, part.share);
                 if gain > most {
                     most = gain;

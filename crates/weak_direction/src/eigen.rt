@@ -37,6 +37,25 @@ pub fn greatest_eigenvalue(a: i64, b: i64, c: i64) -> Greatest {
     }
 }
 
+/// The greatest eigenvalue of that matrix alone.
+pub fn greatest_value(a: i64, b: i64, c: i64) -> i64 {
+    let half_difference = (a >> 1).wrapping_sub(c >> 1);
+    let half_sum = (a >> 1).wrapping_add(c >> 1);
+    let squares = square(half_difference).saturating_add(square(b));
+    half_sum.wrapping_add(root(squares).min(1 << 62) as i64)
+}
+
+/// Whether the greatest eigenvalue of that matrix is above a number: no root is taken.
+pub fn has_value_above(a: i64, b: i64, c: i64, number: i64) -> bool {
+    let first = number.saturating_sub(a);
+    let second = number.saturating_sub(c);
+    if first < 0 || second < 0 {
+        return true;
+    }
+    let product = (first as i128).wrapping_mul(second as i128);
+    product < (b as i128).wrapping_mul(b as i128)
+}
+
 fn square(number: i64) -> u128 {
     let size = number.unsigned_abs() as u128;
     size.saturating_mul(size)

@@ -15,7 +15,7 @@ mod form;
 mod scaling;
 mod weakest;
 
-pub use eigen::{Greatest, greatest_eigenvalue};
+pub use eigen::{Greatest, greatest_eigenvalue, greatest_value, has_value_above};
 pub use factor::Factor;
 pub use form::{Form, FormTerm, common_shift, lifted};
 pub use scaling::Scaling;
