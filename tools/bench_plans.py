@@ -6,7 +6,8 @@ told.
 
 PROGRAM is crates/geoplan_cli/out/geoplan_cli after `rt run` there. COMMAND is a program with its arguments, in which
 {points}, {candidates}, {redundancy} and {log} stand for the files and the number; what it prints has the word `cost` or
-`NOPLAN` or `no plan` in it, and may have `nodes`. WORD is `small` (the default), `middle`, `all`, or `large`, which has
+`NOPLAN` or `no plan` in it. Nodes are counted in the log that a program writes: its splits and leaves; where it writes
+none, they are those that it prints after `nodes`, if any. WORD is `small` (the default), `middle`, `all`, or `large`, which has
 the rows of `all` that `middle` hasn't; each run is ended after N seconds (60), and the least time of so many runs (1)
 counts. Seconds are of the processor, the log included. With --check each log that PROGRAM ended is replayed by its
 `check`, and a last column has those seconds.
@@ -26,11 +27,11 @@ import tempfile
 
 import plan_networks
 
-# Kind, size, factor of the limits, redundancy in thousandths. The seed is 1.
-SMALL = [("level", 8, 1.5), ("trilat", 8, 1.5), ("gnss", 8, 1.5), ("mixed", 4, 1.5)]
-MIDDLE = [("level", 12, 1.5), ("trilat", 12, 1.5), ("gnss", 10, 1.5), ("gnss", 12, 1.5), ("mixed", 6, 1.5)]
-LARGE = [("level", 16, 1.2), ("level", 16, 1.5), ("trilat", 16, 1.5), ("gnss", 15, 1.2), ("gnss", 15, 1.5)]
-LARGE += [("mixed", 8, 1.2), ("mixed", 8, 1.5)]
+# Kind, size, factor of the limits. The seed is 1; each is planned with a redundancy of 0 and of 0.200.
+SMALL = [(kind, size, factor) for kind, size in (("level", 8), ("trilat", 8), ("gnss", 8), ("mixed", 4)) for factor in (1.2, 1.5)]
+MIDDLE = [(kind, size, factor) for kind, size in (("level", 12), ("trilat", 12), ("gnss", 10), ("gnss", 12), ("mixed", 6))
+          for factor in (1.2, 1.5)]
+LARGE = [(kind, size, factor) for kind, size in (("level", 16), ("trilat", 16), ("gnss", 15), ("mixed", 8)) for factor in (1.2, 1.5)]
 WITH_STATIONS = [("mixed", 4, 1.5), ("mixed", 5, 1.5), ("mixed", 6, 1.5), ("mixed", 6, 1.2), ("mixed", 8, 1.2)]
 ROWS = {"small": SMALL, "middle": SMALL + MIDDLE, "large": LARGE, "all": SMALL + MIDDLE + LARGE}
 
@@ -86,7 +87,7 @@ def measured(command, seconds, runs, folder):
         spent, text, is_ended = processor_seconds(command, seconds, folder)
         nodes, lines = log_counts(log)
         told = re.search(r"\bnodes (\d+)", text)
-        run = Run(answer_of(text), told.group(1) if told else nodes, lines, spent, is_ended)
+        run = Run(answer_of(text), nodes if lines else told and told.group(1), lines, spent, is_ended)
         if best is None or run.seconds < best.seconds:
             best = run
     return best
@@ -122,7 +123,7 @@ def print_row(row, redundancy, words):
     costs = {run.cost for _name, run in runs if run.cost}
     doubt = " | COSTS DIFFER" if len(costs) > 1 else ""
     print("| %s-%d-%s | %d | %d | %s |%s" % (kind, size, factor, redundancy, count, cells, doubt), flush=True)
-    return {name: run.seconds for name, run in runs if run.is_ended and run.cost}
+    return {name: run for name, run in runs if run.is_ended and run.cost}
 
 
 def times(more, less, least):
@@ -155,14 +156,22 @@ def print_stations_table(words):
             print_stations_row(row, redundancy, words)
 
 
+def mean_of(pairs, least):
+    """The geometric mean of the ratios of pairs of numbers, none of which counts less than `least`."""
+    return math.exp(sum(math.log(max(float(a), least) / max(float(b), least)) for a, b in pairs) / len(pairs))
+
+
 def print_means(rows, names):
-    """For each kind and other program the geometric mean of the seconds of geoplan over its own, where both ended."""
+    """For each kind and other program the geometric means of the seconds and nodes of geoplan over its own, where both ended."""
     for name in names[1:]:
         for kind in plan_networks.KINDS:
-            pairs = [(spent["geoplan"], spent[name]) for of, spent in rows if of == kind and len({"geoplan", name} & set(spent)) == 2]
-            if pairs:
-                mean = math.exp(sum(math.log(max(a, 0.005) / max(b, 0.005)) for a, b in pairs) / len(pairs))
-                print("%s: geoplan takes %.2f times the seconds of %s (%d networks)" % (kind, mean, name, len(pairs)))
+            both = [(runs["geoplan"], runs[name]) for of, runs in rows if of == kind and len({"geoplan", name} & set(runs)) == 2]
+            if not both:
+                continue
+            seconds = mean_of([(own.seconds, other.seconds) for own, other in both], 0.005)
+            counted = [(own.nodes, other.nodes) for own, other in both if own.nodes and other.nodes]
+            nodes = "%.2f times the nodes" % mean_of(counted, 1) if counted else "nodes aren't told"
+            print("%s: geoplan takes %.2f times the seconds of %s, %s (%d networks)" % (kind, seconds, name, nodes, len(both)))
 
 
 def main():
