@@ -1,7 +1,7 @@
 //! The answer of a search that is over.
 ghost use Rattle.std.specs.Prelude.{◌≡◌};
 ghost use Rattle.limit_stacks.specs.Kept.{IsVerdictsOf};
-ghost use Rattle.branch_bound.specs.Found.{IsTrueBest, IsAnswerOf};
+ghost use Rattle.branch_bound.specs.Found.{IsTrueBest, IsAnswerOf, IsLeftOpen};
 ghost use Rattle.branch_bound.specs.Searched.{IsUnsettled, IsFirstOpen};
 
 use crate::best::Best;
@@ -23,6 +23,22 @@ fn first_open(verdicts: &mut SearchVerdicts, network: &Network, plan: &Plan) -> 
     unreachable!()
 }
 
+/// The answer that an unsettled plan makes.
+fn left_open(verdicts: &mut SearchVerdicts, network: &Network, plan: Plan) -> Answer
+    requires verdicts { IsVerdictsOf network.now verdicts.old }
+    requires unsettled { IsUnsettled network.now plan }
+    ensures { IsLeftOpen network.now plan result }
+{
+    let found = first_open(verdicts, network, &plan);
+    Answer::Undecided {
+        plan,
+        limit: found.limit,
+        step: found.step,
+        lo: found.lo,
+        hi: found.hi,
+    }
+}
+
 /// The answer that the best plan makes.
 pub fn answer_of(verdicts: &mut SearchVerdicts, network: &Network, best: Best) -> Answer
     requires verdicts { IsVerdictsOf network.now verdicts.old }
@@ -32,15 +48,6 @@ pub fn answer_of(verdicts: &mut SearchVerdicts, network: &Network, best: Best) -
     match best {
         Best::NoPlan => Answer::NoPlan,
         Best::Certified(plan) => Answer::Best(plan),
-        Best::Unsettled(plan) => {
-            let found = first_open(verdicts, network, &plan);
-            Answer::Undecided {
-                plan,
-                limit: found.limit,
-                step: found.step,
-                lo: found.lo,
-                hi: found.hi,
-            }
-        }
+        Best::Unsettled(plan) => left_open(verdicts, network, plan),
     }
 }
