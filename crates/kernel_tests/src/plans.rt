@@ -11,7 +11,7 @@ use geo_model::{Network, Plan, cost};
 use local_search::first_plan;
 use plan_inverse::Inverse;
 use plan_moves::{MovedPlan, Rest, WitnessFinder};
-use scaled_network::{Bearing, Marks, ScaledNetwork};
+use scaled_network::{Bearing, Mark, Marks, ScaledNetwork};
 use std::alloc::Global;
 use std::test::Fail;
 use test_networks::{CaseTables, ONE_HEIGHT, height_at_stations, network_of};
@@ -169,12 +169,11 @@ const WITNESSES: [WitnessCase; 8] = [
 fn plan_without(alloc: Global, network: &Network, missing: &[u32]) -> Result<Plan, NoMemory>
     ensures { IfOk result (λ plan. length plan ≡ length network.now.candidates) }
 {
-    let count = network.candidates().len() as u32;
-    let mut plan = Plan::empty(alloc, count)?;
-    for candidate in 0..count {
-        plan.set(candidate, !missing.contains(&candidate));
+    let mut marks = all_of(alloc, network)?;
+    for candidate in missing {
+        marks.set(*candidate, Mark::Outside);
     }
-    Ok(plan)
+    marks.plan(alloc, network)
 }
 
 // Whether a plan is that of some candidates.
