@@ -1,5 +1,5 @@
 -- Matrices whose entries beside the diagonal are small against it, and steps that leave such a matrix.
-use Rattle.std.proofs.Common.{◌≡◌, ◌≢◌, ℕ, zero, suc, ◌+◌, ◌*◌, ◌<◌, ◌≤◌, inl, inr, cond, List, [], ◌∷◌, map, length, refl, sym, ◌∙◌, ap, ap₂, subst, arith, ℤ, pos, negsuc, ◌+ℤ◌, ◌-ℤ◌, ◌*ℤ◌, ◌≤ℤ◌, ◌<ℤ◌}
+use Rattle.std.proofs.Common.{◌≡◌, ◌≢◌, ℕ, zero, suc, ◌+◌, ◌*◌, ◌<◌, ◌≤◌, inl, inr, cond, List, [], ◌∷◌, map, length, refl, sym, ◌∙◌, ap, ap₂, subst, arith, ℤ, pos, negsuc, ◌+ℤ◌, ◌-ℤ◌, ◌*ℤ◌, neg_ℤ, ◌≤ℤ◌, ◌<ℤ◌}
 use Rattle.std.specs.Prelude.{unsigned_abs}
 use Rattle.std.proofs.lemmas.Int.{ints}
 use Rattle.std.proofs.lemmas.Bool.{cases_lt}
@@ -38,9 +38,9 @@ sum_at_most (suc n) ((a ∷ b) ∷ rest) zero c t right above =
     let le = row_at_most b c n (omega (arith, t.0)) right in
     omega (arith, ints)
 sum_at_most (suc n) ((a ∷ b) ∷ rest) (suc i) c t right above =
-    let one = above zero i refl in
+    let one = above zero i (omega arith) in
     let same = at-map size_of refl b i in
-    let more = sum_at_most n rest i c t.1 right (λ j k e. above (suc j) k (ap suc e)) in
+    let more = sum_at_most n rest i c t.1 right (λ j k e. above (suc j) k (omega (arith, e))) in
     let split = at-plus_lists (map size_of b) (off_sums (entries size_of rest)) i in
     omega (arith, ints)
 
@@ -77,14 +77,80 @@ step_nonneg a b m r x y above h k =
 
 -- ---- rows that were taken
 -- so much is allowed beside a diagonal whose number in the pivot's row is p
-allowed : ℤ → ℤ → ℕ
+abbrev allowed : ℤ → ℤ → ℕ
 allowed a p = cond (is_zero p) 0 (2 * unsigned_abs a)
 
-nearly_small : (a p q s d e : ℤ) → IsNearly a p q d → e ≡ a *ℤ d -ℤ p *ℤ q → (s ≡ p) → unsigned_abs e ≤ allowed a s
-unfolding allowed
-nearly_small a (pos zero) q s d e h is same = rw same (rw is (let none = h.none_left refl in zero_by d none))
+small_left : (a p q d : ℤ) → IsNearly a p q d → unsigned_abs (a *ℤ d -ℤ p *ℤ q) ≤ allowed a p
+small_left a (pos zero) q d h = zero_by a q d (h.none_left refl)
   where
-    zero_by : (d : ℤ) → d ≡ pos 0 → unsigned_abs (a *ℤ d -ℤ pos 0 *ℤ q) ≤ 0
-    zero_by d none = rw none (omega (arith, ints))
-nearly_small a (pos (suc n)) q s d e h is same = rw same (rw is h.near)
-nearly_small a (negsuc n) q s d e h is same = rw same (rw is h.near)
+    zero_by : (a q d : ℤ) → d ≡ pos 0 → unsigned_abs (a *ℤ d -ℤ pos 0 *ℤ q) ≤ 0
+    zero_by a q d none = rw none (omega (arith, ints))
+small_left a (pos (suc n)) q d h = h.near
+small_left a (negsuc n) q d h = h.near
+
+small_right : (a p q d : ℤ) → IsNearly a p q d → unsigned_abs (a *ℤ d -ℤ p *ℤ q) ≤ allowed a q
+small_right a p (pos zero) d h = zero_by a p d (h.none_right refl)
+  where
+    zero_by : (a p d : ℤ) → d ≡ pos 0 → unsigned_abs (a *ℤ d -ℤ p *ℤ pos 0) ≤ 0
+    zero_by a p d none = rw none (omega (arith, ints))
+small_right a p (pos (suc n)) d h = h.near
+small_right a p (negsuc n) d h = h.near
+
+head_low : (a p d : ℤ) → pos 0 <ℤ a → (p ≢ pos 0 → (pos 128 *ℤ a) ≤ℤ (a *ℤ d -ℤ p *ℤ p)) → (p ≡ pos 0 → d ≡ pos 0) → pos (64 * allowed a p) ≤ℤ (a *ℤ d -ℤ p *ℤ p)
+head_low a (pos zero) d above low still = rw (still refl) (omega (arith, ints))
+head_low a (pos (suc n)) d above low still = let h = low (λ e. absurd (cc)) in omega (arith, ints)
+head_low a (negsuc n) d above low still = let h = low (λ e. absurd (cc)) in omega (arith, ints)
+
+triangle-minus : (n : ℕ) (m r : List (List ℤ)) → IsTriangle n m → IsTriangle n r → IsTriangle n (minus_matrix m r)
+triangle-minus n m r t u = plus n m (entries (λ z. neg_ℤ z) r) t (triangle-entries (λ z. neg_ℤ z) n r u)
+  where
+    plus : (n : ℕ) (m r : List (List ℤ)) → IsTriangle n m → IsTriangle n r → IsTriangle n (plus_matrix m r)
+    plus zero [] r t u = u
+    plus zero (p ∷ m) r t u = absurd t
+    plus (suc n) [] r t u = absurd t
+    plus (suc n) (p ∷ m) [] t u = absurd u
+    plus (suc n) (p ∷ m) (q ∷ r) t u = (length-plus_lists p q (suc n) t.0 u.0, plus n m r t.1 u.1)
+
+past_taken : (a : ℤ) (b : List ℤ) (i : ℕ) → at b i ≡ pos 0 → IsTakenRow a b i [] []
+past_taken a b i none = record {
+  long = refl;
+  right = λ m. record { near = rw none (omega (arith, ints)); none_left = λ e. refl; none_right = λ e. refl };
+  head = λ some. absurd (some none);
+  still = λ e. refl;
+}
+
+past_end : (b : List ℤ) (i : ℕ) → length b ≤ i → at b i ≡ pos 0
+past_end [] i le = refl
+past_end (z ∷ b) zero le = absurd (omega arith)
+past_end (z ∷ b) (suc i) le = past_end b i (omega arith)
+
+taken_dominant : (n : ℕ) (a : ℤ) (b : List ℤ) (m r : List (List ℤ)) → pos 0 <ℤ a → length b ≡ n → n ≤ 64 → IsTriangle n m → IsTriangle n r
+    → ((i : ℕ) → i < n → IsTakenRow a b i (row_at m i) (row_at r i)) → IsDominant (schur a b (minus_matrix m r))
+taken_dominant n a b m r above long few t u taken =
+    dominant_by n (schur a b (minus_matrix m r)) (λ i. allowed a (at b i)) (triangle-schur a n b (minus_matrix m r) long (triangle-minus n m r t u)) few
+    (λ i k. rw (value i (suc k)) (small_left a (at b i) (at b (i + suc k)) (at (row_at m i) (suc k) -ℤ at (row_at r i) (suc k)) ((each i).right k)))
+    (λ i k. rw (value i (suc k)) (small_right a (at b i) (at b (i + suc k)) (at (row_at m i) (suc k) -ℤ at (row_at r i) (suc k)) ((each i).right k)))
+    (λ i. rw (value i 0 ∙ ap (λ j. a *ℤ (at (row_at m i) 0 -ℤ at (row_at r i) 0) -ℤ at b i *ℤ at b j) (none_more i))
+    (head_low a (at b i) (at (row_at m i) 0 -ℤ at (row_at r i) 0) above ((each i).head) (λ e. same_zero (at (row_at m i) 0) (at (row_at r i) 0) ((each i).still e))))
+  where
+    none_more : (i : ℕ) → i + 0 ≡ i
+    none_more i = omega arith
+
+    same_zero : (p q : ℤ) → q ≡ p → p -ℤ q ≡ pos 0
+    same_zero p q e = omega (arith, ints)
+
+    value : (i k : ℕ) → at (row_at (schur a b (minus_matrix m r)) i) k ≡ a *ℤ (at (row_at m i) k -ℤ at (row_at r i) k) -ℤ at b i *ℤ at b (i + k)
+    value i k = at-row_at-schur a b (minus_matrix m r) i k ∙ ap (λ t. a *ℤ t -ℤ at b i *ℤ at b (i + k)) (at-row_at-minus_matrix m r i k)
+
+    each : (i : ℕ) → IsTakenRow a b i (row_at m i) (row_at r i)
+    each i =
+        elim (cases_lt i n) [
+          | inl lt ↦ taken i lt
+          | inr le ↦ rw (row_at-past n m i t le) (rw (row_at-past n r i u le) (past_taken a b i (past_end b i (omega arith))))
+        ]
+
+-- where what a step leaves isn't negative, neither is the whole
+pub taken_nonneg : (n : ℕ) (a : ℤ) (b : List ℤ) (m r : List (List ℤ)) → pos 0 <ℤ a → length b ≡ n → n ≤ 64 → IsTriangle n m → IsTriangle n r
+    → ((i : ℕ) → i < n → IsTakenRow a b i (row_at m i) (row_at r i)) → ((y : List ℤ) → pos 0 ≤ℤ quad r y) → (x : List ℤ) → pos 0 ≤ℤ quad ((a ∷ b) ∷ m) x
+taken_nonneg n a b m r above long few t u taken h [] = omega (arith, ints)
+taken_nonneg n a b m r above long few t u taken h (x ∷ y) = step_nonneg a b m r x y above (taken_dominant n a b m r above long few t u taken) (h y)

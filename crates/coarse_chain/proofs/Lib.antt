@@ -1,1 +1,4 @@
 pub mod Dominated
+pub mod Halves
+pub mod Nearly
+pub mod Places
