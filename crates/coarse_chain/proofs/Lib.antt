@@ -2,3 +2,4 @@ pub mod Dominated
 pub mod Halves
 pub mod Nearly
 pub mod Places
+pub mod FirstRows

@@ -43,12 +43,19 @@ fn take_first(first: &CoarseRow, rest: &mut [CoarseRow], line: &mut [i64]) -> bo
     let row = first.entries();
     let head = row[0];
     if head <= 0 {
-        return row.iter().all(|z| *z == 0);
+        return is_zero_row(row);
     }
     let Some(pivot) = Pivot::new(head) else {
         return false;
     };
     write_line(pivot, row, line) && take_rows(pivot, row, line, rest)
+}
+
+// Whether all numbers of a row are 0.
+fn is_zero_row(row: &[i64]) -> bool
+    ensures { IsTrue result → All (λ z. z ≡ pos 0) row.now }
+{
+    row.iter().all(|z| *z == 0)
 }
 
 // Writes the multiples of a row. Answers false where one of them is too large.
