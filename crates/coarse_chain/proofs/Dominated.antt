@@ -101,7 +101,7 @@ head_low a (pos zero) d above low still = rw (still refl) (omega (arith, ints))
 head_low a (pos (suc n)) d above low still = let h = low (λ e. absurd (cc)) in omega (arith, ints)
 head_low a (negsuc n) d above low still = let h = low (λ e. absurd (cc)) in omega (arith, ints)
 
-triangle-minus : (n : ℕ) (m r : List (List ℤ)) → IsTriangle n m → IsTriangle n r → IsTriangle n (minus_matrix m r)
+pub triangle-minus : (n : ℕ) (m r : List (List ℤ)) → IsTriangle n m → IsTriangle n r → IsTriangle n (minus_matrix m r)
 triangle-minus n m r t u = plus n m (entries (λ z. neg_ℤ z) r) t (triangle-entries (λ z. neg_ℤ z) n r u)
   where
     plus : (n : ℕ) (m r : List (List ℤ)) → IsTriangle n m → IsTriangle n r → IsTriangle n (plus_matrix m r)

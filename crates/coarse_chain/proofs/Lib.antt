@@ -3,3 +3,4 @@ pub mod Halves
 pub mod Nearly
 pub mod Places
 pub mod FirstRows
+pub mod Below

@@ -66,7 +66,7 @@ still_taken a row column before none = record {
     nothing : (a q z : ℤ) → unsigned_abs (a *ℤ (z -ℤ z) -ℤ pos 0 *ℤ q) ≤ 2 * unsigned_abs a
     nothing a q z = rw (same z) (omega (arith, ints))
 
-nothing_past : (xs : List ℤ) (i : ℕ) → length xs ≤ i → at xs i ≡ pos 0
+pub nothing_past : (xs : List ℤ) (i : ℕ) → length xs ≤ i → at xs i ≡ pos 0
 nothing_past [] i le = refl
 nothing_past (z ∷ xs) zero le = absurd (omega arith)
 nothing_past (z ∷ xs) (suc i) le = nothing_past xs i (omega arith)
