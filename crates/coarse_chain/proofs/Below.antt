@@ -5,6 +5,8 @@ use Rattle.std.proofs.lemmas.Int.{ints}
 use Rattle.std.proofs.lemmas.Bool.{cases_lt}
 use Rattle.std.proofs.lemmas.Nat.{pow-add}
 use Rattle.std.proofs.lemmas.List.{length-map}
+use Rattle.whole_algebra.specs.Rounding.{floor_over}
+use Rattle.whole_algebra.proofs.Rounding.{floor_low, floor_high}
 use Rattle.whole_algebra.specs.Matrices.{at, quad, scale, entries, minus_matrix, IsTriangle, padded}
 use Rattle.whole_algebra.specs.Certificates.{IsDominant}
 use Rattle.whole_algebra.specs.Grid.{row_at, times_lists, scaled}
@@ -21,7 +23,7 @@ use Rattle.geo_model.specs.Row.{Displaced}
 use Rattle.geo_model.specs.Energy.{energy}
 use Rattle.geo_model.specs.Limit.{SquareOf, IsLoad, load}
 use Rattle.geo_model.specs.Network.{NetworkOf, IsNetwork}
-use Rattle.limit_forms.specs.Grid.{order_of, exponent_at, scale_of, scales_of, form_matrix, on_grid}
+use Rattle.limit_forms.specs.Grid.{order_of, exponent_at, scale_of, scales_of, form_matrix, on_grid, grid_step}
 use Rattle.limit_forms.proofs.Orders.{length-order_of}
 use Rattle.limit_forms.proofs.EnergyLoad.{form_is_energy_less}
 use Rattle.limit_forms.proofs.Sizes.{scaled_unknown}
@@ -169,3 +171,36 @@ coarse_meets network plan alpha squares coarse heads bounds limit t long rows h 
   where
     by : (q a l : ℤ) → pos 0 ≤ℤ q → q ≡ a -ℤ l → l ≤ℤ a
     by q a l h e = omega (arith, ints)
+
+-- ---- entries
+-- a floor over the step of the grid, over 256
+pub coarse_by : (g f z : ℤ) → f ≡ floor_over grid_step g → (pos 256 *ℤ z) ≤ℤ f → f <ℤ (pos 256 *ℤ z +ℤ pos 256) → IsCoarse true true g z
+coarse_by g f z e low high =
+    let under = floor_low grid_step g (omega (arith, ints)) in
+    let over = floor_high grid_step g (omega (arith, ints)) in
+    by (floor_over grid_step g) e under over
+  where
+    true≢false : true ≡ false → ⊥
+    true≢false e = cc
+
+    by : (q : ℤ) → f ≡ q → (grid_step *ℤ q) ≤ℤ g → g <ℤ (grid_step *ℤ q +ℤ grid_step) → IsCoarse true true g z
+    by q e under over = record {
+      low = omega (arith, ints);
+      high = omega (arith, ints);
+      none_first = λ no. absurd (true≢false no);
+      none_second = λ no. absurd (true≢false no);
+    }
+
+-- an entry that is 0
+pub coarse_none : (first second : Bool) (g : ℤ) → g ≡ pos 0 → IsCoarse first second g (pos 0)
+coarse_none first second g none = rw none (coarse_past first second)
+
+pub coarse_both : (both first second : Bool) (g z : ℤ) → IsCoarse both both g z → (first ≡ false → both ≡ false) → (second ≡ false → both ≡ false) → IsCoarse first second g z
+coarse_both both first second g z h f s = record { low = h.low; high = h.high; none_first = λ e. h.none_first (f e); none_second = λ e. h.none_first (s e) }
+
+-- a diagonal entry that is lowered
+pub head_low : (g z w : ℤ) → (coarse_step *ℤ z) ≤ℤ g → w ≤ℤ z → (coarse_step *ℤ w) ≤ℤ g
+head_low g z w low le = omega (arith, ints)
+
+pub head_far : (g z w : ℤ) → (coarse_step *ℤ z) ≤ℤ g → w ≡ z -ℤ pos 64 → (pos 64 *ℤ coarse_step) ≤ℤ (g -ℤ coarse_step *ℤ w)
+head_far g z w low e = omega (arith, ints)

@@ -62,3 +62,13 @@ row_there rows i z lt e = e ∙ same rows i z lt
     same [] i z lt = absurd (omega arith)
     same (r ∷ rows) zero z lt = refl
     same (r ∷ rows) (suc i) z lt = same rows i z (omega arith)
+
+-- right of the diagonal
+pub right_written : (P : ℕ → ℤ → Type 0) (row : List ℤ) (m : ℕ) (z : ℤ) → m < length row → P m z → ((i : ℕ) → 1 ≤ i → i < m → P i (at row i))
+    → (i : ℕ) → 1 ≤ i → i < m + 1 → P i (at (set row m z) i)
+right_written P row m z inside is so_far i one lt =
+    elim (cases_lt i m) [
+      | inl less ↦ subst (P i) (sym (get_or-set_other row m i z (pos 0) (λ e. absurd (omega arith)))) (so_far i one less)
+      | inr le ↦ (let here : m ≡ i = omega arith in
+          subst (λ (j : ℕ). P j (at (set row m z) j)) here (subst (P m) (sym (get_or-set_same row m z (pos 0) inside)) is))
+    ]
