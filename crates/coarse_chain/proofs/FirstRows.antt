@@ -87,3 +87,16 @@ rest_small rows first rest e few size i m =
   where
     by : (n k s z : ℕ) → n ≡ suc k → z ≤ (65 - n) * 2 ^ 55 → z ≡ s → s ≤ (64 - k) * 2 ^ 55
     by n k s z some h g = omega arith
+
+-- ---- matrices by their rows
+pub triangle_by_lengths : (n : ℕ) (m : List (List ℤ)) → length m ≡ n → ((i : ℕ) → i < length m → length (row_at m i) + i ≡ n) → IsTriangle n m
+triangle_by_lengths zero [] e h = tt
+triangle_by_lengths zero (p ∷ m) e h = absurd (omega arith)
+triangle_by_lengths (suc n) [] e h = absurd (omega arith)
+triangle_by_lengths (suc n) (p ∷ m) e h =
+    (let first = h zero (omega arith) in omega arith, triangle_by_lengths n m (omega arith) (λ i lt. let later = h (suc i) (omega arith) in omega arith))
+
+pub all_small : (m : List (List ℤ)) → ((i : ℕ) → i < length m → (k : ℕ) → unsigned_abs (at (row_at m i) k) ≤ 2 ^ 55) → (i k : ℕ) → unsigned_abs (at (row_at m i) k) ≤ 2 ^ 55
+all_small [] h i k = omega arith
+all_small (p ∷ m) h zero k = h zero (omega arith) k
+all_small (p ∷ m) h (suc i) k = all_small m (λ j lt. h (suc j) (omega arith)) i k

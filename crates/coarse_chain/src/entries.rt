@@ -81,7 +81,7 @@ fn coarse_part(number: i128) -> Option<i64>
 
 // Writes row `k` of the coarse matrix, from the diagonal on, where `heads` tells which rows have room.
 // Answers false where an entry is too large, or isn't 0 in a row without room.
-fn write_row(entries: &mut [i64], form: &Grids<'_>, k: u32, heads: &[bool]) -> bool
+pub(crate) fn write_row(entries: &mut [i64], form: &Grids<'_>, k: u32, heads: &[bool]) -> bool
     requires made { IsMade form.now }
     requires long { length entries.old + k ≡ length form.now.network.now.unknowns }
     requires few { length form.now.network.now.unknowns ≤ 64 }

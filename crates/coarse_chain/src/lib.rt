@@ -1,13 +1,12 @@
-//! A quick chain.
+//! A quick chain, that shows a limit to be met where it doesn't stop.
 #![tactic(auto)]
 
 mod chain;
 mod entries;
 mod half;
+mod matrix;
 mod pivot;
+mod room;
 mod row;
-pub use chain::is_nonnegative;
-pub use entries::entry_at;
-pub use half::upper_half;
-pub use pivot::Pivot;
-pub use row::CoarseRow;
+
+pub use room::CoarseRoom;

@@ -1,11 +1,15 @@
 //! A row of the matrices of a quick chain.
 ghost use Rattle.std.specs.Prelude.{◌≡◌, ℕ, suc, ◌+◌, ◌*◌, ◌<◌, ◌≤◌, ◌^◌, pos, ◌-ℤ◌, ◌*ℤ◌, length, replicate, unsigned_abs, IfOk, IsTrue};
 ghost use Rattle.whole_algebra.specs.Matrices.{at};
+ghost use Rattle.pivot_chain.specs.Judging.{IsMade};
+ghost use Rattle.coarse_chain.specs.Coarse.{grid_of_form, IsCoarseRow};
 ghost use Rattle.coarse_chain.specs.Steps.{IsTakenRow, IsUpperHalf, IsLine};
 
+use crate::entries::write_row;
 use crate::half::upper_half;
 use crate::pivot::Pivot;
 use geo_base::NoMemory;
+use pivot_chain::Grids;
 use std::alloc::Global;
 use std::marker::Model;
 
@@ -58,6 +62,23 @@ impl CoarseRow {
         ensures long { length self.new ≡ length self.old }
     {
         take_row(self.entries.as_mut_slice(), pivot, row, line, column)
+    }
+
+    /// Writes row `k` of the coarse matrix. Answers false where an entry is too large, or isn't 0 in a
+    /// row without room.
+    pub fn write(&mut self, form: &Grids<'_>, k: u32, heads: &[bool]) -> bool
+        requires made { IsMade form.now }
+        requires inside { k < length form.now.network.now.unknowns }
+        requires few { length form.now.network.now.unknowns ≤ 64 }
+        requires heads { length heads.now ≡ length form.now.network.now.unknowns }
+        ensures row { IsTrue result → IsCoarseRow (grid_of_form form.now) heads.now k self.new }
+        ensures size { IsTrue result → (m : ℕ) → unsigned_abs (at self.new m) ≤ 2 ^ 55 }
+        ensures long { IsTrue result → length self.new + k ≡ length form.now.network.now.unknowns }
+    {
+        if self.entries.len() != heads.len() - k as usize {
+            return false;
+        }
+        write_row(self.entries.as_mut_slice(), form, k, heads)
     }
 }
 
