@@ -39,7 +39,9 @@ impl Pivot {
         if !are_whole(near, far) {
             return None;
         }
-        let fine = 62u32.saturating_add(bits).saturating_sub(64u32.saturating_sub(shift));
+        let fine = 61u32
+            .saturating_add(bits)
+            .saturating_sub(64u32.saturating_sub(shift));
         Some(Pivot {
             head,
             near,
@@ -81,12 +83,12 @@ impl Pivot {
     }
 }
 
-// 1 over a number of so many bits, with as many fractional bits and 62 more.
+// 1 over a number of so many bits, with as many fractional bits and 61 more.
 #[inline(always)]
 fn inverse_of(head: i64, bits: u32) -> i64
     requires { pos 0 <ℤ head }
 {
-    let scaled = 1i128.wrapping_shl(62u32.saturating_add(bits).min(126));
+    let scaled = 1i128.wrapping_shl(61u32.saturating_add(bits).min(126));
     lower_half(scaled.wrapping_div(head as i128))
 }
 

@@ -34,6 +34,17 @@ impl Model for CoarseRoom {
     ghost view = { λ room. record { normal = room.normal; grid = room.grid; diagonal = room.diagonal.items; rows = room.rows.items; line = room.line.items; heads = room.heads.items } };
 }
 
+// The rows of a matrix of so many.
+fn coarse_rows(alloc: Global, n: u32) -> Result<Vec<CoarseRow>, NoMemory>
+    ensures { IfOk result (λ rows. length rows.items ≡ n) }
+{
+    let mut rows = Vec::new(alloc);
+    for k in 0..n {
+        rows.push(CoarseRow::zeros(alloc, n - k)?)?;
+    }
+    Ok(rows)
+}
+
 impl CoarseRoom {
     /// A room for a network. Refused for want of memory alone.
     pub fn new(alloc: Global, network: &Network) -> Result<CoarseRoom, NoMemory>
@@ -43,10 +54,7 @@ impl CoarseRoom {
         let normal = Normal::new(alloc, network)?;
         let grid = LimitGrid::new(alloc, network, 1, &[])?;
         let diagonal = full_diagonals(alloc, network)?;
-        let mut rows = Vec::new(alloc);
-        for k in 0..n as u32 {
-            rows.push(CoarseRow::zeros(alloc, n as u32 - k)?)?;
-        }
+        let rows = coarse_rows(alloc, n as u32)?;
         let line = vec![in alloc; 0i64; n]?;
         let heads = vec![in alloc; false; n]?;
         Ok(CoarseRoom {
