@@ -1,5 +1,5 @@
 -- A coarse matrix lies below the form.
-use Rattle.std.proofs.Common.{◌≡◌, ◌≢◌, ℕ, zero, suc, ◌+◌, ◌-◌, ◌*◌, ◌^◌, ◌<◌, ◌≤◌, inl, inr, cond, Bool, true, false, List, [], ◌∷◌, map, length, replicate, get_or, refl, sym, ◌∙◌, ap, ap₂, subst, arith, ℤ, pos, negsuc, ◌+ℤ◌, ◌-ℤ◌, ◌*ℤ◌, neg_ℤ, ◌≤ℤ◌, ◌<ℤ◌}
+use Rattle.std.proofs.Common.{◌≡◌, ℕ, zero, suc, ◌+◌, ◌-◌, ◌*◌, ◌^◌, ◌<◌, ◌≤◌, inl, inr, cond, Bool, true, false, List, [], ◌∷◌, map, length, replicate, refl, sym, ◌∙◌, ap, ap₂, subst, arith, ℤ, pos, ◌+ℤ◌, ◌-ℤ◌, ◌*ℤ◌, ◌≤ℤ◌, ◌<ℤ◌}
 use Rattle.std.specs.Prelude.{unsigned_abs}
 use Rattle.std.proofs.lemmas.Int.{ints}
 use Rattle.std.proofs.lemmas.Bool.{cases_lt}
@@ -9,9 +9,8 @@ use Rattle.whole_algebra.specs.Rounding.{floor_over}
 use Rattle.whole_algebra.proofs.Rounding.{floor_low, floor_high}
 use Rattle.whole_algebra.specs.Matrices.{at, quad, scale, entries, minus_matrix, IsTriangle, padded}
 use Rattle.whole_algebra.specs.Certificates.{IsDominant}
-use Rattle.whole_algebra.specs.Grid.{row_at, times_lists, scaled}
-use Rattle.whole_algebra.proofs.Ring.{mul_zero}
-use Rattle.whole_algebra.proofs.Order.{mul_nonneg, mul_pos, nonneg_of_mul}
+use Rattle.whole_algebra.specs.Grid.{row_at, times_lists}
+use Rattle.whole_algebra.proofs.Order.{mul_pos, nonneg_of_mul}
 use Rattle.whole_algebra.proofs.FormLaws.{quad-minus_matrix, quad-entries_linear}
 use Rattle.whole_algebra.proofs.Shapes.{triangle-entries, row_at-past, quad-padded, length-padded, length-row_at}
 use Rattle.whole_algebra.proofs.Places.{at-row_at-minus_matrix, at-row_at-entries}

@@ -1,12 +1,11 @@
 -- What the step of a first row says of the whole matrix.
-use Rattle.std.proofs.Common.{◌≡◌, ℕ, zero, suc, ◌+◌, ◌-◌, ◌*◌, ◌^◌, ◌<◌, ◌≤◌, List, [], ◌∷◌, length, refl, sym, ◌∙◌, ap, ap₂, subst, arith, inl, inr, ℤ, pos, ◌+ℤ◌, ◌-ℤ◌, ◌*ℤ◌, ◌≤ℤ◌, ◌<ℤ◌}
+use Rattle.std.proofs.Common.{◌≡◌, ℕ, zero, suc, ◌+◌, ◌-◌, ◌*◌, ◌^◌, ◌<◌, ◌≤◌, List, [], ◌∷◌, length, refl, sym, ◌∙◌, ap, ap₂, subst, arith, ℤ, pos, ◌+ℤ◌, ◌-ℤ◌, ◌*ℤ◌, ◌≤ℤ◌, ◌<ℤ◌}
 use Rattle.std.specs.Prelude.{unsigned_abs, All}
 use Rattle.std.proofs.lemmas.Int.{ints}
-use Rattle.std.proofs.lemmas.Bool.{cases_lt}
 use Rattle.whole_algebra.specs.Sums.{dot}
 use Rattle.whole_algebra.specs.Matrices.{at, quad, row_quad, IsTriangle}
 use Rattle.whole_algebra.specs.Grid.{row_at}
-use Rattle.whole_algebra.proofs.Normal.{ring, x0, x1, lit, ◌⊕◌, ◌⊗◌}
+use Rattle.whole_algebra.proofs.Normal.{ring, x0, lit, ◌⊕◌, ◌⊗◌}
 use Rattle.coarse_chain.specs.Steps.{IsNearly, IsTakenRow}
 use Rattle.coarse_chain.proofs.Dominated.{taken_nonneg}
 

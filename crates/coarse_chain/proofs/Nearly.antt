@@ -1,12 +1,12 @@
 -- What the upper half of a product of a share and a multiple is near to.
-use Rattle.std.proofs.Common.{◌≡◌, ◌≢◌, ℕ, zero, suc, ◌+◌, ◌*◌, ◌^◌, ◌<◌, ◌≤◌, List, [], ◌∷◌, length, refl, sym, ◌∙◌, ap, ap₂, subst, arith, inl, inr, ℤ, pos, negsuc, ◌+ℤ◌, ◌-ℤ◌, ◌*ℤ◌, neg_ℤ, ◌≤ℤ◌, ◌<ℤ◌}
+use Rattle.std.proofs.Common.{◌≡◌, ◌≢◌, ℕ, zero, suc, ◌+◌, ◌*◌, ◌^◌, ◌<◌, ◌≤◌, List, [], ◌∷◌, length, refl, sym, ◌∙◌, ap, ap₂, subst, arith, inl, inr, ℤ, pos, ◌+ℤ◌, ◌-ℤ◌, ◌*ℤ◌, neg_ℤ, ◌≤ℤ◌, ◌<ℤ◌}
 use Rattle.std.specs.Prelude.{unsigned_abs}
 use Rattle.std.proofs.lemmas.Int.{ints}
 use Rattle.std.proofs.lemmas.Bool.{cases_lt}
 use Rattle.whole_algebra.specs.Matrices.{at}
 use Rattle.whole_algebra.proofs.Order.{mul_nonneg, size-mul}
-use Rattle.whole_algebra.proofs.Normal.{ring, x0, x1, x2, x3, x4, x5, x6, x7, ◌⊕◌, ◌⊖◌, ◌⊗◌}
-use Rattle.coarse_chain.specs.Steps.{IsNearly, IsTakenRow, IsUpperHalf, IsLine}
+use Rattle.whole_algebra.proofs.Normal.{ring, x0, x1, x2, x3, x4, x6, x7, ◌⊕◌, ◌⊖◌, ◌⊗◌}
+use Rattle.coarse_chain.specs.Steps.{IsTakenRow, IsUpperHalf, IsLine}
 
 -- the error of the quotient
 pub error_small : (a p q d t l near far : ℤ) → pos 0 <ℤ a → near *ℤ far ≡ pos (2 ^ 64) → l ≡ near *ℤ q → unsigned_abs l ≤ 2 ^ 59

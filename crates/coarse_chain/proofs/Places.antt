@@ -1,8 +1,8 @@
 -- Lists that are written place by place.
-use Rattle.std.proofs.Common.{◌≡◌, ℕ, zero, suc, ◌+◌, ◌*◌, ◌^◌, ◌<◌, ◌≤◌, List, [], ◌∷◌, length, set, get_or, refl, sym, ◌∙◌, ap, subst, arith, inl, inr, FitsSigned, w64, to_z, of_z, ℤ, pos, ◌-ℤ◌, unsigned_abs}
+use Rattle.std.proofs.Common.{◌≡◌, ℕ, zero, suc, ◌+◌, ◌^◌, ◌<◌, ◌≤◌, List, [], ◌∷◌, ◌++◌, length, take, drop, set, get_or, refl, sym, ◌∙◌, subst, arith, inl, inr, FitsSigned, w64, ℤ, pos, ◌-ℤ◌, unsigned_abs}
 use Rattle.std.proofs.lemmas.Int.{ints, fits_signed_from_abs}
 use Rattle.std.proofs.lemmas.Bool.{cases_lt}
-use Rattle.std.proofs.lemmas.List.{get_or-set_same, get_or-set_other}
+use Rattle.std.proofs.lemmas.List.{get_or-set_same, get_or-set_other, length-take-le, length-append}
 use Rattle.whole_algebra.specs.Matrices.{at}
 use Rattle.whole_algebra.specs.Grid.{row_at}
 
@@ -72,3 +72,9 @@ right_written P row m z inside is so_far i one lt =
       | inr le ↦ (let here : m ≡ i = omega arith in
           subst (λ (j : ℕ). P j (at (set row m z) j)) here (subst (P m) (sym (get_or-set_same row m z (pos 0) inside)) is))
     ]
+
+-- a list that was lent for writing is as long as before
+pub refilled_long : {X : Type 0} (n : ℕ) (filled before : List X) → n ≡ length before → length filled ≡ length before → length (take n (filled ++ drop (length filled) before)) ≡ length before
+refilled_long n filled before e f =
+    let all = length-append filled (drop (length filled) before) in
+    length-take-le n (filled ++ drop (length filled) before) (omega (arith, all)) ∙ e

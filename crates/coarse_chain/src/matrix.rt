@@ -14,12 +14,7 @@ use crate::row::CoarseRow;
 use pivot_chain::Grids;
 
 /// Whether the coarse matrix shows that each displacement meets the limit.
-pub fn shows(
-    form: &Grids<'_>,
-    rows: &mut [CoarseRow],
-    line: &mut [i64],
-    heads: &mut [bool],
-) -> bool
+pub fn shows(form: &Grids<'_>, rows: &mut [CoarseRow], line: &mut [i64], heads: &mut [bool]) -> bool
     requires made { IsMade form.now }
     requires rows { length rows.old ≡ length form.now.network.now.unknowns }
     requires line { length line.old ≡ length form.now.network.now.unknowns }

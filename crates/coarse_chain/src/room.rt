@@ -82,13 +82,7 @@ impl CoarseRoom {
     }
 
     // The same of each limit that has this factor and these squares.
-    fn shows_on(
-        &mut self,
-        network: &Network,
-        plan: &Plan,
-        factor: i64,
-        squares: &[Square],
-    ) -> bool
+    fn shows_on(&mut self, network: &Network, plan: &Plan, factor: i64, squares: &[Square]) -> bool
         requires room { IsCoarseRoomOf network.now self.old }
         requires plan { length plan.now ≡ length network.now.candidates }
         requires bounds { IsLoad (length network.now.unknowns) network.now.candidates factor squares.now }

@@ -1,6 +1,3 @@
-use Rattle.std.proofs.Common.{rules, ◌≡◌, ℕ, ◌+◌, ◌-◌, ◌*◌, ◌<◌, ◌≤◌, ◌^◌, length, pos, List, ◌∷◌, ℤ, unsigned_abs, subst, sym, ap, ◌∙◌, arith, refl}
-use Rattle.whole_algebra.specs.Matrices.{at}
-use Rattle.whole_algebra.specs.Grid.{row_at}
 use Rattle.coarse_chain.proofs.FirstRows.{first_small, rest_small}
 use Rattle.coarse_chain.proofs.chain.+is_nonnegative.Goals as goal
 

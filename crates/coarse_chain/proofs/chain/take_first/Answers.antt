@@ -1,6 +1,6 @@
-use Rattle.std.proofs.Common.{rules, ◌≡◌, ℕ, ◌+◌, ◌<◌, ◌≤◌, ◌^◌, length, pos, ◌<ℤ◌, List, ℤ, unsigned_abs, FitsSigned, to_z, of_z, w64, subst, sym, ap, ◌∙◌, arith, refl}
+use Rattle.std.proofs.Common.{◌≡◌, ℕ, ◌+◌, ◌<◌, length, pos, List, ℤ, FitsSigned, to_z, of_z, w64, subst, sym, ap, ◌∙◌, arith}
 use Rattle.std.specs.Prelude.{All, IsTrue}
-use Rattle.std.proofs.lemmas.Int.{ints, to_z-of_z}
+use Rattle.std.proofs.lemmas.Int.{to_z-of_z}
 use Rattle.whole_algebra.specs.Matrices.{at, IsTriangle}
 use Rattle.whole_algebra.specs.Grid.{row_at}
 use Rattle.coarse_chain.specs.Steps.{IsTakenRow}

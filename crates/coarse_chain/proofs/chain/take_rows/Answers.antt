@@ -1,9 +1,9 @@
-use Rattle.std.proofs.Common.{rules, ◌≡◌, ℕ, ◌+◌, ◌-◌, ◌<◌, ◌≤◌, ◌^◌, get_or, length, pos, List, ℤ, unsigned_abs, subst, sym, ap, ◌∙◌, arith, refl, zero, suc, [], ◌∷◌}
+use Rattle.std.proofs.Common.{rules, ◌≡◌, ℕ, ◌+◌, ◌<◌, ◌≤◌, ◌^◌, get_or, length, List, ℤ, unsigned_abs, subst, ap, ◌∙◌, arith, refl, zero, suc, [], ◌∷◌}
 use Rattle.whole_algebra.specs.Matrices.{at}
 use Rattle.whole_algebra.specs.Grid.{row_at}
 use Rattle.whole_algebra.proofs.Shapes.{length-row_at}
 use Rattle.coarse_chain.specs.Steps.{IsTakenRow}
-use Rattle.coarse_chain.proofs.Places.{row_written, row_among, row_ahead, row_there}
+use Rattle.coarse_chain.proofs.Places.{row_written, row_among, row_ahead}
 use Rattle.coarse_chain.proofs.chain.take_rows.Goals as goal
 
 -- the row that is reached is as it was

@@ -1,5 +1,5 @@
-use Rattle.std.proofs.Common.{rules, ◌≡◌, ℕ, ◌+◌, ◌<◌, ◌≤◌, ◌^◌, get_or, length, pos, ◌*ℤ◌, ℤ, unsigned_abs, FitsSigned, to_z, of_z, w64, arith}
-use Rattle.std.proofs.lemmas.Int.{ints, to_z-of_z}
+use Rattle.std.proofs.Common.{◌≡◌, ◌<◌, ◌≤◌, ◌^◌, length, ◌*ℤ◌, unsigned_abs, FitsSigned, w64, arith}
+use Rattle.std.proofs.lemmas.Int.{to_z-of_z}
 use Rattle.whole_algebra.specs.Matrices.{at}
 use Rattle.coarse_chain.proofs.Places.{place_written, narrow}
 use Rattle.coarse_chain.proofs.chain.write_line.Goals as goal

@@ -1,9 +1,9 @@
-use Rattle.std.proofs.Common.{rules, ◌≡◌, ℕ, ◌-◌, ◌*◌, ◌<◌, ◌≤◌, ◌^◌, ℤ, pos, ◌+ℤ◌, ◌-ℤ◌, ◌*ℤ◌, neg_ℤ, ◌≤ℤ◌, ◌<ℤ◌, Bool, List, length, if◌then◌else◌, w32, w64, FitsSigned, Some, ap, sym, ◌∙◌, arith}
+use Rattle.std.proofs.Common.{rules, ◌≡◌, ℕ, ◌-◌, ◌*◌, ◌<◌, ◌≤◌, ◌^◌, ℤ, pos, ◌+ℤ◌, ◌-ℤ◌, ◌*ℤ◌, neg_ℤ, ◌≤ℤ◌, ◌<ℤ◌, Bool, List, length, w32, w64, FitsSigned, Some, ap, sym, ◌∙◌, arith}
 use mir.Syntax.{w128}
-use Rattle.std.specs.Prelude.{slice_get, unsigned_abs, IsTrue, ◌↔◌}
+use Rattle.std.specs.Prelude.{slice_get, unsigned_abs}
 use Rattle.std.proofs.lemmas.Int.{ints, to_z-of_z, fits_signed_from_abs}
-use Rattle.geo_base.specs.Grid.{shift_of, IsWholeShift}
-use Rattle.whole_algebra.specs.Rounding.{floor_over, gap_over}
+use Rattle.geo_base.specs.Grid.{shift_of}
+use Rattle.whole_algebra.specs.Rounding.{floor_over}
 use Rattle.whole_algebra.specs.Matrices.{at}
 use Rattle.whole_algebra.specs.Grid.{row_at}
 use Rattle.whole_algebra.proofs.Ring.{mul_zero}
@@ -12,8 +12,7 @@ use Rattle.geo_model.specs.Network.{NetworkOf, IsNetwork}
 use Rattle.limit_forms.specs.Form.{form_of}
 use Rattle.limit_forms.specs.Grid.{GridOf, grid_of, on_grid, grid_step, scale_of, exponent_at}
 use Rattle.limit_forms.proofs.Sizes.{grid_number, form_limit, number_within}
-use Rattle.limit_forms.proofs.GridEntries.{on_grid-within, entry_limit, floor_within}
-use Rattle.limit_forms.proofs.Shifts.{shifted, gap_told, shift_size}
+use Rattle.limit_forms.proofs.Shifts.{shifted, shift_size}
 use Rattle.limit_forms.proofs.GridReads.{IsRead, IsShift, read_unknown, read_exponent, read_shift, read_number, length-grid_of}
 use Rattle.coarse_chain.proofs.entries.entry_at.Goals as goal
 

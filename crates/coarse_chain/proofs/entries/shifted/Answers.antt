@@ -1,4 +1,4 @@
-use Rattle.std.proofs.Common.{rules, ◌≡◌, ◌^◌, pos, ℤ, ◌≤ℤ◌, unsigned_abs, FitsSigned, to_z, of_z, w32, sym, ap, ◌∙◌, arith}
+use Rattle.std.proofs.Common.{rules, ◌^◌, pos, ◌≤ℤ◌, unsigned_abs, FitsSigned, sym, ◌∙◌}
 use Rattle.std.specs.Int.{w128}
 use Rattle.std.specs.Int.Signed.{shr_z}
 use Rattle.std.proofs.lemmas.Int.{to_z-of_z}

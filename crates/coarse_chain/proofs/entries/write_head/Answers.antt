@@ -1,4 +1,4 @@
-use Rattle.std.proofs.Common.{rules, ◌≡◌, ◌≤◌, ◌^◌, ◌-◌, ℕ, pos, ℤ, ◌-ℤ◌, ◌*ℤ◌, ◌≤ℤ◌, true, set, FitsSigned, w64, to_z, of_z, subst, sym, arith}
+use Rattle.std.proofs.Common.{◌≡◌, ◌-◌, ℕ, pos, ◌-ℤ◌, ◌*ℤ◌, ◌≤ℤ◌, true, FitsSigned, w64, subst, sym, arith}
 use Rattle.std.proofs.lemmas.Int.{to_z-of_z}
 use Rattle.std.proofs.lemmas.List.{get_or-set_same}
 use Rattle.whole_algebra.specs.Matrices.{at}

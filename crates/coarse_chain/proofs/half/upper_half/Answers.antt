@@ -1,4 +1,4 @@
-use Rattle.std.proofs.Common.{rules, ◌≡◌, ◌≤◌, ◌^◌, pos, ◌*ℤ◌, unsigned_abs, arith, FitsSigned, to_z, w64}
+use Rattle.std.proofs.Common.{◌^◌, ◌*ℤ◌, arith, FitsSigned, w64}
 use Rattle.std.specs.Int.{w128}
 use Rattle.std.specs.Int.Signed.{shr_z}
 use Rattle.std.proofs.lemmas.Int.{to_z-of_z, fits_signed_from_abs}

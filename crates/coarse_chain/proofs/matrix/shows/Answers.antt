@@ -1,4 +1,4 @@
-use Rattle.std.proofs.Common.{◌≡◌, ℕ, ◌<◌, length, List, Bool, ℤ, subst, sym, ◌∙◌, arith}
+use Rattle.std.proofs.Common.{ℕ, subst, ◌∙◌, arith}
 use Rattle.whole_algebra.specs.Matrices.{IsTriangle}
 use Rattle.coarse_chain.proofs.Below.{coarse_meets}
 use Rattle.coarse_chain.proofs.matrix.shows.Goals as goal

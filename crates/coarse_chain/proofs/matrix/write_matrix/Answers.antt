@@ -1,7 +1,6 @@
-use Rattle.std.proofs.Common.{rules, ◌≡◌, ℕ, ◌+◌, ◌-◌, ◌<◌, ◌≤◌, ◌^◌, length, pos, List, ℤ, unsigned_abs, set, subst, sym, ap, ◌∙◌, arith, refl}
+use Rattle.std.proofs.Common.{rules, ◌≡◌, ℕ, ◌+◌, ◌<◌, ◌≤◌, ◌^◌, length, unsigned_abs, set, subst, sym, ◌∙◌, arith, refl}
 use Rattle.std.proofs.Math.ListN.{length-set}
 use Rattle.whole_algebra.specs.Matrices.{at, IsTriangle}
-use Rattle.whole_algebra.specs.Grid.{row_at}
 use Rattle.coarse_chain.specs.Coarse.{grid_of_form, IsCoarseRow}
 use Rattle.coarse_chain.proofs.Places.{row_written}
 use Rattle.coarse_chain.proofs.FirstRows.{triangle_by_lengths, all_small}

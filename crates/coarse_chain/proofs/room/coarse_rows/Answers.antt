@@ -1,4 +1,4 @@
-use Rattle.std.proofs.Common.{◌≡◌, ◌+◌, length, ap, arith, length-append}
+use Rattle.std.proofs.Common.{length, ap, arith, length-append}
 use Rattle.coarse_chain.proofs.room.coarse_rows.Goals as goal
 
 pub loop-k-preserved : goal.loop-k-preserved

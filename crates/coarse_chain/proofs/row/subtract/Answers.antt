@@ -1,4 +1,4 @@
-use Rattle.std.proofs.Common.{rules, ◌≡◌, ℕ, ◌+◌, ◌<◌, ◌≤◌, ◌^◌, get_or, length, pos, ◌-ℤ◌, ◌*ℤ◌, ℤ, unsigned_abs, FitsSigned, to_z, of_z, w64, subst, sym, ap, ◌∙◌, arith, refl}
+use Rattle.std.proofs.Common.{◌≡◌, ◌+◌, ◌<◌, ◌≤◌, ◌^◌, get_or, length, pos, ◌-ℤ◌, ◌*ℤ◌, ℤ, unsigned_abs, FitsSigned, w64, subst, sym, ap, ◌∙◌, arith}
 use Rattle.std.proofs.lemmas.Int.{ints, to_z-of_z}
 use Rattle.whole_algebra.specs.Matrices.{at}
 use Rattle.coarse_chain.specs.Steps.{IsUpperHalf}

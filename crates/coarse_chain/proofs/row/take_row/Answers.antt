@@ -1,5 +1,5 @@
-use Rattle.std.proofs.Common.{rules, ◌≡◌, ◌≢◌, ℕ, zero, suc, ◌+◌, ◌<◌, ◌≤◌, ◌^◌, get_or, length, pos, ◌-ℤ◌, ◌*ℤ◌, ℤ, unsigned_abs, FitsSigned, to_z, of_z, w64, subst, sym, ap, ◌∙◌, arith, refl}
-use Rattle.std.proofs.lemmas.Int.{ints, to_z-of_z}
+use Rattle.std.proofs.Common.{◌≡◌, ◌≢◌, pos, FitsSigned, to_z, of_z, w64, ap, arith, refl}
+use Rattle.std.proofs.lemmas.Int.{to_z-of_z}
 use Rattle.whole_algebra.specs.Matrices.{at}
 use Rattle.coarse_chain.proofs.Nearly.{still_taken, share_taken, covered_size}
 use Rattle.coarse_chain.proofs.Places.{narrow}
