@@ -9,6 +9,7 @@ use Rattle.geo_model.specs.Network.{NetworkOf, IsNetwork, IsLimit}
 use Rattle.geo_model.specs.declared.verdict.Verdict.{Verdict}
 use Rattle.geo_model.specs.declared.verdict.Verdict.TheVariants.{Met, Refuted}
 use Rattle.geo_model.proofs.RowLoads.{All-found}
+use Rattle.geo_model.proofs.EnergyLemmas.{MeetsLimit-grows}
 use Rattle.pivot_chain.specs.Verdict.{verdict_of}
 use Rattle.pivot_chain.specs.Certified.{IsMetAt}
 use Rattle.pivot_chain.proofs.Verdicts.{refuted_fails, met_sound}
@@ -39,6 +40,13 @@ witness_of_verdict network plan number verdict bounds long exact met = record {
   meets = λ limit named.
       met_sound network plan limit bounds (All-found (IsLimit network) network.limits number limit named bounds.each_limit) (sym (exact limit named) ∙ met);
 }
+
+-- what a plan within another one meets, the other one meets
+pub larger_meets : (network : NetworkOf) (small plan : List Bool) (number : ℕ) → IsNetwork network → ((l : LimitOf) → slice_get network.limits number ≡ Some l → MeetsLimit network small l) →
+    IsWithin small plan → (l : LimitOf) → slice_get network.limits number ≡ Some l → MeetsLimit network plan l
+larger_meets network small plan number bounds meets within limit named =
+    let is_limit = All-found (IsLimit network) network.limits number limit named bounds.each_limit in
+    MeetsLimit-grows network limit small plan bounds.each_candidate is_limit.bounded.alpha_low within (meets limit named)
 
 -- what holds of the witnesses of before and of a further one holds of each that is kept
 pub kept_more : (P : List Bool → Type 0) (plan : List Bool) (before now : List (List Bool)) → P plan → All P before →

@@ -4,6 +4,7 @@ use Rattle.geo_model.specs.Limit.{LimitOf}
 use Rattle.geo_model.specs.Meeting.{MeetsLimit}
 use Rattle.geo_model.specs.Network.{NetworkOf}
 use Rattle.pivot_chain.specs.Room.{IsRoomOf}
+use Rattle.coarse_chain.specs.Room.{IsCoarseRoomOf}
 use Rattle.factor_stack.specs.Stack.{StackOf, IsStackOf}
 use Rattle.limit_stacks.specs.declared.kept_limit.KeptLimit.{KeptLimit}
 use Rattle.limit_stacks.specs.declared.search_verdicts.SearchVerdicts.{SearchVerdicts}
@@ -25,8 +26,9 @@ pub record IsKeptLimit (network : NetworkOf) (number : ℕ) (kept : KeptLimit) :
   pub witnesses : All (IsWitness network number) kept.witnesses
   pub stack : ForSome kept.stack (IsLimitStack network number)
 
--- the room is one for the network, and what is kept by a number is of the limit of that number
+-- the rooms are ones for the network, and what is kept by a number is of the limit of that number
 pub record IsVerdictsOf (network : NetworkOf) (verdicts : SearchVerdicts) : Type 0 where
+  pub quick : IsCoarseRoomOf network verdicts.quick
   pub room : IsRoomOf network verdicts.room
   pub places : length verdicts.limits.items ≡ length network.limits
   pub each : (number : ℕ) (kept : KeptLimit) → slice_get verdicts.limits.items number ≡ Some kept → IsKeptLimit network number kept

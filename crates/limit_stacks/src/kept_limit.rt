@@ -6,12 +6,14 @@ ghost use Rattle.geo_model.specs.Meeting.{MeetsLimit};
 ghost use Rattle.geo_model.specs.Network.{NetworkOf};
 ghost use Rattle.geo_model.specs.declared.verdict.Verdict.TheVariants.{Refuted};
 ghost use Rattle.pivot_chain.specs.Room.{IsRoomOf};
+ghost use Rattle.coarse_chain.specs.Room.{IsCoarseRoomOf};
 ghost use Rattle.pivot_chain.specs.Verdict.{verdict_of};
 ghost use Rattle.limit_stacks.specs.Kept.{IsLimitStack, IsWitness, IsKeptLimit};
 
 use crate::Witnesses;
 use crate::following::{bring, is_far, take_back};
 use crate::small_plan::small_plan;
+use coarse_chain::CoarseRoom;
 use factor_stack::FactorStack;
 use geo_base::NoMemory;
 use geo_model::{Network, Plan, Verdict};
@@ -43,18 +45,21 @@ impl KeptLimit {
     pub(crate) fn is_refuted(
         &mut self,
         alloc: Global,
+        quick: &mut CoarseRoom,
         room: &mut ChainRoom,
         finder: &mut WitnessFinder,
         network: &Network,
         plan: &Plan,
         limit: u32,
     ) -> Result<bool, NoMemory>
+        requires quick { IsCoarseRoomOf network.now quick.old }
         requires room { IsRoomOf network.now room.old }
         requires plan { length plan.now ≡ length network.now.candidates }
         requires limit { limit < length network.now.limits }
         requires kept { IsKeptLimit network.now limit self.old }
         ensures exact { IfOk result (λ refuted. (l : LimitOf) → slice_get network.now.limits limit ≡ Some l → IsTrue refuted ↔ (verdict_of network.now plan.now l ≡ Refuted)) }
         ensures kept { IsKeptLimit network.now limit self.new }
+        ensures quick { IsCoarseRoomOf network.now quick.new }
         ensures room { IsRoomOf network.now room.new }
     {
         // A plan that a smaller one shows to meet the limit isn't refuted.
@@ -62,7 +67,7 @@ impl KeptLimit {
         if self.witnesses.has_within(plan, count) {
             return Ok(false);
         }
-        if self.has_small_plan(alloc, room, finder, network, plan, limit)? {
+        if self.has_small_plan(alloc, quick, room, finder, network, plan, limit)? {
             return Ok(false);
         }
         let verdict = self.upper_verdict(alloc, room, network, plan, limit)?;
@@ -77,21 +82,24 @@ impl KeptLimit {
     fn has_small_plan(
         &mut self,
         alloc: Global,
+        quick: &mut CoarseRoom,
         room: &mut ChainRoom,
         finder: &mut WitnessFinder,
         network: &Network,
         plan: &Plan,
         limit: u32,
     ) -> Result<bool, NoMemory>
+        requires quick { IsCoarseRoomOf network.now quick.old }
         requires room { IsRoomOf network.now room.old }
         requires plan { length plan.now ≡ length network.now.candidates }
         requires limit { limit < length network.now.limits }
         requires kept { IsKeptLimit network.now limit self.old }
         ensures met { IfOk result (λ found. IsTrue found → (l : LimitOf) → slice_get network.now.limits limit ≡ Some l → MeetsLimit network.now plan.now l) }
         ensures kept { IsKeptLimit network.now limit self.new }
+        ensures quick { IsCoarseRoomOf network.now quick.new }
         ensures room { IsRoomOf network.now room.new }
     {
-        let found = small_plan(alloc, room, finder, network, plan, limit, self.rest)?;
+        let found = small_plan(alloc, quick, room, finder, network, plan, limit, self.rest)?;
         let Some(small) = found else {
             return Ok(false);
         };

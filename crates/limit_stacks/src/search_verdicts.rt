@@ -6,17 +6,19 @@ ghost use Rattle.pivot_chain.specs.Verdict.{verdict_of};
 ghost use Rattle.limit_stacks.specs.Kept.{IsVerdictsOf, IsWitness};
 
 use crate::KeptLimit;
+use coarse_chain::CoarseRoom;
 use geo_base::NoMemory;
 use geo_model::{Network, Plan, Verdict};
 use pivot_chain::{ChainRoom, is_in_force, is_met, verdict};
 use plan_moves::WitnessFinder;
 use std::alloc::Global;
 
-/// The verdicts of a search: room for them, what proposes witnesses, and what is kept of each limit, by
+/// The verdicts of a search: room for them and for quick chains, what proposes witnesses, and what is kept of each limit, by
 /// its number.
 #[derive(Drop)]
 pub struct SearchVerdicts {
     alloc: Global,
+    quick: CoarseRoom,
     room: ChainRoom,
     finder: WitnessFinder,
     limits: Vec<KeptLimit>,
@@ -27,6 +29,7 @@ impl SearchVerdicts {
     pub fn new(alloc: Global, network: &Network) -> Result<SearchVerdicts, NoMemory>
         ensures { IfOk result (IsVerdictsOf network.now) }
     {
+        let quick = CoarseRoom::new(alloc, network)?;
         let room = ChainRoom::new(alloc, network)?;
         let finder = WitnessFinder::new(alloc, network)?;
         let mut limits = Vec::new(alloc);
@@ -35,6 +38,7 @@ impl SearchVerdicts {
         }
         Ok(SearchVerdicts {
             alloc,
+            quick,
             room,
             finder,
             limits,
@@ -89,6 +93,7 @@ impl SearchVerdicts {
     {
         self.limits[limit as usize].is_refuted(
             self.alloc,
+            &mut self.quick,
             &mut self.room,
             &mut self.finder,
             network,

@@ -11,6 +11,7 @@ is_refuted-requires-clause-kept c =
 
 pub returns-clause-verdicts : goal.returns-clause-verdicts
 returns-clause-verdicts c = record {
+  quick = c.is_refuted.ensures.quick;
   room = c.is_refuted.ensures.room;
   places = length-set c.args.self.now.limits.items c.args.limit c.is_refuted.new.self ∙ c.requires.verdicts.places;
   each = numbered_set (λ number kept. IsKeptLimit c.args.network.now number kept) c.args.self.now.limits.items c.args.limit c.is_refuted.new.self c.requires.verdicts.each c.is_refuted.ensures.kept;

@@ -11,6 +11,7 @@ keep_witness-requires-clause-kept c =
 
 pub returns : goal.returns
 returns c = record {
+  quick = c.requires.verdicts.quick;
   room = c.requires.verdicts.room;
   places = length-set c.args.self.now.limits.items c.args.limit c.keep_witness.new.self ∙ c.requires.verdicts.places;
   each = numbered_set (λ number kept. IsKeptLimit c.args.network.now number kept) c.args.self.now.limits.items c.args.limit c.keep_witness.new.self c.requires.verdicts.each c.keep_witness.ensures;
