@@ -1,4 +1,4 @@
-use Rattle.std.proofs.Common.{◌≡◌, ℕ, refl, [], ◌∷◌}
+use Rattle.std.proofs.Common.{◌≡◌, ℕ, refl, trans, subst, [], ◌∷◌}
 use Rattle.std.proofs.lemmas.Bool.{iff_false}
 use Rattle.bound_log.specs.LogTree.{leaf_bound_for}
 use Rattle.std.specs.Prelude.{slice_get}
@@ -8,7 +8,8 @@ use Rattle.cut_pool.specs.Cut.{cover_of}
 use Rattle.bound_log.specs.declared.log_leaf.LogLeaf.TheVariants.{Dual}
 use Rattle.bound_log.specs.DualText.{text_or_none, texts_of_shares}
 use Rattle.idle_splits.specs.Idle.{bound_by}
-use Rattle.branch_bound.specs.Cuts.{IsBrokenCut}
+use Rattle.branch_bound.specs.Cuts.{SearchCuts, GotCuts, IsBrokenCut}
+use Rattle.branch_bound.proofs.GrownLemmas.{GotCuts-then, GotCuts-still}
 use Rattle.branch_bound.specs.Explored.{CutsOff}
 use Rattle.branch_bound.specs.Found.{best_bound}
 use Rattle.branch_bound.proofs.DearLemmas.{above_past, not_idle, unit_allowed, unit_bound}
@@ -119,3 +120,11 @@ returns-then-not-is_cheaper-clause-line c =
           (unsettled_by c.args.network.now c.args.node.now c.in-Some-5.limit c.requires.node one none unmet.unmet)
           (iff_false c.is_cheaper.ensures c.if-not-is_cheaper.true);
     }
+
+pub returns-clause-cuts : goal.returns-clause-cuts
+returns-clause-cuts c =
+    let same : c.visit.new.self ≡ c.args.cuts.now = trans c.in_ok-visit.ensures.same (trans c.dear_share.ensures.same c.first_broken.ensures.kept) in
+    let refuting : GotCuts c.args.network.now c.args.cuts.now c.refuting_cut.new.self =
+        subst (λ (cuts : SearchCuts). GotCuts c.args.network.now cuts c.refuting_cut.new.self) same c.in_ok-number.ensures.got in
+    GotCuts-still c.args.network.now c.args.cuts.now c.dual_past.new.self c.split_candidate.new.self c.in_ok-candidate.ensures.same
+        (GotCuts-then c.args.network.now c.args.cuts.now c.refuting_cut.new.self c.dual_past.new.self refuting c.in_ok-dual.ensures.got)
