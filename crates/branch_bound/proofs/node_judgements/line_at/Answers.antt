@@ -125,6 +125,6 @@ pub returns-clause-cuts : goal.returns-clause-cuts
 returns-clause-cuts c =
     let same : c.visit.new.self ≡ c.args.cuts.now = trans c.in_ok-visit.ensures.same (trans c.dear_share.ensures.same c.first_broken.ensures.kept) in
     let refuting : GotCuts c.args.network.now c.args.cuts.now c.refuting_cut.new.self =
-        subst (λ (cuts : SearchCuts). GotCuts c.args.network.now cuts c.refuting_cut.new.self) same c.in_ok-number.ensures.got in
+    subst (λ (cuts : SearchCuts). GotCuts c.args.network.now cuts c.refuting_cut.new.self) same c.in_ok-number.ensures.got in
     GotCuts-still c.args.network.now c.args.cuts.now c.dual_past.new.self c.split_candidate.new.self c.in_ok-candidate.ensures.same
-        (GotCuts-then c.args.network.now c.args.cuts.now c.refuting_cut.new.self c.dual_past.new.self refuting c.in_ok-dual.ensures.got)
+    (GotCuts-then c.args.network.now c.args.cuts.now c.refuting_cut.new.self c.dual_past.new.self refuting c.in_ok-dual.ensures.got)
