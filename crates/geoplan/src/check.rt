@@ -23,7 +23,7 @@ use std::alloc::Global;
 fn feed_part(replayer: &mut Replayer<'_>, part: &[u8]) -> Result<(), NoMemory>
     ensures network { replayer.new.network ≡ replayer.old.network }
     ensures fed { (text : List ℕ) → HasFed text replayer.old → IsCountable text → OnOk result (HasFed (text ++ part.now) replayer.new) }
-    ensures refused { (text : List ℕ) → HasFed text replayer.old → IsCountable text → OnErr result (replayer.new ≡ replayer.old × HoldsNone replayer.old.network text) }
+    ensures refused { (text : List ℕ) → HasFed text replayer.old → IsCountable text → OnErr result ((replayer.new ≡ replayer.old) × HoldsNone replayer.old.network text) }
 {
     match replayer.feed(part) {
         Ok(()) => Ok(()),
