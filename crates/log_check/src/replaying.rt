@@ -35,9 +35,9 @@ pub fn replay(alloc: Global, network: &Network, log: &[u8]) -> Result<Replayed, 
 /// Replays a text in the room of a replay to which nothing was handed in yet. It takes no memory, so
 /// that its answer is the text's: its bound and counts where it is a log, or else its first fault.
 pub fn replay_within(replayer: Replayer<'_>, log: &[u8]) -> Result<Replayed, LogFault>
-    requires bounds { IsNetwork replayer.entry.network }
-    requires fed { HasFed [] replayer.entry }
-    requires finished { replayer.entry.unfinished ≡ [] }
+    requires bounds { IsNetwork replayer.network }
+    requires fed { HasFed [] replayer }
+    requires finished { replayer.unfinished ≡ [] }
     ensures { Finishes replayer.entry.network log.now result }
 {
     let mut replayer = replayer;
