@@ -6,6 +6,7 @@ use Rattle.shelf_io.specs.States.{ShelfState}
 use Rattle.geo_model.specs.Network.{NetworkOf}
 use Rattle.geoplan.specs.declared.file_kind.FileKind.TheVariants as kind
 use Rattle.geoplan.specs.declared.load.LoadFault.{LoadFault}
+use Rattle.geoplan.specs.declared.load.LoadFault.TheVariants as load
 use Rattle.geoplan.specs.declared.log_parts.LogParts.{LogParts}
 use Rattle.geoplan.specs.declared.status.Status.{Status}
 use Rattle.geoplan.specs.CommandOf.{FileOf, most_of}
@@ -32,11 +33,13 @@ pub record HasReadLog (name text : List ℕ) (parts : LogParts) (before now : Sh
   pub quiet : KeepsFaults before now
 
 -- what the call for the next part answers after this text: the text is longer by a part that isn't empty, or is the whole
--- log; or the log is too long or was not read
+-- log; or the log is too long or was not read. Where memory ran out no part was counted: that a log is too long is another
+-- answer.
 abbrev pub ReadsPart : List ℕ → List ℕ → Result Bool LoadFault → LogParts → LogParts → ShelfState → ShelfState → Type 0
 ReadsPart name text (Ok true) parts parts_now before now = HasReadLog name (text ++ parts_now.part.items) parts_now before now × (parts.at < parts_now.at)
 ReadsPart name text (Ok false) parts parts_now before now = ReadsFile (log_file name) text before now
-ReadsPart name text (Err why) parts parts_now before now = FailsRead (log_file name) why before now
+ReadsPart name text (Err why) parts parts_now before now =
+    FailsRead (log_file name) why before now × (why ≡ load.NoMemory → parts_now.at ≡ parts.at)
 
 -- the status and the text of a log that is read and replayed over a network
 abbrev pub Checks : NetworkOf → List ℕ → ShelfState → ShelfState → Status → List ℕ → Type 0

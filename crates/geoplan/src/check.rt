@@ -1,6 +1,6 @@
 //! The command `check`.
-ghost use Rattle.std.specs.Prelude.{◌≡◌, ℕ, List, [], ◌++◌, OnOk, IfErr};
-ghost use Rattle.log_check.specs.Fed.{HasFed, IsCountable};
+ghost use Rattle.std.specs.Prelude.{◌≡◌, ℕ, List, [], ◌++◌, OnOk, OnErr, IfErr};
+ghost use Rattle.log_check.specs.Fed.{HasFed, HoldsNone, IsCountable};
 ghost use Rattle.geoplan.specs.Loading.{ReadsFile, FailsRead};
 ghost use Rattle.geoplan.specs.Parts.{log_file, Checks};
 ghost use Rattle.geoplan.specs.Reporting.{ReportsReplay};
@@ -18,10 +18,12 @@ use plan_report::checked_report;
 use shelf_io::Shelf;
 use std::alloc::Global;
 
-/// Hands one more part of a log to a replay, which takes it also where the text has a fault.
+/// Hands one more part of a log to a replay, which takes it also where the text has a fault. Want of
+/// memory leaves the replay as it was, and comes after no fault.
 fn feed_part(replayer: &mut Replayer<'_>, part: &[u8]) -> Result<(), NoMemory>
     ensures network { replayer.new.network ≡ replayer.old.network }
     ensures fed { (text : List ℕ) → HasFed text replayer.old → IsCountable text → OnOk result (HasFed (text ++ part.now) replayer.new) }
+    ensures refused { (text : List ℕ) → HasFed text replayer.old → IsCountable text → OnErr result ((replayer.new ≡ replayer.old) × HoldsNone replayer.old.network text) }
 {
     match replayer.feed(part) {
         Ok(()) => Ok(()),

@@ -19,7 +19,7 @@ use crate::sources::Sources;
 use crate::status::Status;
 use crate::tables::Tables;
 use geo_base::NoMemory;
-use log_check::{ReplayAnswer, replay};
+use log_check::{Replayer, replay_within};
 use log_migrate::{MigrateAnswer, migrate};
 use shelf_io::{Shelf, WriteAnswer};
 use std::alloc::Global;
@@ -62,12 +62,13 @@ fn migrate_log<H: Shelf>(
     requires { IsGoodNetwork tables.now }
     ensures { Migrates tables.now name.now log.now (H.state shelf.old) (H.state shelf.new) result.status result.text.items }
 {
-    match replay(alloc, tables.network(), log) {
+    let replayer = match Replayer::new(alloc, tables.network()) {
+        Ok(replayer) => replayer,
+        Err(NoMemory) => return Outcome::silent(alloc, Status::NoMemory),
+    };
+    match replay_within(replayer, log) {
         Ok(_) => write_new_log(alloc, shelf, name, log),
-        Err(ReplayAnswer::Fault(fault)) => {
-            Outcome::made(alloc, Status::LogRefused, log_refusal(alloc, fault))
-        }
-        Err(ReplayAnswer::NoMemory) => Outcome::silent(alloc, Status::NoMemory),
+        Err(fault) => Outcome::made(alloc, Status::LogRefused, log_refusal(alloc, fault)),
     }
 }
 

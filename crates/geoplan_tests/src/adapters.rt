@@ -1,5 +1,5 @@
-//! A run of the adapters over a file and the standard output.
-use shelf_io::{FileShelf, OutSink, Shelf, Sink};
+//! Runs of the adapters over files and the standard output.
+use shelf_io::{FileShelf, OutSink, PartAnswer, Shelf, Sink};
 use std::fs;
 use std::test::Fail;
 
@@ -35,5 +35,47 @@ fn a_table_is_not_overwritten_under_another_name(rt: HostRuntime) -> Result<(), 
     assert_eq!(rt; bytes.as_slice(), b"name,kind\n".as_slice());
     assert!(rt; shelf.start("log.txt").is_ok());
     assert!(rt; shelf.start("./log.txt").is_err());
+    Ok(())
+}
+
+// The bytes of a part, of which a proof here need know nothing.
+fn read_part<H: Shelf>(
+    shelf: &mut H,
+    (name, at, limit): (&str, u8, u8),
+    into: &mut Vec<u8>,
+) -> Result<u64, PartAnswer> {
+    shelf.read_part(name, u64::from(at), u64::from(limit).max(1), into)
+}
+
+// Parts of two files: a name, a place and a limit, and the bytes. They follow one another, also in turn
+// with those of the other file, or begin anew at the front, in the middle and at the end.
+const PARTS: [((&str, u8, u8), &[u8]); 11] = [
+    (("digits.txt", 0, 4), b"0123"),
+    (("digits.txt", 4, 4), b"4567"),
+    (("letters.txt", 4, 4), b"efgh"),
+    (("digits.txt", 8, 4), b"89"),
+    (("letters.txt", 8, 2), b"ij"),
+    (("letters.txt", 10, 1), b""),
+    (("digits.txt", 4, 3), b"456"),
+    (("digits.txt", 1, 1), b"1"),
+    (("digits.txt", 1, 9), b"123456789"),
+    (("digits.txt", 0, 10), b"0123456789"),
+    (("digits.txt", 10, 255), b""),
+];
+
+#[test]
+fn files_are_read_in_parts(rt: HostRuntime) -> Result<(), Fail> {
+    let _digits = fs::write(&rt, "digits.txt", b"0123456789");
+    let _letters = fs::write(&rt, "letters.txt", b"abcdefghij");
+    let mut shelf = FileShelf::new(&rt, rt.alloc());
+    for (asked, part) in PARTS {
+        let mut bytes = Vec::new(rt.alloc());
+        let count = read_part(&mut shelf, asked, &mut bytes);
+        assert!(rt; count == Ok(part.len() as u64), "{} {}", asked.0, asked.1);
+        assert_eq!(rt; bytes.as_slice(), part);
+    }
+    let mut none = Vec::new(rt.alloc());
+    let absent = read_part(&mut shelf, ("no such file", 0, 1), &mut none);
+    assert!(rt; absent == Err(PartAnswer::Failed));
     Ok(())
 }

@@ -14,6 +14,8 @@ mod exact;
 #[cfg(test)]
 mod inverses;
 #[cfg(test)]
+mod largest;
+#[cfg(test)]
 mod networks;
 #[cfg(test)]
 mod numbers;

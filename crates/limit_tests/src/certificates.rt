@@ -1,4 +1,4 @@
-//! Certificates of forms of two unknowns, reckoned by hand.
+//! Certificates of forms of two unknowns and of as many as there may be, reckoned by hand.
 ghost use Rattle.std.specs.Prelude.{◌≡◌, ◌≤◌, ◌^◌, List, [], ◌∷◌, length, unsigned_abs, IfOk};
 
 use geo_base::NoMemory;
@@ -113,5 +113,58 @@ fn certificates_are_made_where_the_chain_goes_on(rt: HostRuntime) -> Result<(), 
     for (matrix, remainder) in MADE {
         assert_eq!(rt; made_remainder(rt.alloc(), matrix)?, remainder);
     }
+    Ok(())
+}
+
+// The row of a line of heights: 2 on the diagonal and -1 beside it.
+fn put_row(row: &mut [i128]) {
+    if row.len() > 1 {
+        row[1] = -1;
+    }
+    if !row.is_empty() {
+        row[0] = 2;
+    }
+}
+
+// The matrix of 64 heights in a line between two fixed ones. A proof need know no more than its size.
+fn longest_line(alloc: Global) -> Result<Tri, NoMemory> {
+    let mut tri = Tri::new(alloc, 64)?;
+    for k in 0..64 {
+        if k < tri.size() {
+            put_row(tri.row_mut(k));
+        }
+    }
+    Ok(tri)
+}
+
+// Whether the first entry of each remainder is 1, as the half that a row takes of the next one is
+// rounded.
+fn has_unit_heads(cert: &SquareCert, steps: u32) -> bool
+    requires { steps ≤ length cert.now }
+{
+    for t in 1..steps {
+        if cert.remainder(t).row(0).first() != Some(&1) {
+            return false;
+        }
+    }
+    true
+}
+
+// Whether the certificate of a matrix is made, holds, and has these remainders.
+fn is_certified_by_units(alloc: Global, first: &Tri) -> Result<bool, NoMemory> {
+    if !fits(first) {
+        return Ok(false);
+    }
+    let Some(cert) = SquareCert::make(alloc, first)? else {
+        return Ok(false);
+    };
+    Ok(holds(first, &cert) && has_unit_heads(&cert, first.size()))
+}
+
+#[test]
+fn a_certificate_of_64_unknowns(rt: HostRuntime) -> Result<(), NoMemory> {
+    let line = longest_line(rt.alloc())?;
+    assert_eq!(rt; line.size(), 64);
+    assert!(rt; is_certified_by_units(rt.alloc(), &line)?);
     Ok(())
 }

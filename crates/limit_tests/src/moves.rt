@@ -6,7 +6,7 @@ use geo_model::{Displacement, Plan};
 use pivot_chain::ChainRoom;
 use std::alloc::Global;
 use std::test::Fail;
-use test_networks::{CLOSER_LEVEL, CaseTables, ONE_LEVEL, network_of};
+use test_networks::{CLOSER_LEVEL, CaseTables, ONE_LEVEL, largest_network, network_of};
 
 #[test]
 fn the_widest_move_breaks_the_narrow_limit_alone(rt: HostRuntime) -> Result<(), Fail> {
@@ -38,5 +38,19 @@ fn a_limit_is_broken_or_nothing_is_proposed(rt: HostRuntime) -> Result<(), Fail>
     let narrow = proposed(rt.alloc(), &CLOSER_LEVEL)?;
     let x = narrow.ok_or("nothing is proposed")?;
     assert_eq!(rt; x.entries(), [1i32].as_slice());
+    Ok(())
+}
+
+// Without a candidate a displacement by 1 in the first unknown of its own breaks each limit; the last
+// one is that of the height of the last point.
+#[test]
+fn the_last_limit_of_the_largest_network_is_broken(rt: HostRuntime) -> Result<(), Fail> {
+    let network = largest_network(rt.alloc())?;
+    let plan = Plan::empty(rt.alloc(), 256)?;
+    let mut room = ChainRoom::new(rt.alloc(), &network)?;
+    let found = propose(rt.alloc(), &mut room, &network, &plan, 42)?;
+    let x = found.ok_or("nothing is proposed")?;
+    assert_eq!(rt; x.entries().len(), 64);
+    assert_eq!(rt; x.entries().last(), Some(&1));
     Ok(())
 }

@@ -1,5 +1,5 @@
 -- Each text is a log of a network, or has a first fault.
-use Rattle.std.proofs.Common.{◌≡◌, ◌⊎◌, ℕ, ◌+◌, Bool, true, false, List, [], ◌∷◌, ◌++◌, length, Option, Some, None, refl, ap, ap₂, sym, ◌∙◌, subst, inl, inr}
+use Rattle.std.proofs.Common.{◌≡◌, ◌⊎◌, ℕ, ◌+◌, Bool, true, List, [], ◌∷◌, ◌++◌, length, Option, Some, None, refl, ap, ap₂, sym, ◌∙◌, subst, inl, inr}
 use Rattle.std.proofs.lemmas.Bool.{cases_Bool, false≢true}
 use Rattle.std.proofs.lemmas.List.Elements.{All-nil}
 use Rattle.lent_parts.specs.Pieces.{TextLineOf, lines_of}
@@ -12,7 +12,7 @@ use Rattle.bound_log.specs.declared.log_kind.LogKind.TheVariants.{Extra, Form, S
 use Rattle.bound_log.specs.CutText.{CutTextOf}
 use Rattle.bound_log.specs.Formats.{BeginsIn, IsShortLine, IsLineIn, LineIn, head_body_in}
 use Rattle.bound_log.specs.LogTree.{root_of, IsLog}
-use Rattle.bound_log.specs.Meanings.{Meaning, cuts_named, meaning_in, named_in, meaning_rules}
+use Rattle.bound_log.specs.Meanings.{Meaning, cuts_named, meaning_in, meaning_rules}
 use Rattle.bound_log.specs.Rules.{first_unkept}
 use Rattle.bound_log.specs.Tree.{Tree}
 use Rattle.bound_log.proofs.Decisions.{Decided, line_or_none_in, same_text}
@@ -20,8 +20,8 @@ use Rattle.bound_log.proofs.FormatLemmas.{begins_line_in}
 use Rattle.log_check.specs.declared.fault.LogFault.{LogFault}
 use Rattle.log_check.specs.FirstFault.{KeepsRules, BreaksFirst, IsFirstFault, later, short}
 use Rattle.log_check.specs.Reaching.{head_line}
-use Rattle.log_check.specs.Running.{GoesTo, opened_by}
-use Rattle.log_check.specs.Taking.{Stops, StopsBody, no_words, no_rule, no_node, no_end, no_body}
+use Rattle.log_check.specs.Running.{opened_by}
+use Rattle.log_check.specs.Taking.{Stops, no_words, no_rule, no_node, no_end, no_body}
 use Rattle.log_check.proofs.FormatRuns.{GoesTo-then, GoesFromRoot, goes_begins, goes_whole, not_whole}
 use Rattle.log_check.proofs.ReachLemmas.{next_line, ended_bytes, fault_headless, left_none, line_short, line_spelled, stopped_after}
 

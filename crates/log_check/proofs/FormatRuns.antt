@@ -1,5 +1,5 @@
 -- Lines of a log of either format, and the open nodes that they lead to.
-use Rattle.std.proofs.Common.{◌≡◌, ℕ, ◌+◌, ◌<◌, ◌≤◌, ltb, ◌&&◌, if◌then◌else◌, Bool, true, false, List, [], ◌∷◌, ◌++◌, length, map, All, Option, Some, None, arith, refl, ap, ap₂, sym, ◌∙◌, subst, inl, inr, append-nil, append_assoc}
+use Rattle.std.proofs.Common.{◌≡◌, ◌<◌, ltb, ◌&&◌, if◌then◌else◌, Bool, true, false, List, [], ◌∷◌, ◌++◌, length, map, All, Option, Some, None, arith, refl, ap, ap₂, sym, ◌∙◌, subst, inl, inr, append-nil, append_assoc}
 use Rattle.std.proofs.lemmas.Bool.{cases_Bool, false≢true, lt-ltb, ltb-true}
 use Rattle.std.proofs.lemmas.List.{length-append}
 use Rattle.std.proofs.lemmas.List.Elements.{All-nil, All-cons, All-head, All-tail, All-append}
@@ -14,8 +14,8 @@ use Rattle.bound_log.specs.CutText.{CutTextOf}
 use Rattle.bound_log.specs.Formats.{LineIn}
 use Rattle.bound_log.specs.LogTree.{root_of}
 use Rattle.bound_log.specs.Meanings.{AreNames, Meaning, naming, standing, lacking, cuts_named, is_cut_in_range, joined_nodes, may_name, meaning_in, named_in, names_last, nodes_in, nodes_of}
-use Rattle.bound_log.specs.Rules.{LineRule, first_unkept}
-use Rattle.bound_log.specs.Tree.{Tree, tree_lines}
+use Rattle.bound_log.specs.Rules.{first_unkept}
+use Rattle.bound_log.specs.Tree.{tree_lines}
 use Rattle.log_check.specs.FirstFault.{KeepsRules, LogBegins, IsWhole, StandsNext}
 use Rattle.log_check.specs.Running.{opened, opened_by, LeadsTo, GoesTo}
 use Rattle.log_check.proofs.RunLemmas.{one_final, tree_leads, leads_tree, tree_front, whole_tree, placed_leads, leads_placed}

@@ -1,5 +1,5 @@
 -- A fault of a line that has ended stays the fault of each longer text.
-use Rattle.std.proofs.Common.{◌≡◌, ℕ, ◌+◌, ◌≤◌, cond, Bool, true, false, List, [], ◌∷◌, ◌++◌, length, All, arith, refl, ap, sym, ◌∙◌, subst, zero-add, append_assoc, inl, inr}
+use Rattle.std.proofs.Common.{◌≡◌, ℕ, ◌+◌, ◌≤◌, cond, Bool, true, List, [], ◌∷◌, ◌++◌, length, All, arith, refl, ap, sym, ◌∙◌, subst, zero-add, append_assoc, inl, inr}
 use Rattle.std.specs.Prelude.{count_by}
 use Rattle.std.proofs.lemmas.Bool.{cases_Bool, eqb-true}
 use Rattle.std.proofs.lemmas.List.Elements.{All-nil, All-cons, All-head, All-tail}

@@ -1,5 +1,5 @@
 -- The displacement of a line, written pair by pair.
-use Rattle.std.proofs.Common.{◌≡◌, ◌⊎◌, ◌==◌, if◌then◌else◌, ℕ, suc, ◌+◌, ◌<◌, ◌≤◌, ◌&&◌, ltb, Bool, true, false, List, [], ◌∷◌, arith, refl, ap, sym, ◌∙◌, inl, inr, eq-eqb}
+use Rattle.std.proofs.Common.{◌≡◌, ◌⊎◌, ◌==◌, if◌then◌else◌, ℕ, suc, ◌+◌, ◌<◌, ◌≤◌, ◌&&◌, ltb, true, false, List, [], ◌∷◌, arith, refl, ap, sym, ◌∙◌, inl, inr, eq-eqb}
 use Rattle.std.specs.Prelude.{ℤ, pos, nat_le, slice_set, unsigned_abs}
 use Rattle.std.proofs.lemmas.Bool.{cases_Bool, false≢true, le-leb, leb-true, lt-ltb, ltb-true, ltb-false, ne_eqb, eqb-true}
 use Rattle.std.proofs.lemmas.List.{length-set, get_or-set_same, get_or-set_other}

@@ -16,7 +16,7 @@ use Rattle.bound_log.specs.declared.log_line.LogLine.{LogLine}
 use Rattle.bound_log.specs.Bound.{lesser}
 use Rattle.bound_log.specs.Counted.{counts_of, counts_with}
 use Rattle.bound_log.specs.CutText.{CutTextOf}
-use Rattle.bound_log.specs.Formats.{BeginsIn, IsShortLine, IsLineIn, LineIn, NextIn, body_in, head_body_in, head_text_in, text_in, text_line_in}
+use Rattle.bound_log.specs.Formats.{BeginsIn, IsShortLine, IsLineIn, LineIn, NextIn, head_body_in, head_text_in, text_in, text_line_in}
 use Rattle.bound_log.specs.LogText.{line_end}
 use Rattle.bound_log.specs.Lines.{kind_of}
 use Rattle.bound_log.specs.LogTree.{root_of}
@@ -30,9 +30,9 @@ use Rattle.log_check.specs.FirstFault.{KeepsRules, IsFaultAfter, extra, short, f
 use Rattle.log_check.specs.Places.{IsReady}
 use Rattle.log_check.specs.Reaching.{head_line, IsFront, nothing, begun, HasTaken, Reaches}
 use Rattle.log_check.specs.Replayed.{IsReplayed}
-use Rattle.log_check.specs.Running.{line_bound, opened, opened_by, LeadsTo, GoesTo, bound_along, StandsAt}
-use Rattle.log_check.specs.Taking.{Takes, Names, Does, TakesSaid, TakesBody, TakesText, StopsSaid, StopsBody, no_words, no_rule, Stops, no_node, no_end, no_body, TakesHead, TakesLine, at_head, at_node, next_count, StopsLine, no_head, past_head}
-use Rattle.log_check.proofs.FormatRuns.{GoesTo-then, GoesFromRoot, goes_begins, goes_stands, goes_whole, last_no_name, names_more, naming_names, no_names, not_whole, root_means, some_is, standing_names, kept_rule}
+use Rattle.log_check.specs.Running.{line_bound, opened_by, LeadsTo, bound_along, StandsAt}
+use Rattle.log_check.specs.Taking.{Takes, Does, TakesText, StopsBody, no_words, no_rule, Stops, no_node, no_end, no_body, TakesHead, TakesLine, at_head, at_node, next_count, StopsLine, no_head, past_head}
+use Rattle.log_check.proofs.FormatRuns.{GoesTo-then, GoesFromRoot, goes_begins, goes_stands, goes_whole, last_no_name, names_more, naming_names, no_names, not_whole, some_is, standing_names, kept_rule}
 use Rattle.log_check.proofs.PlaceLemmas.{room_along, room_at_root}
 use Rattle.log_check.proofs.RunLemmas.{LeadsTo-then, bound_along-then, whole_tree}
 

@@ -1,5 +1,5 @@
 -- What a line of each kind does at the next node.
-use Rattle.std.proofs.Common.{◌≡◌, ℕ, List, [], ◌∷◌, map, refl, sym, ap, ◌∙◌, subst}
+use Rattle.std.proofs.Common.{◌≡◌, ℕ, List, [], ◌∷◌, map, sym, ap, ◌∙◌, subst}
 use Rattle.geo_model.specs.Dual.{dual_bound}
 use Rattle.geo_model.specs.Prices.{price_of, prices_of}
 use Rattle.geo_model.specs.Network.{NetworkOf}

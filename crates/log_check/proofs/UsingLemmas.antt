@@ -1,28 +1,27 @@
 -- Leaves that use cuts by their numbers: which rule they break first.
-use Rattle.std.proofs.Common.{◌≡◌, ◌&&◌, if◌then◌else◌, ℕ, ◌<◌, ◌≤◌, ◌^◌, ltb, Bool, true, false, List, [], ◌∷◌, length, map, All, Some, None, refl, ap, ap₂, sym, ◌∙◌, subst, inl, inr}
+use Rattle.std.proofs.Common.{◌≡◌, ◌&&◌, if◌then◌else◌, ℕ, ◌<◌, ◌≤◌, Bool, true, false, List, [], ◌∷◌, length, map, All, Some, None, refl, ap, ap₂, sym, ◌∙◌, inl, inr}
 use Rattle.std.specs.List.{list_all}
-use Rattle.std.proofs.lemmas.Bool.{cases_Bool, false≢true, lt-leb, lt-ltb, le-ltb, ltb-true}
+use Rattle.std.proofs.lemmas.Bool.{cases_Bool, lt-leb, lt-ltb, le-ltb, ltb-true}
 use Rattle.std.proofs.lemmas.List.{length-map}
-use Rattle.std.proofs.lemmas.List.Elements.{All-nil, All-cons, All-tail}
+use Rattle.std.proofs.lemmas.List.Elements.{All-nil, All-cons}
 use Rattle.std.proofs.lemmas.List.Folds.{list_all-map}
 use Rattle.whole_algebra.proofs.ChainLaws.{and_left, and_right}
 use Rattle.geo_model.specs.Network.{NetworkOf}
 use Rattle.geo_model.specs.declared.plan.Node.{Node}
-use Rattle.bound_log.specs.declared.log_kind.LogKind.{LogKind}
 use Rattle.bound_log.specs.declared.log_kind.LogKind.TheVariants.{Owner, Range}
 use Rattle.bound_log.specs.declared.log_leaf.LogLeaf.TheVariants.{Cut, Dual}
 use Rattle.bound_log.specs.declared.log_line.LogLine.TheVariants.{Leaf}
 use Rattle.bound_log.specs.declared.named_line.NamedLine.TheVariants.{UseCut, UseDual}
 use Rattle.bound_log.specs.CutText.{CutTextOf}
-use Rattle.bound_log.specs.LogTree.{IsDualLineAt, IsWeight}
+use Rattle.bound_log.specs.LogTree.{IsDualLineAt}
 use Rattle.bound_log.specs.Meanings.{AreNames, Meaning, lacking, standing, cut_named, is_named, named_meaning, meaning_rules, share_used}
 use Rattle.bound_log.specs.Rules.{are_few, first_unkept, is_in_range, is_owned, is_weight, line_rules}
-use Rattle.bound_log.proofs.AllowedLemmas.{dual_at, weight_passed}
+use Rattle.bound_log.proofs.AllowedLemmas.{dual_at}
 use Rattle.log_check.specs.Naming.{is_use_in_range}
 use Rattle.log_check.specs.Weighing.{is_owned_at, is_share_in_range}
 use Rattle.log_check.proofs.NamingLemmas.{in_range_at}
 use Rattle.log_check.proofs.RuleLemmas.{dual_kept, dual_out_of_range, dual_owner_broken}
-use Rattle.log_check.proofs.ShareLemmas.{owners_are, ranges_are, shares_decide}
+use Rattle.log_check.proofs.ShareLemmas.{owners_are, ranges_are}
 
 -- ---- what a number stands for
 

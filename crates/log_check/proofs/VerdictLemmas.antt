@@ -1,11 +1,11 @@
 -- Each text has one verdict.
-use Rattle.std.proofs.Common.{◌≡◌, ℕ, ◌+◌, List, [], ◌∷◌, ◌++◌, length, Some, None, refl, ap, ap₂, sym, ◌∙◌, subst, append-nil}
+use Rattle.std.proofs.Common.{◌≡◌, ℕ, ◌+◌, List, [], ◌∷◌, ◌++◌, length, Some, None, refl, ap, ap₂, sym, ◌∙◌, subst}
 use Rattle.geo_model.specs.Network.{NetworkOf}
 use Rattle.geo_model.specs.declared.plan.Node.{Node}
 use Rattle.bound_log.specs.CutText.{CutTextOf}
 use Rattle.bound_log.specs.Formats.{BeginsIn, LineIn, NextIn, texts_in}
 use Rattle.bound_log.specs.LogTree.{root_of, IsLog}
-use Rattle.bound_log.specs.Meanings.{AreNames, Meaning, cuts_named, meaning_in, named_in}
+use Rattle.bound_log.specs.Meanings.{AreNames, Meaning, cuts_named, meaning_in}
 use Rattle.bound_log.specs.declared.log_format.LogFormat.{LogFormat}
 use Rattle.bound_log.specs.declared.log_kind.LogKind.{LogKind}
 use Rattle.bound_log.specs.declared.log_kind.LogKind.TheVariants.{Extra, Form, Short}

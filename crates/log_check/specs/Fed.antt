@@ -31,6 +31,10 @@ pub record HoldsFault (network : NetworkOf) (text : List ℕ) (fault : LogFault)
   pub first : IsFirstFault network text fault
   pub ended : fault.line ≤ count_by is_line_feed text
 
+-- no line of a text that has ended holds a fault
+abbrev pub HoldsNone : NetworkOf → List ℕ → Type 0
+HoldsNone network text = (fault : LogFault) → HoldsFault network text fault → ⊥
+
 -- the lines so far are right: they make up a front of the text, and its unfinished line is left
 pub record IsRight (text : List ℕ) (replayer : ReplayerOf) : Type 0 where
   pub front : List ℕ
@@ -62,7 +66,7 @@ pub record IsLineNext (text : List ℕ) (line : TextLineOf) (before : ReplayerOf
 -- an answer on one line, at the end of this text: the first fault of the text, which a line with
 -- its LF holds; none only where the line has its LF and no line that has ended holds a fault
 abbrev pub SaysOfLine : NetworkOf → List ℕ → Bool → Result Unit LogFault → Type 0
-SaysOfLine network text ended (Ok done) = (ended ≡ true) × ((fault : LogFault) → HoldsFault network text fault → ⊥)
+SaysOfLine network text ended (Ok done) = (ended ≡ true) × HoldsNone network text
 SaysOfLine network text ended (Err fault) = IsFirstFault network text fault × (ended ≡ true → HoldsFault network text fault)
 
 -- what judging one line answers and leaves: it may be the last one, without its LF, and only where
@@ -73,13 +77,13 @@ pub record AnswersLine (text : List ℕ) (line : TextLineOf) (answer : Result Un
   pub says : SaysOfLine now.network (text ++ line_bytes line) line.ended answer
 
 -- what a piece answers and leaves: the lines that have ended hold the answered fault, or no fault;
--- want of memory leaves all as it was
+-- want of memory comes only where the lines before the piece hold none, and leaves all as it was
 abbrev pub AnswersFed : List ℕ → List ℕ → Result Unit ReplayAnswer → ReplayerOf → ReplayerOf → Type 0
 AnswersFed text piece (Ok done) before now =
-    HasFed (text ++ piece) now × ((fault : LogFault) → HoldsFault before.network (text ++ piece) fault → ⊥)
+    HasFed (text ++ piece) now × HoldsNone before.network (text ++ piece)
 AnswersFed text piece (Err (replay_answer.Fault fault)) before now =
     HasFed (text ++ piece) now × HoldsFault before.network (text ++ piece) fault
-AnswersFed text piece (Err replay_answer.NoMemory) before now = now ≡ before
+AnswersFed text piece (Err replay_answer.NoMemory) before now = (now ≡ before) × HoldsNone before.network text
 
 -- what a text that was handed in comes to
 abbrev pub Finishes : NetworkOf → List ℕ → Result Replayed LogFault → Type 0

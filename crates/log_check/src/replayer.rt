@@ -14,8 +14,9 @@ use lent_parts::Line;
 use std::alloc::Global;
 use std::marker::Model;
 
-/// The room for an unfinished line that is taken at the start.
-const LINE_ROOM: usize = 65536;
+/// The room for bytes that is taken at the start: for an unfinished line of 65536 and a piece of as
+/// many behind it.
+const LINE_ROOM: usize = 131072;
 
 /// A replay of a text that is handed in piece by piece, cut anywhere. Its answers are those of the
 /// text that the pieces make when they are joined, however it is cut.
@@ -37,8 +38,8 @@ impl<'n> Model for Replayer<'n> {
 }
 
 impl<'n> Replayer<'n> {
-    /// Before the first byte. It takes all the room for nodes, verdicts and 65536 named cuts, and 65536
-    /// bytes for an unfinished line. Refused for want of memory alone.
+    /// Before the first byte. It takes all the room for nodes, verdicts and 65536 named cuts, and for an
+    /// unfinished line and a piece of 65536 bytes each. Refused for want of memory alone.
     pub fn new(alloc: Global, network: &'n Network) -> Result<Replayer<'n>, NoMemory>
         ensures network { IfOk result (λ made. made.network ≡ network.entry.now) }
         ensures bounds { IfOk result (λ _. IsNetwork network.entry.now) }
@@ -71,7 +72,8 @@ impl<'n> Replayer<'n> {
 
     /// Takes one more piece of the text: judges the lines that end in it, and keeps the rest. It
     /// answers the first fault of the text where the lines that have ended hold it. Where memory
-    /// runs out, which comes before any line is judged, all stays as it was.
+    /// runs out, which comes before any line is judged, and never after a fault, all stays as it
+    /// was.
     pub fn feed(&mut self, piece: &[u8]) -> Result<(), ReplayAnswer>
         ensures network { self.new.network ≡ self.old.network }
         ensures fed { (text : List ℕ) → HasFed text self.old → IsCountable text → AnswersFed text piece.now result self.old self.new }

@@ -9,6 +9,8 @@ mod dual_bounds;
 #[cfg(test)]
 mod dual_replays;
 #[cfg(test)]
+mod largest;
+#[cfg(test)]
 mod log_lines;
 #[cfg(test)]
 mod migrations;

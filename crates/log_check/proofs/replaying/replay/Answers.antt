@@ -1,45 +1,13 @@
-use Rattle.std.proofs.Common.{◌<◌, ◌^◌, length, arith, refl, subst}
-use Rattle.std.specs.Prelude.{Ok}
+use Rattle.std.proofs.Common.{subst}
 use Rattle.geo_model.specs.Network.{NetworkOf}
-use Rattle.lent_parts.specs.Walks.{line_of}
 use Rattle.log_check.specs.FirstFault.{IsFirstFault}
 use Rattle.log_check.specs.Replayed.{IsReplayed}
-use Rattle.log_check.proofs.WalkLemmas.{replays_start, replays_line, replays_next, replays_fault, replays_end}
 use Rattle.log_check.proofs.replaying.replay.Goals as goal
-
-pub loop-line-init : goal.loop-line-init
-loop-line-init c =
-    replays_start c.args.network.now c.args.log.now c.lines-walk.result c.in_ok-replayer.replayer c.lines-walk.ensures
-    c.in_ok-replayer.ensures.network c.in_ok-replayer.ensures.fed c.in_ok-replayer.ensures.finished
-
-pub returns-in-Err-clause-fault : goal.returns-in-Err-clause-fault
-returns-in-Err-clause-fault c =
-    let short : length c.args.log.now < 2 ^ 63 = omega arith in
-    let line = line_of c.in-Some.line in
-    let at = c.loop-line.invariant in
-    let next = replays_line c.args.network.now c.args.log.now c.loop-line.walk c.next.new.self line c.loop-line.replayer short c.in-Some.ensures.steps at in
-    replays_fault c.args.network.now c.args.log.now c.loop-line.walk c.next.new.self line c.loop-line.replayer c.line.new.self c.in-Err.fault
-    c.in_ok-replayer.ensures.bounds c.in-Some.ensures.steps at (c.in-Err.ensures.fed at.front next) c.in-Err.ensures.network
-
-pub loop-line-preserved : goal.loop-line-preserved
-loop-line-preserved c =
-    let short : length c.args.log.now < 2 ^ 63 = omega arith in
-    let line = line_of c.in-Some.line in
-    let at = c.loop-line.invariant in
-    let next = replays_line c.args.network.now c.args.log.now c.loop-line.walk c.next.new.self line c.loop-line.replayer short c.in-Some.ensures.steps at in
-    replays_next c.args.network.now c.args.log.now c.loop-line.walk c.next.new.self line c.loop-line.replayer c.line.new.self (Ok c.in_default-line.field-0)
-    c.in-Some.ensures.steps at refl (c.in_default-line.ensures.fed at.front next) c.in_default-line.ensures.network c.in_default-line.ensures.finished
 
 pub returns-in-Ok-clause-replayed : goal.returns-in-Ok-clause-replayed
 returns-in-Ok-clause-replayed c =
-    let short : length c.args.log.now < 2 ^ 63 = omega arith in
-    let at = c.loop-line.invariant in
-    let all = replays_end c.args.network.now c.args.log.now c.loop-line.walk c.loop-line.replayer short c.in_default.ensures.steps.0 at in
-    subst (λ (n : NetworkOf). IsReplayed n c.args.log.now c.in-Ok.done) at.of_network (c.in-Ok.ensures c.args.log.now all.read all.few)
+    subst (λ (n : NetworkOf). IsReplayed n c.args.log.now c.in-Ok.done) c.in_ok-replayer.ensures.network c.in-Ok.ensures
 
-pub returns-in-Err-finish-clause-fault : goal.returns-in-Err-finish-clause-fault
-returns-in-Err-finish-clause-fault c =
-    let short : length c.args.log.now < 2 ^ 63 = omega arith in
-    let at = c.loop-line.invariant in
-    let all = replays_end c.args.network.now c.args.log.now c.loop-line.walk c.loop-line.replayer short c.in_default.ensures.steps.0 at in
-    subst (λ (n : NetworkOf). IsFirstFault n c.args.log.now c.in-Err-finish.fault) at.of_network (c.in-Err-finish.ensures c.args.log.now all.read all.few)
+pub returns-in-Err-clause-fault : goal.returns-in-Err-clause-fault
+returns-in-Err-clause-fault c =
+    subst (λ (n : NetworkOf). IsFirstFault n c.args.log.now c.in-Err.fault) c.in_ok-replayer.ensures.network c.in-Err.ensures

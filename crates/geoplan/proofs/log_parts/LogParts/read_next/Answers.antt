@@ -6,7 +6,7 @@ use Rattle.geoplan.proofs.log_parts.LogParts.read_next.Goals as goal
 pub returns-then-self-most_bytes : goal.returns-then-self-most_bytes
 returns-then-self-most_bytes g c = λ name text before read.
     let quiet = keeps before (g.H.Shelf.state c.args.shelf.now) (g.H.Shelf.state c.read_part.new.self) (c.in-Ok.ensures.cause.done refl) read.quiet in
-    record {
+    (record {
       held = c.read_part.ensures.held ∙ read.held;
       later = omega (arith, quiet.same_count);
       cause = (
@@ -16,7 +16,7 @@ returns-then-self-most_bytes g c = λ name text before read.
             (omega (arith, c.if-self-most_bytes.true, c.most_bytes.ensures)),
         quiet,
       );
-    }
+    }, λ same. absurd (cc))
 
 pub returns : goal.returns
 returns g c = λ name text before read. (

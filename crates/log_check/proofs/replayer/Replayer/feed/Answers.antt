@@ -1,15 +1,25 @@
-use Rattle.std.proofs.Common.{◌≡◌, ◌++◌, ◌<◌, ◌^◌, ℕ, List, length, true, arith, ap, sym, ◌∙◌, subst}
+use Rattle.std.proofs.Common.{◌≡◌, ◌++◌, ◌<◌, ◌^◌, ℕ, List, length, None, true, arith, ap, sym, ◌∙◌, subst}
 use Rattle.std.specs.Prelude.{not, is_some}
-use Rattle.geo_model.specs.Network.{IsNetwork}
+use Rattle.geo_model.specs.Network.{NetworkOf, IsNetwork}
 use Rattle.log_check.specs.declared.replayer.Replayer.TheInside.{Inside}
-use Rattle.log_check.specs.Fed.{ReplayerOf, HasFed, replay_at}
-use Rattle.log_check.proofs.FedLemmas.{feed_fault, feed_right, fed_after_fault, few_with}
+use Rattle.log_check.specs.Fed.{ReplayerOf, HasFed, HoldsFault, replay_at}
+use Rattle.log_check.proofs.FedLemmas.{feed_fault, feed_right, fed_after_fault, fed_says_none, no_fault, few_with}
 use Rattle.log_check.proofs.replayer.Replayer.feed.Goals as goal
 use Rattle.log_check.proofs.replayer.Replayer.feed.Goals.{in-Some, in-None, then-is_none+else-is_err, else-is_none}
 
 -- what contracts see of the fields
 abbrev view : Inside → ReplayerOf
 view i = replay_at i.network.now i.judged i.unfinished.items
+
+pub returns-then-is_err-clause-fed : goal.returns-then-is_err-clause-fed
+returns-then-is_err-clause-fed c = λ text fed few.
+    let old : Inside = c.self.inside in
+    let was : HasFed text (view old) = subst (HasFed text) (sym c.self.view_is) fed in
+    let none : old.judged.fault ≡ None = no_fault old.judged.fault (c.is_none.ensures ∙ ap not c.if-is_none.true) in
+    let same_network : old.network.now ≡ c.args.self.now.network = ap (λ (r : ReplayerOf). r.network) c.self.view_is in (
+      ap (λ (k : List ℕ). replay_at old.network.now old.judged k) c.reserve.ensures.items ∙ c.self.view_is,
+      λ fault held. fed_says_none text (view old) c.self.invariant.bounds was none fault (subst (λ (n : NetworkOf). HoldsFault n text fault) (sym same_network) held),
+    )
 
 pub returns-clause-fed : goal.returns-clause-fed
 returns-clause-fed c = λ text fed few.
