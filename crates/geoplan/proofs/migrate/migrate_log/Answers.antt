@@ -9,8 +9,8 @@ returns-in-Err g c =
 pub write_new_log-requires : goal.write_new_log-requires
 write_new_log-requires g c = record { network = c.in-Ok.replayer.network; tree = c.in-Ok-replay_within.ensures.tree; log = c.in-Ok-replay_within.ensures.log }
 
-pub returns-in-Ok : goal.returns-in-Ok
-returns-in-Ok g c = c.write_new_log.ensures c.args.tables.now _ c.requires (rw (c.in-Ok.ensures.network, c.network.ensures) at c.in-Ok-replay_within.ensures)
+pub returns-in-Ok-replay_within : goal.returns-in-Ok-replay_within
+returns-in-Ok-replay_within g c = c.write_new_log.ensures c.args.tables.now _ c.requires (rw (c.in-Ok.ensures.network, c.network.ensures) at c.in-Ok-replay_within.ensures)
 
 pub returns-in-Err-replay_within : goal.returns-in-Err-replay_within
 returns-in-Err-replay_within g c =
